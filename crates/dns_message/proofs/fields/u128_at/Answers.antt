@@ -1,0 +1,11 @@
+use Rattle.std.proofs.Common.{ap, sym, ◌∙◌, take}
+use Rattle.std.proofs.lemmas.List.{take_rest}
+use Rattle.std.specs.Int.{from_be_bytes, w128}
+use Rattle.dns_message.proofs.Chunks.{range_chunk}
+use Rattle.dns_message.proofs.fields.u128_at.Goals as goal
+
+pub returns : goal.returns
+returns c =
+    let parts = rw c.unwrap.ensures at c.split_first_chunk.ensures.cases in
+    let rest = take_rest c.args.bytes.now c.args.at in
+    c.from_be_bytes.ensures ∙ ap (from_be_bytes w128) (parts.0 ∙ ap (take 16) rest ∙ sym (range_chunk c.args.bytes.now c.args.at 16))

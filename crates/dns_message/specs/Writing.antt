@@ -1,0 +1,141 @@
+-- The bytes that a message is written as. Of the names in it, those of questions, owners, PTR and CNAME are compressed. (RFC 1035 4.1, RFC 6762 18.14)
+use Rattle.std.specs.Prelude.{ℕ, ◌+◌, ◌*◌, ◌^◌, Bool, true, false, List, [], ◌∷◌, ◌++◌, length, Option, Some, None, nat_lt, ◌&&◌, ◌≡◌, ◌≤◌, if◌then◌else◌}
+use Rattle.std.specs.List.{list_all}
+use Rattle.std.specs.Int.{to_be_bytes, w16, w32}
+use Rattle.dns_name.specs.Names.{exact_eq, is_name}
+use Rattle.dns_record.specs.Records.{kind_of, data_of, is_rdata}
+use Rattle.dns_record.specs.declared.record.Rdata.{Rdata}
+use Rattle.dns_record.specs.declared.record.Rdata.TheVariants.{A, Aaaa, Ptr, Cname, Srv, Txt, Nsec, Raw}
+use Rattle.dns_record.specs.declared.record.Rr.{Rr}
+use Rattle.dns_record.specs.declared.record.Question.{Question}
+use Rattle.dns_message.specs.declared.message.Message.{Message}
+use Rattle.dns_message.specs.Reading.{Spells}
+
+-- names that were written, each with the offset of its first label, the least first
+abbrev pub Offsets : Type 0
+Offsets = List (List (List ℕ) × ℕ)
+
+-- a piece of a message, and the names that were written up to its end
+pub record Piece : Type 0 where
+  pub bytes : List ℕ
+  pub names : Offsets
+
+-- the least offset at which a name was written
+abbrev pub offset_of : List (List ℕ) → Offsets → Option ℕ
+offset_of name [] = None
+offset_of name (written ∷ more) = if exact_eq name written.0 then Some written.1 else offset_of name more
+
+-- bytes put before a piece
+abbrev pub onto : List ℕ → Piece → Piece
+onto bytes piece = record { bytes = bytes ++ piece.bytes; names = piece.names }
+
+-- a pointer to an offset
+abbrev pub pointer_to : ℕ → List ℕ
+pointer_to offset = to_be_bytes w16 (192 * 256 + offset)
+
+-- a pointer to where the name was written, or the given piece
+abbrev pub pointer_or : Option ℕ → Offsets → Piece → Piece
+pointer_or (Some offset) names piece = record { bytes = pointer_to offset; names = names }
+pointer_or None names piece = piece
+
+-- a name at an offset, behind names that were written
+abbrev pub written_name : Offsets → ℕ → List (List ℕ) → Piece
+written_name names at [] = record { bytes = 0 ∷ []; names = names }
+written_name names at (label ∷ rest) =
+    let tail = written_name (names ++ (label ∷ rest, at) ∷ []) (at + 1 + length label) rest in
+    pointer_or (offset_of (label ∷ rest) names) names (onto (length label ∷ label) tail)
+
+-- the class IN with its top bit
+abbrev pub class_word : Bool → List ℕ
+class_word true = to_be_bytes w16 (2 ^ 15 + 1)
+class_word false = to_be_bytes w16 1
+
+-- a question at an offset
+abbrev pub written_question : Offsets → ℕ → Question → Piece
+written_question names at question =
+    let name = written_name names at question.name in
+    record { bytes = name.bytes ++ to_be_bytes w16 question.kind ++ class_word question.unicast; names = name.names }
+
+-- the data of a record at an offset
+abbrev pub written_data : Offsets → ℕ → Rdata → Piece
+written_data names at (Ptr name) = written_name names at name
+written_data names at (Cname name) = written_name names at name
+written_data names at rdata = record { bytes = data_of rdata; names = names }
+
+-- a record at an offset
+abbrev pub written_record : Offsets → ℕ → Rr → Piece
+written_record names at rr =
+    let owner = written_name names at rr.owner in
+    let rdata = written_data owner.names (at + length owner.bytes + 10) rr.rdata in
+    onto (owner.bytes ++ to_be_bytes w16 (kind_of rr.rdata) ++ class_word rr.flush ++ to_be_bytes w32 rr.ttl ++ to_be_bytes w16 (length rdata.bytes)) rdata
+
+-- things in a row from an offset on, behind names that were written
+abbrev pub written_all : {X : Type 0} → (Offsets → ℕ → X → Piece) → Offsets → ℕ → List X → Piece
+written_all written names at [] = record { bytes = []; names = names }
+written_all written names at (x ∷ xs) =
+    let first = written names at x in onto first.bytes (written_all written first.names (at + length first.bytes) xs)
+
+-- what a flag adds to its byte
+abbrev pub bit_worth : Bool → ℕ → ℕ
+bit_worth true worth = worth
+bit_worth false worth = 0
+
+-- the header: ID, flags, and the four counts
+abbrev pub header : Message → List ℕ
+header m =
+    to_be_bytes w16 m.id
+    ++ (bit_worth m.response 128 + m.opcode * 8 + bit_worth m.authoritative 4 + bit_worth m.truncated 2) ∷ m.rcode
+    ∷ to_be_bytes w16 (length m.questions) ++ to_be_bytes w16 (length m.answers)
+    ++ to_be_bytes w16 (length m.authority) ++ to_be_bytes w16 (length m.additional)
+
+-- the message behind its header
+abbrev pub written_body : Message → List ℕ
+written_body m =
+    let questions = written_all written_question [] 12 m.questions in
+    let records = written_all written_record questions.names (12 + length questions.bytes) (m.answers ++ m.authority ++ m.additional) in
+    questions.bytes ++ records.bytes
+
+-- the bytes that a message is written as
+unfoldable pub written : Message → List ℕ
+written m = header m ++ written_body m
+
+-- The rest says of which messages there is a spelling: what the types of the code allow, said of numbers and lists that could be any.
+abbrev pub is_below : ℕ → ℕ → Bool
+is_below bits n = nat_lt n (2 ^ bits)
+
+-- whether numbers are bytes
+abbrev pub are_bytes : List ℕ → Bool
+are_bytes bytes = list_all (is_below 8) bytes
+
+-- a name of bytes
+abbrev pub is_spellable_name : List (List ℕ) → Bool
+is_spellable_name name = is_name name && list_all are_bytes name
+
+-- the data of a record: numbers of their sizes, names, and raw bytes of their form
+abbrev pub is_spellable_data : Rdata → Bool
+is_spellable_data (A address) = is_below 32 address
+is_spellable_data (Aaaa address) = is_below 128 address
+is_spellable_data (Ptr name) = is_spellable_name name
+is_spellable_data (Cname name) = is_spellable_name name
+is_spellable_data (Srv priority weight port target) = is_below 16 priority && is_below 16 weight && is_below 16 port && is_spellable_name target
+is_spellable_data (Txt bytes) = are_bytes bytes
+is_spellable_data (Nsec next bitmap) = is_spellable_name next && are_bytes bitmap
+is_spellable_data (Raw kind bytes) = is_below 16 kind && are_bytes bytes && is_rdata (Raw kind bytes)
+
+-- a record whose parts have their form
+abbrev pub is_spellable_record : Rr → Bool
+is_spellable_record rr = is_spellable_name rr.owner && is_below 32 rr.ttl && is_spellable_data rr.rdata
+
+-- a question whose parts have their form
+abbrev pub is_spellable_question : Question → Bool
+is_spellable_question question = is_spellable_name question.name && is_below 16 question.kind
+
+-- opcode and rcode have four bits, and every part has its form
+unfoldable pub is_spellable : Message → Bool
+is_spellable m =
+    is_below 16 m.id && is_below 4 m.opcode && is_below 4 m.rcode && list_all is_spellable_question m.questions
+    && list_all is_spellable_record m.answers && list_all is_spellable_record m.authority && list_all is_spellable_record m.additional
+
+-- What is written is read again, whatever follows it, up to the longest message.
+abbrev pub IsReadAgain : Type 0
+IsReadAgain = (m : Message) (more : List ℕ) → is_spellable m ≡ true → length (written m ++ more) ≤ 8972 → Spells (written m ++ more) m

@@ -1,0 +1,21 @@
+//! Messages of the domain name system, as Multicast DNS uses them. (RFC 1035 4.1, RFC 6762 18)
+#![tactic(auto)]
+
+mod data;
+mod fields;
+mod law;
+mod lists;
+mod message;
+mod names;
+mod plain;
+mod reading;
+mod sections;
+
+pub use law::one_message_is_spelled;
+pub use lists::{Questions, Rrs};
+pub use message::{Message, MessageError};
+pub use plain::{plain_record, read_plain};
+pub use reading::read;
+
+#[cfg(test)]
+mod tests;

@@ -1,0 +1,121 @@
+// Questions and records, at offsets of a message. (RFC 1035 4.1.2 and 4.1.3, RFC 6762 10.2 and 18.12)
+ghost use Rattle.std.specs.Prelude.{◌≡◌, ◌+◌, ◌<◌, ◌≤◌, length, IfOk};
+ghost use Rattle.dns_message.specs.Reading.{question_at, record_at, data_end_at, all_at, IsReadAs};
+
+use crate::data::read_rdata;
+use crate::fields::{u16_at, u32_at};
+use crate::names::read_name;
+use crate::{MessageError, Questions, Rrs};
+use dns_record::{Question, Rr};
+use std::alloc::Global;
+
+const INTERNET: u16 = 1;
+
+const ANY: u16 = 255;
+
+const OPT: u16 = 41;
+
+// The bit of the class that asks for a unicast answer, or says that a record's set is complete.
+const TOP_BIT: u16 = 0x8000;
+
+/// So many questions from an offset on, those of another class than IN and ANY left out, and the offset behind them.
+pub(crate) fn read_questions(
+    alloc: Global,
+    bytes: &[u8],
+    count: u16,
+    at: usize,
+) -> Result<(Questions, usize), MessageError>
+    requires { length bytes.now ≤ 8972 }
+    ensures { IsReadAs result (all_at (question_at bytes.now) count at) }
+{
+    let mut questions = Questions::new(alloc);
+    let mut place = at;
+    'questions: for read in 0..count {
+        let (question, end) = read_question(bytes, place)?;
+        if let Some(question) = question {
+            questions.push(question)?;
+        }
+        place = end;
+    }
+    Ok((questions, place))
+}
+
+/// So many records from an offset on, those of another class than IN and of type OPT left out, and the offset behind
+/// them.
+pub(crate) fn read_records(
+    alloc: Global,
+    bytes: &[u8],
+    count: u16,
+    at: usize,
+) -> Result<(Rrs, usize), MessageError>
+    requires { length bytes.now ≤ 8972 }
+    ensures { IsReadAs result (all_at (record_at bytes.now) count at) }
+{
+    let mut rrs = Rrs::new(alloc);
+    let mut place = at;
+    'records: for read in 0..count {
+        let (rr, end) = read_record(alloc, bytes, place)?;
+        if let Some(rr) = rr {
+            rrs.push(rr)?;
+        }
+        place = end;
+    }
+    Ok((rrs, place))
+}
+
+#[tactic(auto, unfolding(crate::specs::Reading::question_at))]
+fn read_question(bytes: &[u8], at: usize) -> Result<(Option<Question>, usize), MessageError>
+    requires { length bytes.now ≤ 8972 }
+    ensures { result ≡ question_at bytes.now at }
+{
+    let (name, fields) = read_name(bytes, at)?;
+    if bytes.len() - fields < 4 {
+        return Err(MessageError::Truncated);
+    }
+    let class = u16_at(bytes, fields + 2);
+    let kept = class % TOP_BIT == INTERNET || class % TOP_BIT == ANY;
+    let question = kept.then_some(Question {
+        name,
+        kind: u16_at(bytes, fields),
+        unicast: class >= TOP_BIT,
+    });
+    Ok((question, fields + 4))
+}
+
+#[tactic(auto, unfolding(crate::specs::Reading::record_at))]
+fn read_record(alloc: Global, bytes: &[u8], at: usize) -> Result<(Option<Rr>, usize), MessageError>
+    requires { length bytes.now ≤ 8972 }
+    ensures { IsReadAs result (record_at bytes.now at) }
+{
+    let (owner, fields) = read_name(bytes, at)?;
+    let stop = data_end(bytes, fields)?;
+    let (kind, class) = (u16_at(bytes, fields), u16_at(bytes, fields + 2));
+    if kind == OPT || class % TOP_BIT != INTERNET {
+        return Ok((None, stop));
+    }
+    let rdata = read_rdata(alloc, bytes, kind, fields + 10, stop)?;
+    let rr = Rr {
+        owner,
+        flush: class >= TOP_BIT,
+        ttl: u32_at(bytes, fields + 4),
+        rdata,
+    };
+    Ok((Some(rr), stop))
+}
+
+// Where the data of a record end, by the fixed fields before them.
+fn data_end(bytes: &[u8], fields: usize) -> Result<usize, MessageError>
+    requires short { length bytes.now ≤ 8972 }
+    requires within { fields ≤ length bytes.now }
+    ensures end { result ≡ data_end_at bytes.now fields }
+    ensures within { IfOk result (λ end. (fields + 10 ≤ end) × (end ≤ length bytes.now)) }
+{
+    if bytes.len() - fields < 10 {
+        return Err(MessageError::Truncated);
+    }
+    let end = fields + 10 + usize::from(u16_at(bytes, fields + 8));
+    if end > bytes.len() {
+        return Err(MessageError::Truncated);
+    }
+    Ok(end)
+}

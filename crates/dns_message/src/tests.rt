@@ -1,0 +1,338 @@
+// Packets, and what is read of them: a line of the header, one for each question and record, or the fault's number.
+use crate::{Message, MessageError, Questions, Rrs, read};
+use dns_record::{put_kind, put_name, put_record};
+use mdns_base::{put_decimal, read_hex};
+use std::alloc::{AllocError, Global};
+use std::test::Fail;
+
+// Header line: the ID, then `r` for a response, `a` for an authority, `t` where it is truncated, opcode and rcode.
+const PACKETS: [(&str, &str); 19] = [
+    (
+        "0000840000000001000000000161056c6f63616c0000018001000000780004c0000201",
+        "0 ra 0 0\na a.local. 120 flush A 192.0.2.1\n",
+    ),
+    (
+        "0000840000000001000000000161056c6f63616c0000018001000000020004c0000201",
+        "0 ra 0 0\na a.local. 2 flush A 192.0.2.1\n",
+    ),
+    (
+        "0000840000000001000000000161056c6f63616c0000010001000000780004c0000201",
+        "0 ra 0 0\na a.local. 120 - A 192.0.2.1\n",
+    ),
+    (
+        "0000840000000001000000000161056c6f63616c0000010001000000780004c0000202",
+        "0 ra 0 0\na a.local. 120 - A 192.0.2.2\n",
+    ),
+    (
+        "0000840000000001000000000161056c6f63616c0000018001000000780004c0000202",
+        "0 ra 0 0\na a.local. 120 flush A 192.0.2.2\n",
+    ),
+    (
+        "0000840000000001000000000161056c6f63616c0000010001000000000004c0000201",
+        "0 ra 0 0\na a.local. 0 - A 192.0.2.1\n",
+    ),
+    (
+        "0000840000000004000000000141054c4f43414c0000010001000000780004c0000201c00c00010001000000780004c0000202c02300010001000000780004c0000203c03300010001000000780004c0000204",
+        "0 ra 0 0\na A.LOCAL. 120 - A 192.0.2.1\na A.LOCAL. 120 - A 192.0.2.2\na A.LOCAL. 120 - A 192.0.2.3\na A.LOCAL. 120 - A 192.0.2.4\n",
+    ),
+    (
+        "000084000000000100000000c00e00010001000000780004c0000201",
+        "2",
+    ),
+    (
+        "000084000000000100000000c00c00010001000000780004c0000201",
+        "2",
+    ),
+    (
+        "000084000000000100000000075072696e746572045f697070045f746370056c6f63616c000021800100000078000f0000000000500178056c6f63616c00",
+        "0 ra 0 0\na Printer._ipp._tcp.local. 120 flush SRV 0 0 80 x.local.\n",
+    ),
+    (
+        "0000000000010000000100000168056c6f63616c0000ff8001c00c00010001000000780004a9fec832",
+        "0  0 0\n? h.local. ANY qu\nn h.local. 120 - A 169.254.200.50\n",
+    ),
+    (
+        "0000000000010001000000000168056c6f63616c0000010001c00c000100010000003c00040a000001",
+        "0  0 0\n? h.local. A\na h.local. 60 - A 10.0.0.1\n",
+    ),
+    (
+        "0000000000010001000000000168056c6f63616c0000010001c00c000100010000003b00040a000001",
+        "0  0 0\n? h.local. A\na h.local. 59 - A 10.0.0.1\n",
+    ),
+    (
+        "0000000000010000000000000168056c6f63616c0000010001",
+        "0  0 0\n? h.local. A\n",
+    ),
+    (
+        "0000000000010000000100000168056c6f63616c0000ff0001c00c000100010000007800040a000009",
+        "0  0 0\n? h.local. ANY\nn h.local. 120 - A 10.0.0.9\n",
+    ),
+    (
+        "0000000000010000000100000168056c6f63616c0000ff8001c00c000100010000007800040a000009",
+        "0  0 0\n? h.local. ANY qu\nn h.local. 120 - A 10.0.0.9\n",
+    ),
+    (
+        "0007010000010000000000000168056c6f63616c0000010001",
+        "7  0 0\n? h.local. A\n",
+    ),
+    (
+        "0000840000000001000000010161056c6f63616c0000018001000000780004c000020100002905a0000000000000",
+        "0 ra 0 0\na a.local. 120 flush A 192.0.2.1\n",
+    ),
+    (
+        "000084000000000100000000045f697070045f746370056c6f63616c00000c000100001194000a075072696e746572c00c",
+        "0 ra 0 0\na _ipp._tcp.local. 4500 - PTR Printer._ipp._tcp.local.\n",
+    ),
+];
+
+// Further packets, by what stands behind a header with one question, one answer or two answers.
+const FURTHER: [(&str, &str); 44] = [
+    // a pointer to a pointer to itself, into the header, into the run that it ends, and one without its second byte
+    (
+        "0000840000000002000000000000100001000000000002c017c01700010001000000780004c0000201",
+        "2",
+    ),
+    (
+        "000084000000000100000000c00000010001000000780004c0000201",
+        "0 ra 0 0\na . 120 - A 192.0.2.1\n",
+    ),
+    (
+        "0000840000000001000000000161c00c00010001000000780004c0000201",
+        "2",
+    ),
+    ("000084000000000100000000c0", "1"),
+    // labels with the reserved forms, the first before the end of the bytes is seen
+    ("0000840000000001000000004061", "3"),
+    ("00008400000000010000000080", "3"),
+    // data of each type: none, one byte short, one byte long, and right
+    ("000084000000000100000000000001000100000000000000", "5"),
+    ("0000840000000001000000000000010001000000000003010203", "5"),
+    (
+        "00008400000000010000000000000100010000000000050102030405",
+        "5",
+    ),
+    ("00008400000000010000000000001c0001000000000000", "5"),
+    (
+        "00008400000000010000000000001c000100000000000f000102030405060708090a0b0c0d0e",
+        "5",
+    ),
+    (
+        "00008400000000010000000000001c0001000000000011000102030405060708090a0b0c0d0e0f10",
+        "5",
+    ),
+    (
+        "00008400000000010000000000001c0001000000000010fe80000000000000000000000000000a",
+        "0 ra 0 0\na . 0 - AAAA fe80:0000:0000:0000:0000:0000:0000:000a\n",
+    ),
+    ("00008400000000010000000000000c0001000000000000", "1"),
+    ("00008400000000010000000000000c000100000000000000", "5"),
+    ("00008400000000010000000000000c00010000000000020161", "1"),
+    ("00008400000000010000000000000c0001000000000002016100", "5"),
+    (
+        "00008400000000010000000000000c000100000000000401610000",
+        "5",
+    ),
+    (
+        "00008400000000010000000000000c0001000000000003016100",
+        "0 ra 0 0\na . 0 - PTR a.\n",
+    ),
+    (
+        "0000840000000001000000000000050001000000000003016100",
+        "0 ra 0 0\na . 0 - CNAME a.\n",
+    ),
+    (
+        "0000840000000001000000000000050001000000000004016100ff",
+        "5",
+    ),
+    (
+        "00008400000000010000000000002100010000000000050000000000",
+        "5",
+    ),
+    (
+        "0000840000000001000000000000210001000000000006000000000000",
+        "1",
+    ),
+    (
+        "000084000000000100000000000021000100000000000600000000000000",
+        "5",
+    ),
+    (
+        "00008400000000010000000000002100010000000000080001000200030000",
+        "5",
+    ),
+    (
+        "000084000000000100000000000021000100000000000700010002000300",
+        "0 ra 0 0\na . 0 - SRV 1 2 3 .\n",
+    ),
+    ("00008400000000010000000000002f0001000000000000", "1"),
+    ("00008400000000010000000000002f0001000000000001016100", "5"),
+    (
+        "00008400000000010000000000002f000100000000000700000440000008",
+        "0 ra 0 0\na . 0 - NSEC . 000440000008\n",
+    ),
+    (
+        "0000840000000001000000000000020001000000000003016100",
+        "0 ra 0 0\na . 0 - NS 016100\n",
+    ),
+    ("0000840000000001000000000000020001000000000002016100", "5"),
+    ("00008400000000010000000000000f00010000000000010a", "5"),
+    (
+        "00008400000000010000000000000f0001000000000005000a016100",
+        "0 ra 0 0\na . 0 - MX 000a016100\n",
+    ),
+    (
+        "00008400000000010000000000000f0001000000000006000a01610000",
+        "5",
+    ),
+    (
+        "00008400000000010000000000000600010000000000190161000162000000000100000002000000030000000400000005",
+        "5",
+    ),
+    (
+        "000084000000000100000000000006000100000000001a0161000162000000000100000002000000030000000400000005",
+        "0 ra 0 0\na . 0 - SOA 0161000162000000000100000002000000030000000400000005\n",
+    ),
+    (
+        "0000840000000001000000000000100001000000000000",
+        "0 ra 0 0\na . 0 - TXT -\n",
+    ),
+    (
+        "00008400000000010000000000000d00010000000000020161",
+        "0 ra 0 0\na . 0 - HINFO 0161\n",
+    ),
+    // records of OPT and of class ANY, whose data are not looked at; a question of class CH
+    (
+        "0000840000000001000000000000290001000000000001ff",
+        "0 ra 0 0\n",
+    ),
+    (
+        "00008400000000010000000000000100ff000000000001ff",
+        "0 ra 0 0\n",
+    ),
+    ("0000000000010000000000000000010003", "0  0 0\n"),
+    ("00000000000100000000000000000180ff", "0  0 0\n? . A qu\n"),
+    // counts that the bytes don't have; opcode and rcode; the bit TC
+    ("00008400ffffffffffffffff", "1"),
+    ("0001fa8f0000000000000000", "1 rt 15 15\n"),
+];
+
+// The bytes that hexadecimal digits spell.
+fn bytes_of(alloc: Global, text: &str) -> Result<Vec<u8>, AllocError> {
+    Ok(read_hex(alloc, text.as_bytes())?.unwrap_or(Vec::new(alloc)))
+}
+
+fn put_questions(out: &mut Vec<u8>, questions: &Questions) -> Result<(), AllocError> {
+    for question in questions.as_slice() {
+        out.extend_from_slice(b"? ")?;
+        put_name(out, &question.name)?;
+        out.extend_from_slice(b" ")?;
+        put_kind(out, question.kind)?;
+        out.extend_from_slice(if question.unicast { b" qu\n" } else { b"\n" })?;
+    }
+    Ok(())
+}
+
+fn put_records(out: &mut Vec<u8>, mark: u8, rrs: &Rrs) -> Result<(), AllocError> {
+    for rr in rrs.as_slice() {
+        out.extend_from_slice(&[mark, b' '])?;
+        put_record(out, rr)?;
+        out.extend_from_slice(b"\n")?;
+    }
+    Ok(())
+}
+
+fn put_message(out: &mut Vec<u8>, message: &Message) -> Result<(), AllocError> {
+    put_decimal(out, u64::from(message.id))?;
+    out.extend_from_slice(b" ")?;
+    out.extend_from_slice(if message.response { b"r" } else { b"" })?;
+    out.extend_from_slice(if message.authoritative { b"a" } else { b"" })?;
+    out.extend_from_slice(if message.truncated { b"t" } else { b"" })?;
+    out.extend_from_slice(b" ")?;
+    put_decimal(out, u64::from(message.opcode))?;
+    out.extend_from_slice(b" ")?;
+    put_decimal(out, u64::from(message.rcode))?;
+    out.extend_from_slice(b"\n")?;
+    put_questions(out, &message.questions)?;
+    put_records(out, b'a', &message.answers)?;
+    put_records(out, b'n', &message.authority)?;
+    put_records(out, b'x', &message.additional)
+}
+
+fn told(alloc: Global, bytes: &[u8]) -> Result<Vec<u8>, AllocError> {
+    let mut out = Vec::new(alloc);
+    match read(alloc, bytes) {
+        Ok(message) => put_message(&mut out, &message)?,
+        Err(fault) => put_decimal(&mut out, u64::from(fault as u8))?,
+    }
+    Ok(out)
+}
+
+#[test]
+fn reads_packets(rt: HostRuntime) -> Result<(), Fail> {
+    let alloc = rt.alloc();
+    for (text, want) in PACKETS {
+        let bytes = bytes_of(alloc, text)?;
+        let out = told(alloc, bytes.as_slice())?;
+        assert_eq!(rt; out.as_slice(), want.as_bytes(), "{text}");
+    }
+    for (text, want) in FURTHER {
+        let bytes = bytes_of(alloc, text)?;
+        let out = told(alloc, bytes.as_slice())?;
+        assert_eq!(rt; out.as_slice(), want.as_bytes(), "{text}");
+    }
+    Ok(())
+}
+
+// A packet cut short is Truncated, unless its pointer was seen to be bad before.
+#[test]
+fn reads_prefixes(rt: HostRuntime) -> Result<(), Fail> {
+    let alloc = rt.alloc();
+    for (text, want) in PACKETS {
+        let bytes = bytes_of(alloc, text)?;
+        for end in 0..bytes.len() {
+            let fault = read(alloc, &bytes[..end]).err();
+            let wanted = if want == "2" && end >= 14 {
+                MessageError::BadPointer
+            } else {
+                MessageError::Truncated
+            };
+            assert_eq!(rt; fault, Some(wanted), "{text} {end}");
+        }
+    }
+    Ok(())
+}
+
+// A message whose one question has a name of labels of these sizes.
+fn with_labels(alloc: Global, sizes: &[u8]) -> Result<Vec<u8>, AllocError> {
+    let mut bytes = bytes_of(alloc, "000000000001000000000000")?;
+    for size in sizes {
+        bytes.push(*size)?;
+        for _ in 0..*size {
+            bytes.push(b'x')?;
+        }
+    }
+    bytes.extend_from_slice(&[0, 0, 1, 0, 1])?;
+    Ok(bytes)
+}
+
+#[test]
+fn reads_up_to_the_limits(rt: HostRuntime) -> Result<(), Fail> {
+    let alloc = rt.alloc();
+    assert!(rt; read(alloc, with_labels(alloc, &[63, 63, 63, 61])?.as_slice()).is_ok());
+    assert_eq!(rt;
+        read(alloc, with_labels(alloc, &[63, 63, 63, 62])?.as_slice()).err(),
+        Some(MessageError::LongName)
+    );
+    assert_eq!(rt;
+        read(alloc, with_labels(alloc, &[63, 63, 63, 63])?.as_slice()).err(),
+        Some(MessageError::LongName)
+    );
+    let mut zeros = vec![in alloc; 0u8; 8972]?;
+    assert!(rt; read(alloc, zeros.as_slice()).is_ok());
+    zeros.push(0)?;
+    assert_eq!(rt;
+        read(alloc, zeros.as_slice()).err(),
+        Some(MessageError::TooLong)
+    );
+    Ok(())
+}

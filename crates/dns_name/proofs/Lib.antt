@@ -1,0 +1,12 @@
+pub mod Wire
+pub mod Folding
+pub mod PlainParts
+pub mod WrittenText
+pub mod Spelling
+pub mod Spelled
+pub mod ReadItems
+pub mod Places
+pub mod Endings
+pub mod ReadBack
+pub mod FoldedBytes
+pub mod Spellings

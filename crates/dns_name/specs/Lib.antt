@@ -1,0 +1,6 @@
+pub mod Lists
+pub mod Names
+pub mod NameText
+pub mod PlainNames
+pub mod TextItems
+pub mod ReadName

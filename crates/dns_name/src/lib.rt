@@ -1,0 +1,23 @@
+//! Domain names: labels, names in wire form, their comparison in any case, and their text.
+#![tactic(auto)]
+
+mod error;
+mod fold;
+mod items;
+mod label;
+mod laws;
+mod name;
+mod plain;
+mod reading;
+mod text;
+
+pub use error::NameError;
+pub use items::{TextItem, TextItems, read_label};
+pub use label::Label;
+pub use laws::names_are_lawful;
+pub use name::{Labels, Name};
+pub use plain::{parse_plain, parse_plain_bytes};
+pub use text::{NameText, write_label_byte};
+
+#[cfg(test)]
+mod tests;

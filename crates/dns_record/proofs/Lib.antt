@@ -1,0 +1,6 @@
+pub mod Same
+pub mod RawForms
+pub mod Words
+pub mod KindTexts
+pub mod WrittenRecords
+mod Rows

@@ -1,0 +1,4 @@
+pub mod Records
+pub mod RecordText
+pub mod ReadRecord
+pub mod Conflicts

@@ -1,0 +1,19 @@
+//! Resource records and questions of class IN: their data, when two records are the same, and their order.
+#![tactic(auto)]
+
+mod bytes;
+mod compare;
+mod error;
+mod forms;
+mod law;
+mod read;
+mod record;
+mod write;
+
+pub use bytes::Bytes;
+pub use compare::{matches, rdata_cmp, record_cmp};
+pub use error::RecordError;
+pub use law::record_order_is_total;
+pub use read::read_kind;
+pub use record::{Key, Question, Rdata, Rr};
+pub use write::{put_kind, put_name, put_rdata, put_record};

@@ -1,0 +1,149 @@
+// Records, their data, and questions.
+ghost use Rattle.std.specs.Prelude.{◌≡◌, IfOk};
+ghost use Rattle.dns_record.specs.Records.{kind_of};
+
+use crate::Bytes;
+use dns_name::Name;
+use std::alloc::{AllocError, Global};
+
+/// The data of a record, by its type.
+///
+/// A `Raw` in which the type has a variant of its own, is OPT, or has another form than `bytes` (NS, MX and SOA have
+/// one) is the data of no record: `is_rdata` of the specifications tells. Whoever reads data owes this.
+#[derive(Drop)]
+pub enum Rdata {
+    /// A host's address of IPv4, its first byte the highest. (RFC 1035 3.4.1)
+    A(u32),
+    /// A host's address of IPv6, its first byte the highest. (RFC 3596 2.2)
+    Aaaa(u128),
+    /// The name that another name points to. (RFC 1035 3.3.12)
+    Ptr(Name),
+    /// The name of which another is an alias. (RFC 1035 3.3.1)
+    Cname(Name),
+    /// Where a service is reached. (RFC 2782)
+    Srv {
+        priority: u16,
+        weight: u16,
+        port: u16,
+        target: Name,
+    },
+    /// Text strings, each behind its length; the bytes may be any. (RFC 1035 3.3.14)
+    Txt(Bytes),
+    /// The types that a name has, as a bitmap. (RFC 6762 6.1, RFC 4034 4.1)
+    Nsec {
+        next: Name,
+        bitmap: Bytes,
+    },
+    /// Data of any other type as they stand in a message in which no name is compressed.
+    Raw {
+        kind: u16,
+        bytes: Bytes,
+    },
+}
+
+impl Rdata {
+    /// The number of the type. (RFC 1035 3.2.2)
+    pub fn kind(&self) -> u16
+        ensures { result ≡ kind_of self.now }
+    {
+        match self {
+            Rdata::A(_) => 1,
+            Rdata::Aaaa(_) => 28,
+            Rdata::Ptr(_) => 12,
+            Rdata::Cname(_) => 5,
+            Rdata::Srv { .. } => 33,
+            Rdata::Txt(_) => 16,
+            Rdata::Nsec { .. } => 47,
+            Rdata::Raw { kind, .. } => *kind,
+        }
+    }
+
+    /// Equal data. Refused only for want of memory.
+    pub fn copy(&self, alloc: Global) -> Result<Rdata, AllocError>
+        ensures { IfOk result (λ copy. copy ≡ self.now) }
+    {
+        Ok(match self {
+            Rdata::A(address) => Rdata::A(*address),
+            Rdata::Aaaa(address) => Rdata::Aaaa(*address),
+            Rdata::Ptr(name) => Rdata::Ptr(name.copy()),
+            Rdata::Cname(name) => Rdata::Cname(name.copy()),
+            Rdata::Srv {
+                priority,
+                weight,
+                port,
+                target,
+            } => Rdata::Srv {
+                priority: *priority,
+                weight: *weight,
+                port: *port,
+                target: target.copy(),
+            },
+            Rdata::Txt(bytes) => Rdata::Txt(bytes.copy(alloc)?),
+            Rdata::Nsec { next, bitmap } => Rdata::Nsec {
+                next: next.copy(),
+                bitmap: bitmap.copy(alloc)?,
+            },
+            Rdata::Raw { kind, bytes } => Rdata::Raw {
+                kind: *kind,
+                bytes: bytes.copy(alloc)?,
+            },
+        })
+    }
+}
+
+/// A resource record of class IN. (RFC 1035 3.2.1)
+#[derive(Drop)]
+pub struct Rr {
+    /// The name that has the record.
+    pub owner: Name,
+    /// The cache-flush bit: the record's set is complete. (RFC 6762 10.2)
+    pub flush: bool,
+    /// How many seconds the record may be kept; 0 takes it back. (RFC 6762 10.1)
+    pub ttl: u32,
+    /// Type and data.
+    pub rdata: Rdata,
+}
+
+impl Rr {
+    /// An equal record. Refused only for want of memory.
+    pub fn copy(&self, alloc: Global) -> Result<Rr, AllocError>
+        ensures { IfOk result (λ copy. copy ≡ self.now) }
+    {
+        Ok(Rr {
+            owner: self.owner.copy(),
+            flush: self.flush,
+            ttl: self.ttl,
+            rdata: self.rdata.copy(alloc)?,
+        })
+    }
+}
+
+/// A question as it stands in a message. (RFC 1035 4.1.2)
+#[derive(Drop)]
+pub struct Question {
+    pub name: Name,
+    /// The number of the type that is asked for; 255 asks for any.
+    pub kind: u16,
+    /// Whether a unicast answer is asked for. (RFC 6762 5.4)
+    pub unicast: bool,
+}
+
+/// What a question asks for: a name and a type.
+#[derive(Drop)]
+pub struct Key {
+    pub name: Name,
+    /// The number of the type that is asked for; 255 asks for any.
+    pub kind: u16,
+}
+
+impl Key {
+    /// An equal key.
+    pub fn copy(&self) -> Key
+        ensures { result ≡ self.now }
+    {
+        Key {
+            name: self.name.copy(),
+            kind: self.kind,
+        }
+    }
+}

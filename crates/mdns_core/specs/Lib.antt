@@ -1,0 +1,8 @@
+pub mod Received
+pub mod Lifetimes
+pub mod Operations
+pub mod Answers
+pub mod Entries
+pub mod Due
+pub mod Replay
+pub mod State

@@ -1,0 +1,24 @@
+pub mod AllOpen
+mod LifetimeSteps
+mod LifetimeAll
+mod Steps
+mod Played
+mod Rows
+mod Transcripts
+mod SmallRows
+mod StageRows
+pub mod Texts
+pub mod TokenTexts
+pub mod RecordTexts
+pub mod CallTexts
+pub mod EventTexts
+mod Determined
+mod GoodCalls
+mod Stages
+mod SessionLists
+mod ReplySteps
+mod EntryReplay
+mod CallFacts
+mod Apart
+mod LegalReplay
+mod LegalQueue

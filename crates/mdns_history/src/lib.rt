@@ -1,0 +1,22 @@
+//! What a daemon is told and what it does: events, entries, and the history that they make.
+#![tactic(auto)]
+
+mod config;
+mod entry;
+mod event;
+mod held;
+mod laws;
+mod lists;
+mod mark;
+mod print;
+mod print_event;
+mod print_sent;
+
+pub use config::{Config, HostConfig};
+pub use entry::{Entry, Given, Outcome, Sent};
+pub use event::Event;
+pub use held::Held;
+pub use laws::{good_calls_succeed, items_replay, one_entry_fits};
+pub use lists::{Gifts, Items, Marks, Sends};
+pub use mark::{Cause, Mark};
+pub use print::print_entry;

@@ -1,0 +1,209 @@
+-- What the steps of a hub write and stand for, over plain values.
+use Rattle.std.proofs.Common.{◌≡◌, ℕ, ◌++◌, ◌∙◌, ◌&&◌, ◌≤◌, ◌⊎◌, ⊎_elim, inl, inr, Bool, true, false, eqb, max, take, List, [], ◌∷◌, Option, Some, None, refl, sym, ap, subst}
+use Rattle.std.specs.Option.{is_none}
+use Rattle.std.specs.Io.KnownBytes.{Appends}
+use Rattle.std.proofs.lemmas.Bool.{false≢true}
+use Rattle.mdns_history.specs.declared.config.Config.{Config}
+use Rattle.mdns_history.specs.declared.event.Event.{Event}
+use Rattle.mdns_history.specs.declared.event.Event.TheVariants as event
+use Rattle.mdns_history.specs.declared.entry.Entry.{Entry}
+use Rattle.mdns_history.specs.EntryText.{entry_text, history_text}
+use Rattle.mdns_script.specs.declared.command.Command.{Command}
+use Rattle.mdns_script.specs.declared.command.Command.TheVariants.{Pass, Daemon, At, Attach, Event as Happening}
+use Rattle.mdns_core.specs.declared.operation.Operation.{Operation}
+use Rattle.mdns_core.specs.Lifetimes.{end_of}
+use Rattle.mdns_core.specs.Operations.{may}
+use Rattle.mdns_core.specs.Entries.{Fits, bare_entry, boot_entry, last_moment}
+use Rattle.mdns_core.specs.Due.{IsNextDue}
+use Rattle.mdns_core.specs.State.{State, Stands}
+use Rattle.mdns_hub.specs.declared.hub.Hub.{Hub}
+use Rattle.mdns_hub.specs.declared.hub.Booted.{Booted}
+use Rattle.mdns_hub.specs.Played.{Played, transcript, IsAt, Happens, Boots, AreTicks, IsTick, IsIdleUntil, RunsTo}
+use Rattle.mdns_hub.specs.Plays.{may_run_to, may_happen, is_ready, Does, Plays}
+use Rattle.mdns_hub.specs.Output.{Gains, Fronts, OrNothing, RunsPartTo, DoesPart, PlaysPart}
+use Rattle.mdns_hub.proofs.Written.{gains_then, gains_appends, fronts_then, fronts_appends, fronts_nothing}
+use Rattle.mdns_hub.specs.Hubs.{StandsFor, BootedFor, Advances, BreaksIn, may_happen_at, hub_ready}
+
+-- gains told of the print of a numbered history are gains of what was played
+gains_numbered : (old new : Option (List ℕ)) (played : Played) (number : ℕ) (history : List Entry) → played.number ≡ Some number
+    → Gains old new (history_text number played.history) (history_text number history)
+    → Gains old new (transcript played) (transcript (record { clock = played.clock; number = played.number; history = history }))
+gains_numbered old new played number history e g = rw e g
+
+fronts_numbered : (old new : Option (List ℕ)) (played : Played) (number : ℕ) (history : List Entry) → played.number ≡ Some number
+    → Fronts old new (history_text number played.history) (history_text number history)
+    → Fronts old new (transcript played) (transcript (record { clock = played.clock; number = played.number; history = history }))
+fronts_numbered old new played number history e g = rw e g
+
+-- Events.
+
+pub happens : (old new : Option (List ℕ)) (clock number : ℕ) (before after : State) (happening : Event) (played : Played)
+    → clock ≡ played.clock → played.number ≡ Some number → Stands before played.history
+    → ((history : List Entry) → Stands before history → (entry : Entry) × Fits entry history × IsAt entry clock happening × Stands after (entry ∷ history) × Appends old new (entry_text number entry))
+    → (next : Played) × Happens happening played next × (clock ≡ next.clock) × (next.number ≡ Some number) × Stands after next.history × Gains old new (transcript played) (transcript next)
+happens old new clock number before after happening played now numbered stands done =
+    let d = done played.history stands in (
+      record { clock = played.clock; number = played.number; history = d.0 ∷ played.history },
+      record { entry = d.0; fits = d.1; is = subst (λ (n : ℕ). IsAt d.0 n happening) now d.2; after_is = refl },
+      now,
+      numbered,
+      d.3,
+      gains_numbered old new played number (d.0 ∷ played.history) numbered (gains_appends old new (history_text number played.history) (entry_text number d.0) d.4),
+    )
+
+pub happens_part : (old new : Option (List ℕ)) (clock number : ℕ) (before : State) (happening : Event) (played : Played)
+    → clock ≡ played.clock → played.number ≡ Some number → Stands before played.history
+    → ((history : List Entry) → Stands before history → (new ≡ old) ⊎ ((entry : Entry) × Fits entry history × IsAt entry clock happening × ((n : ℕ) × Appends old new (take n (entry_text number entry)))))
+    → (reached : Played) × OrNothing (Happens happening) played reached × Fronts old new (transcript played) (transcript reached)
+happens_part old new clock number before happening played now numbered stands part =
+    ⊎_elim
+    (λ same. (played, inr refl, fronts_nothing old new (transcript played) same))
+    (λ d. (
+      record { clock = played.clock; number = played.number; history = d.0 ∷ played.history },
+      inl record { entry = d.0; fits = d.1; is = subst (λ (n : ℕ). IsAt d.0 n happening) now d.2; after_is = refl },
+      fronts_numbered old new played number (d.0 ∷ played.history) numbered (fronts_appends old new (history_text number played.history) (entry_text number d.0) d.3),
+    ))
+    (part played.history stands)
+
+-- what is played after a boot
+abbrev booted_played : Played → ℕ → ℕ → Config → Played
+booted_played played clock number config = record { clock = played.clock; number = Some number; history = boot_entry clock 0 config.address ∷ [] }
+
+boots_is : (played : Played) (clock number : ℕ) (config : Config) → clock ≡ played.clock → clock ≤ last_moment → config.host ≡ None → Boots number config played (booted_played played clock number config)
+boots_is played clock number config now in_time alone = record {
+  in_time = subst (λ (n : ℕ). n ≤ last_moment) now in_time;
+  after_is = rw (← now) (ap (λ (h : _). record { clock = clock; number = Some number; history = bare_entry clock 0 (event.Boot (record { address = config.address; host = h })) ∷ [] }) (sym alone));
+}
+
+pub boots : (old new : Option (List ℕ)) (clock number : ℕ) (config : Config) (after : State) (played : Played)
+    → clock ≡ played.clock → played.number ≡ None → clock ≤ last_moment → config.host ≡ None
+    → Stands after (boot_entry clock 0 config.address ∷ []) → Appends old new (entry_text number (boot_entry clock 0 config.address))
+    → (next : Played) × Boots number config played next × (clock ≡ next.clock) × (next.number ≡ Some number) × Stands after next.history × Gains old new (transcript played) (transcript next)
+boots old new clock number config after played now none in_time alone stands appended = (
+  booted_played played clock number config,
+  boots_is played clock number config now in_time alone,
+  now,
+  refl,
+  stands,
+  rw none (gains_appends old new [] (entry_text number (boot_entry clock 0 config.address)) appended),
+)
+
+pub boots_part : (old new : Option (List ℕ)) (clock number : ℕ) (config : Config) (played : Played)
+    → clock ≡ played.clock → played.number ≡ None → clock ≤ last_moment → config.host ≡ None
+    → (n : ℕ) × Appends old new (take n (entry_text number (boot_entry clock 0 config.address)))
+    → (reached : Played) × OrNothing (Boots number config) played reached × Fronts old new (transcript played) (transcript reached)
+boots_part old new clock number config played now none in_time alone part = (
+  booted_played played clock number config,
+  inl (boots_is played clock number config now in_time alone),
+  rw none (fronts_appends old new [] (entry_text number (boot_entry clock 0 config.address)) part),
+)
+
+-- Ticks.
+
+-- a tick at the greater of the moment at which it is due and the current one
+tick_is : (clock until due moment : ℕ) (history : List Entry) (entry : Entry) → IsNextDue history (Some due) → due ≤ until → moment ≡ max due clock
+    → Fits entry history → IsAt entry moment event.Tick → IsTick clock until history entry
+tick_is clock until due moment history entry next by greater fits is =
+    record { due = due; next = next; by = by; fits = fits; is = subst (λ (n : ℕ). IsAt entry n event.Tick) greater is }
+
+-- one more tick was done
+pub ticks_more : (old mid new : Option (List ℕ)) (clock until due moment number : ℕ) (after : State) (history ticks : List Entry) → AreTicks clock until history ticks
+    → Gains old mid (history_text number history) (history_text number (ticks ++ history)) → IsNextDue (ticks ++ history) (Some due) → due ≤ until → moment ≡ max due clock
+    → (entry : Entry) × Fits entry (ticks ++ history) × IsAt entry moment event.Tick × Stands after (entry ∷ ticks ++ history) × Appends mid new (entry_text number entry)
+    → (all : List Entry) × AreTicks clock until history all × Stands after (all ++ history) × Gains old new (history_text number history) (history_text number (all ++ history))
+ticks_more old mid new clock until due moment number after history ticks are gains next by greater one =
+    let then = history_text number (ticks ++ history) in (
+      one.0 ∷ ticks,
+      (are, tick_is clock until due moment (ticks ++ history) one.0 next by greater one.1 one.2),
+      one.3,
+      gains_then old mid new (history_text number history) then (then ++ entry_text number one.0) gains (gains_appends mid new then (entry_text number one.0) one.4),
+    )
+
+-- one more tick was broken off
+pub ticks_part : (old mid new : Option (List ℕ)) (clock until due moment number : ℕ) (history ticks : List Entry) → AreTicks clock until history ticks
+    → Gains old mid (history_text number history) (history_text number (ticks ++ history)) → IsNextDue (ticks ++ history) (Some due) → due ≤ until → moment ≡ max due clock
+    → (new ≡ mid) ⊎ ((entry : Entry) × Fits entry (ticks ++ history) × IsAt entry moment event.Tick × ((n : ℕ) × Appends mid new (take n (entry_text number entry))))
+    → (all : List Entry) × AreTicks clock until history all × Fronts old new (history_text number history) (history_text number (all ++ history))
+ticks_part old mid new clock until due moment number history ticks are gains next by greater (inl same) =
+    let then = history_text number (ticks ++ history) in
+    (ticks, are, fronts_then old mid new (history_text number history) then then gains (fronts_nothing mid new then same))
+ticks_part old mid new clock until due moment number history ticks are gains next by greater (inr one) =
+    let then = history_text number (ticks ++ history) in (
+      one.0 ∷ ticks,
+      (are, tick_is clock until due moment (ticks ++ history) one.0 next by greater one.1 one.2),
+      fronts_then old mid new (history_text number history) then (then ++ entry_text number one.0) gains (fronts_appends mid new then (entry_text number one.0) one.3),
+    )
+
+pub runs_to : (old new : Option (List ℕ)) (clock until number : ℕ) (before after : State) (played : Played)
+    → clock ≡ played.clock → played.number ≡ Some number → Stands before played.history
+    → ((history : List Entry) → Stands before history → (ticks : List Entry) × AreTicks clock until history ticks × IsIdleUntil until (ticks ++ history) × Stands after (ticks ++ history) × Gains old new (history_text number history) (history_text number (ticks ++ history)))
+    → (next : Played) × RunsTo until played next × (until ≡ next.clock) × (next.number ≡ Some number) × Stands after next.history × Gains old new (transcript played) (transcript next)
+runs_to old new clock until number before after played now numbered stands done =
+    let d = done played.history stands in (
+      record { clock = until; number = played.number; history = d.0 ++ played.history },
+      record { ticks = d.0; are = subst (λ (n : ℕ). AreTicks n until played.history d.0) now d.1; idle = d.2; after_is = refl },
+      refl,
+      numbered,
+      d.3,
+      rw numbered (d.4),
+    )
+
+pub runs_to_part : (old new : Option (List ℕ)) (clock until number : ℕ) (before : State) (played : Played)
+    → clock ≡ played.clock → played.number ≡ Some number → Stands before played.history
+    → ((history : List Entry) → Stands before history → (ticks : List Entry) × AreTicks clock until history ticks × Fronts old new (history_text number history) (history_text number (ticks ++ history)))
+    → (reached : Played) × RunsPartTo until played reached × Fronts old new (transcript played) (transcript reached)
+runs_to_part old new clock until number before played now numbered stands part =
+    let d = part played.history stands in (
+      record { clock = played.clock; number = played.number; history = d.0 ++ played.history },
+      record { ticks = d.0; are = subst (λ (n : ℕ). AreTicks n until played.history d.0) now d.1; after_is = refl },
+      fronts_numbered old new played number (d.0 ++ played.history) numbered d.2,
+    )
+
+pub runs_to-none : (until : ℕ) (played : Played) → played.history ≡ [] → RunsTo until played (record { clock = until; number = played.number; history = played.history })
+unfolding end_of
+runs_to-none until played none = record {
+  ticks = [];
+  are = tt;
+  idle = record { due = None; next = subst (λ (h : List Entry). IsNextDue h None) (sym none) (λ r. refl); over = tt };
+  after_is = refl;
+}
+
+-- What is ready.
+
+pub none_from : {T : Type 0} (o : Option T) → is_none o ≡ true → o ≡ None
+none_from None h = refl
+none_from (Some x) h = absurd (false≢true h)
+
+may_happen_same : (b : Option Booted) (played : Played) (number : ℕ) (happening : Event) → BootedFor b played → may_happen_at b number happening ≡ may_happen played number happening
+may_happen_same None played number happening h = rw h.0 refl
+may_happen_same (Some booted) played number happening h = rw (h.0, ← h.1.attached, ← h.1.operation) refl
+
+pub ready_same : (hub : Hub) (played : Played) (command : Command) → StandsFor hub played → hub_ready hub command ≡ is_ready played command
+unfolding is_ready
+ready_same hub played Pass of = refl
+ready_same hub played (Daemon number config) of = at_booted hub.booted of.booted
+  where
+    at_booted : (b : Option Booted) → BootedFor b played → (is_none b && is_none config.host) ≡ (is_none played.number && is_none config.host)
+    at_booted None h = rw h.0 refl
+    at_booted (Some booted) h = rw h.0 refl
+ready_same hub played (At moment) of = ap (λ (n : ℕ). may_run_to n moment) of.clock
+ready_same hub played (Attach number) of = may_happen_same hub.booted played number event.Attach of.booted
+ready_same hub played (Happening number happening) of = may_happen_same hub.booted played number happening of.booted
+
+-- Commands.
+
+pub plays_ready : (before after : Hub) (command : Command) (old new : Option (List ℕ)) → hub_ready before command ≡ true
+    → Advances (Does command) before after old new → Advances (Plays command) before after old new
+plays_ready before after command old new ready done = λ played stands.
+    let next = done played stands in
+    (next.0, record { ready = sym (ready_same before played command stands) ∙ ready; does = next.1 }, next.2, next.3)
+
+pub part_ready : (before : Hub) (command : Command) (old new : Option (List ℕ)) → hub_ready before command ≡ true
+    → BreaksIn (DoesPart command) before old new → BreaksIn (PlaysPart command) before old new
+part_ready before command old new ready part = λ played stands.
+    let reached = part played stands in
+    (reached.0, inr (sym (ready_same before played command stands) ∙ ready, reached.1), reached.2)
+
+-- a command that isn't ready leaves the output as it is
+pub part_unready : (before : Hub) (command : Command) (o : Option (List ℕ)) → BreaksIn (PlaysPart command) before o o
+part_unready before command o = λ played stands. (played, inl refl, fronts_nothing o o (transcript played) refl)

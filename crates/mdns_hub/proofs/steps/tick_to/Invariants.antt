@@ -1,0 +1,19 @@
+use Rattle.std.proofs.Common.{◌+◌, ◌-◌, ◌≤◌, ◌++◌, List}
+use Rattle.mdns_history.specs.declared.entry.Entry.{Entry}
+use Rattle.mdns_history.specs.EntryText.{history_text}
+use Rattle.mdns_core.specs.State.{Stands}
+use Rattle.mdns_hub.specs.Played.{AreTicks}
+use Rattle.mdns_hub.specs.Output.{Gains}
+use Rattle.mdns_hub.proofs.steps.tick_to.Given as goal
+
+abbrev pub invariant-ticks : goal.invariant-ticks
+invariant-ticks g l = record {
+  last : l.daemon.last ≤ l.moment;
+  ticked : (history : List Entry) → Stands l.fn.daemon history
+      → (ticks : List Entry) × AreTicks l.clock l.moment history ticks × Stands l.daemon (ticks ++ history)
+      × Gains (g.K.Sink.held l.fn.output) (g.K.Sink.held l.output) (history_text l.number history) (history_text l.number (ticks ++ history));
+  later : g.K.Sink.faults l.fn.output ≤ g.K.Sink.faults l.output;
+}
+
+abbrev pub decreases-ticks : goal.decreases-ticks
+decreases-ticks g l = l.moment + 1 - l.daemon.last

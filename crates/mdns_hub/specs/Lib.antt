@@ -1,0 +1,4 @@
+pub mod Played
+pub mod Plays
+pub mod Output
+pub mod Hubs

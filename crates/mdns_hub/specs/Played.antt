@@ -1,0 +1,72 @@
+-- What was played of a script, and its transcript.
+use Rattle.std.specs.Prelude.{◌≡◌, ℕ, ◌<◌, ◌≤◌, max, List, [], ◌∷◌, ◌++◌, Option, Some, None, IfSome}
+use Rattle.mdns_history.specs.declared.config.Config.{Config}
+use Rattle.mdns_history.specs.declared.event.Event.{Event}
+use Rattle.mdns_history.specs.declared.event.Event.TheVariants as event
+use Rattle.mdns_history.specs.declared.entry.Entry.{Entry}
+use Rattle.mdns_history.specs.EntryText.{history_text}
+use Rattle.mdns_core.specs.Entries.{Fits, bare_entry, last_moment}
+use Rattle.mdns_core.specs.Due.{IsNextDue}
+
+-- the current moment, the daemon's number where one was booted, and its history
+pub record Played : Type 0 where
+  pub clock : ℕ
+  pub number : Option ℕ
+  pub history : List Entry
+
+-- nothing was played
+abbrev pub start : Played
+start = record { clock = 0; number = None; history = [] }
+
+-- the transcript of a daemon, where there is one
+abbrev pub numbered_text : Option ℕ → List Entry → List ℕ
+numbered_text None history = []
+numbered_text (Some number) history = history_text number history
+
+-- the transcript of what was played
+abbrev pub transcript : Played → List ℕ
+transcript played = numbered_text played.number played.history
+
+-- an entry of an event at a moment; every word is 0 so far
+pub record IsAt (entry : Entry) (moment : ℕ) (event : Event) : Type 0 where
+  pub moment_is : entry.moment ≡ moment
+  pub word_is : entry.word ≡ 0
+  pub event_is : entry.event ≡ event
+
+-- An event happens to the daemon at the current moment.
+pub record Happens (event : Event) (before after : Played) : Type 0 where
+  pub entry : Entry
+  pub fits : Fits entry before.history
+  pub is : IsAt entry before.clock event
+  pub after_is : after ≡ record { clock = before.clock; number = before.number; history = entry ∷ before.history }
+
+-- A daemon is booted at the current moment.
+pub record Boots (number : ℕ) (config : Config) (before after : Played) : Type 0 where
+  pub in_time : before.clock ≤ last_moment
+  pub after_is : after ≡ record { clock = before.clock; number = Some number; history = bare_entry before.clock 0 (event.Boot config) ∷ [] }
+
+-- a tick of the daemon that is due by a moment
+pub record IsTick (clock until : ℕ) (history : List Entry) (entry : Entry) : Type 0 where
+  pub due : ℕ
+  pub next : IsNextDue history (Some due)
+  pub by : due ≤ until
+  pub fits : Fits entry history
+  pub is : IsAt entry (max due clock) event.Tick
+
+-- these entries, the newest first, are ticks one after another
+abbrev pub AreTicks : ℕ → ℕ → List Entry → List Entry → Type 0
+AreTicks clock until history [] = Unit {0}
+AreTicks clock until history (entry ∷ more) = AreTicks clock until history more × IsTick clock until (more ++ history) entry
+
+-- nothing is due by a moment
+pub record IsIdleUntil (until : ℕ) (history : List Entry) : Type 0 where
+  pub due : Option ℕ
+  pub next : IsNextDue history due
+  pub over : IfSome due (λ moment. until < moment)
+
+-- All is done that is due by a moment, and that is the current moment then.
+pub record RunsTo (until : ℕ) (before after : Played) : Type 0 where
+  pub ticks : List Entry
+  pub are : AreTicks before.clock until before.history ticks
+  pub idle : IsIdleUntil until (ticks ++ before.history)
+  pub after_is : after ≡ record { clock = until; number = before.number; history = ticks ++ before.history }

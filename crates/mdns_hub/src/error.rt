@@ -1,0 +1,24 @@
+// Why a command could not be done.
+use std::alloc::AllocError;
+
+/// Why a command could not be done.
+#[derive(Clone, Copy, Debug, PartialEq, Eq)]
+pub enum HubError {
+    /// The command isn't built at this place of the script. Nothing was done.
+    NotYet,
+    /// The sink failed.
+    WriteFault,
+    /// Memory was refused.
+    NoMemory,
+}
+
+impl From<AllocError> for HubError {
+    ghost use Rattle.std.specs.Prelude.{◌≡◌};
+    ghost use Rattle.mdns_hub.specs.declared.error.HubError.TheVariants.{NoMemory};
+
+    ghost from_gives = { λ _ e. e ≡ NoMemory };
+
+    fn from(_: AllocError) -> Self {
+        HubError::NoMemory
+    }
+}

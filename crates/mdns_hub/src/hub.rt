@@ -1,0 +1,189 @@
+// A script's commands, done on a daemon.
+ghost use Rattle.std.specs.Prelude.{◌≤◌, ◌^◌};
+ghost use Rattle.std.specs.Option.{ForSome};
+
+use crate::HubError;
+use crate::steps::{put_entry, step, tick_to};
+use mdns_base::Sink;
+use mdns_core::Daemon;
+use mdns_history::{Config, Event};
+use mdns_script::Command;
+use std::alloc::Global;
+
+/// A day in milliseconds: the furthest that one command runs ahead.
+const MOST_AHEAD: u64 = 86_400_000;
+
+/// The last moment that there is, 2 ^ 53 milliseconds.
+const LAST_MOMENT: u64 = 9_007_199_254_740_992;
+
+/// A daemon and its number.
+#[derive(Drop)]
+pub struct Booted {
+    pub number: u32,
+    pub daemon: Daemon,
+}
+
+/// What a script runs on: the current moment in milliseconds, and the daemon where one was booted.
+#[derive(Drop)]
+pub struct Hub {
+    alloc: Global,
+    clock: u64,
+    booted: Option<Booted>,
+    ghost bound: { clock ≤ 2 ^ 53 },
+    ghost behind: { ForSome booted (λ b. b.daemon.last ≤ clock) },
+}
+
+impl Hub {
+    ghost use Rattle.std.specs.Prelude.{◌≡◌, ◌↔◌, true, false, None, Err, is_none, OnOk, OnErr};
+    ghost use Rattle.mdns_hub.specs.Played.{Played, start, Happens, Boots, RunsTo};
+    ghost use Rattle.mdns_hub.specs.Plays.{is_ready, may_run_to, Does, Plays};
+    ghost use Rattle.mdns_hub.specs.Output.{HasWriteCause, DoesPart, PlaysPart, OrNothing};
+    ghost use Rattle.mdns_hub.specs.Hubs.{StandsFor, Advances, BreaksIn, hub_ready, may_happen_at, MayHappen};
+
+    /// A hub on which nothing was played. It takes no memory.
+    pub fn new(alloc: Global) -> Self
+        ensures { StandsFor result start }
+    {
+        Hub {
+            alloc,
+            clock: 0,
+            booted: None,
+        }
+    }
+
+    /// Does a command, and puts the print of each entry as one piece. After `NotYet` the hub and the output are as
+    /// before; after another error the output is a beginning of what was to be put, and the hub isn't used again.
+    pub fn run<K: Sink>(&mut self, command: Command, output: &mut K) -> Result<(), HubError>
+        ensures done { OnOk result (Advances (Plays command) self.old self.new (K.held output.old) (K.held output.new)) }
+
+        ensures not_yet { (played : Played) → StandsFor self.old played
+            → (result ≡ Err HubError.NotYet) ↔ (is_ready played command ≡ false) }
+        ensures undone { result ≡ Err HubError.NotYet → (self.new ≡ self.old) × (output.new ≡ output.old) }
+        ensures part { OnErr result (BreaksIn (PlaysPart command) self.old (K.held output.old) (K.held output.new)) }
+        ensures cause { HasWriteCause (K.faults output.old) (K.faults output.new) result }
+    {
+        if self.is_ready(&command) {
+            self.play(command, output)
+        } else {
+            Err(HubError::NotYet)
+        }
+    }
+
+    // Whether the command is built at this place of the script.
+    fn is_ready(&self, command: &Command) -> bool
+        ensures { result ≡ hub_ready self.now command.now }
+    {
+        match command {
+            Command::Pass => true,
+            Command::Daemon { config, .. } => self.booted.is_none() && config.host.is_none(),
+            Command::At { moment } => self.may_run_to(*moment),
+            Command::Attach { daemon } => self.may_happen(*daemon, &Event::Attach),
+            Command::Event { daemon, event } => self.may_happen(*daemon, event),
+        }
+    }
+
+    fn may_run_to(&self, moment: u64) -> bool
+        ensures { result ≡ may_run_to self.now.clock moment }
+    {
+        self.clock <= moment && moment <= LAST_MOMENT && moment - self.clock <= MOST_AHEAD
+    }
+
+    fn may_happen(&self, number: u32, event: &Event) -> bool
+        ensures { result ≡ may_happen_at self.now.booted number event.now }
+    {
+        match &self.booted {
+            Some(booted) => booted.number == number && booted.daemon.may(event),
+            None => false,
+        }
+    }
+
+    // Does a command that is ready.
+    fn play<K: Sink>(&mut self, command: Command, output: &mut K) -> Result<(), HubError>
+        requires { hub_ready self.old command ≡ true }
+
+        ensures done { OnOk result (Advances (Does command) self.old self.new (K.held output.old) (K.held output.new)) }
+        ensures part { OnErr result (BreaksIn (DoesPart command) self.old (K.held output.old) (K.held output.new)) }
+        ensures cause { HasWriteCause (K.faults output.old) (K.faults output.new) result }
+        ensures ready { result ≡ Err HubError.NotYet → ⊥ }
+    {
+        match command {
+            Command::Pass => Ok(()),
+            Command::Daemon { number, config } => self.boot(number, &config, output),
+            Command::At { moment } => self.run_to(moment, output),
+            Command::Attach { .. } => self.happen(Event::Attach, output),
+            Command::Event { event, .. } => self.happen(event, output),
+        }
+    }
+
+    fn boot<K: Sink>(
+        &mut self,
+        number: u32,
+        config: &Config,
+        output: &mut K,
+    ) -> Result<(), HubError>
+        requires free { is_none self.old.booted ≡ true }
+        requires host { is_none config.now.host ≡ true }
+
+        ensures done { OnOk result (Advances (Boots number config.now) self.old self.new (K.held output.old) (K.held output.new)) }
+        ensures part { OnErr result (BreaksIn (OrNothing (Boots number config.now)) self.old (K.held output.old) (K.held output.new)) }
+        ensures cause { HasWriteCause (K.faults output.old) (K.faults output.new) result }
+        ensures ready { result ≡ Err HubError.NotYet → ⊥ }
+    {
+        let (daemon, entry) = Daemon::new(self.alloc, config.address, self.clock, 0);
+        put_entry(self.alloc, number, &entry, output)?;
+        self.booted = Some(Booted { number, daemon });
+        Ok(())
+    }
+
+    fn run_to<K: Sink>(&mut self, moment: u64, output: &mut K) -> Result<(), HubError>
+        requires { may_run_to self.old.clock moment ≡ true }
+
+        ensures done { OnOk result (Advances (RunsTo moment) self.old self.new (K.held output.old) (K.held output.new)) }
+        ensures part { OnErr result (BreaksIn (DoesPart (Command.At moment)) self.old (K.held output.old) (K.held output.new)) }
+        ensures cause { HasWriteCause (K.faults output.old) (K.faults output.new) result }
+        ensures ready { result ≡ Err HubError.NotYet → ⊥ }
+    {
+        match self.booted.take() {
+            Some(mut booted) => {
+                tick_to(
+                    self.alloc,
+                    booted.number,
+                    &mut booted.daemon,
+                    self.clock,
+                    moment,
+                    output,
+                )?;
+                self.booted = Some(booted);
+                self.clock = moment;
+                Ok(())
+            }
+            None => {
+                self.clock = moment;
+                Ok(())
+            }
+        }
+    }
+
+    fn happen<K: Sink>(&mut self, event: Event, output: &mut K) -> Result<(), HubError>
+        requires { MayHappen self.old.booted event }
+
+        ensures done { OnOk result (Advances (Happens event) self.old self.new (K.held output.old) (K.held output.new)) }
+        ensures part { OnErr result (BreaksIn (OrNothing (Happens event)) self.old (K.held output.old) (K.held output.new)) }
+        ensures cause { HasWriteCause (K.faults output.old) (K.faults output.new) result }
+        ensures ready { result ≡ Err HubError.NotYet → ⊥ }
+    {
+        let Some(mut booted) = self.booted.take() else {
+            unreachable!();
+        };
+        step(
+            self.alloc,
+            booted.number,
+            &mut booted.daemon,
+            self.clock,
+            event,
+            output,
+        )?;
+        self.booted = Some(booted);
+        Ok(())
+    }
+}

@@ -1,0 +1,65 @@
+//! The scripted run: commands of a script, done on a daemon, with the print of each entry.
+//!
+//! So far there is one daemon without a host.
+#![tactic(auto)]
+
+mod error;
+mod hub;
+mod steps;
+
+pub use error::HubError;
+pub use hub::Hub;
+
+#[cfg(test)]
+mod tests {
+    use super::*;
+    use mdns_base::MemSink;
+    use mdns_history::{Config, Event};
+    use mdns_script::Command;
+    use std::test::Fail;
+
+    fn boot(number: u32) -> Command {
+        Command::Daemon {
+            number,
+            config: Config {
+                address: 0x0a00_0001,
+                host: None,
+            },
+        }
+    }
+
+    fn tick(daemon: u32) -> Command {
+        Command::Event {
+            daemon,
+            event: Event::Tick,
+        }
+    }
+
+    #[test]
+    fn plays_what_is_ready(rt: HostRuntime) -> Result<(), Fail> {
+        let alloc = rt.alloc();
+        let mut hub = Hub::new(alloc);
+        let mut sink = MemSink::new(alloc, Vec::from_slice(alloc, &[4])?);
+        let refused = Err(HubError::NotYet);
+        assert_eq!(rt; hub.run(Command::Pass, &mut sink), Ok(()));
+        assert_eq!(rt; hub.run(Command::Attach { daemon: 1 }, &mut sink), refused);
+        assert_eq!(rt; hub.run(boot(1), &mut sink), Ok(()));
+        assert_eq!(rt; hub.run(boot(2), &mut sink), refused);
+        assert_eq!(rt;
+            hub.run(Command::At { moment: 86_400_001 }, &mut sink),
+            refused
+        );
+        assert_eq!(rt; hub.run(Command::At { moment: 5 }, &mut sink), Ok(()));
+        assert_eq!(rt; hub.run(Command::At { moment: 4 }, &mut sink), refused);
+        assert_eq!(rt; hub.run(Command::Attach { daemon: 1 }, &mut sink), Ok(()));
+        assert_eq!(rt; hub.run(Command::Attach { daemon: 1 }, &mut sink), refused);
+        assert_eq!(rt; hub.run(tick(2), &mut sink), refused);
+        assert_eq!(rt; hub.run(tick(1), &mut sink), Ok(()));
+        assert_eq!(rt; hub.run(tick(1), &mut sink), Err(HubError::WriteFault));
+        assert_eq!(rt;
+            sink.bytes(),
+            b"@0 d1 w0 boot 10.0.0.1\n@5 d1 w0 open\n = opened 1\n@5 d1 w0 tick\n".as_slice()
+        );
+        Ok(())
+    }
+}

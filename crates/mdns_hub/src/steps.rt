@@ -1,0 +1,99 @@
+// Steps of one daemon, each with the print of its entry.
+ghost use Rattle.std.specs.Prelude.{ℕ, ◌≡◌, ◌⊎◌, ◌≤◌, ◌^◌, ◌++◌, ◌∷◌, List, take, true, Err, OnOk, OnErr};
+ghost use Rattle.std.specs.Io.KnownBytes.{Appends};
+ghost use Rattle.mdns_history.specs.declared.entry.Entry.{Entry};
+ghost use Rattle.mdns_history.specs.EntryText.{entry_text, history_text};
+ghost use Rattle.mdns_core.specs.Operations.{may};
+ghost use Rattle.mdns_core.specs.Entries.{Fits};
+ghost use Rattle.mdns_core.specs.State.{Stands};
+ghost use Rattle.mdns_hub.specs.Played.{IsAt, AreTicks, IsIdleUntil};
+ghost use Rattle.mdns_hub.specs.Output.{Gains, Fronts, HasWriteCause};
+
+use crate::HubError;
+use mdns_base::Sink;
+use mdns_core::Daemon;
+use mdns_history::{Entry, Event, print_entry};
+use std::alloc::Global;
+
+/// Puts the print of an entry as one piece.
+pub fn put_entry<K: Sink>(
+    alloc: Global,
+    number: u32,
+    entry: &Entry,
+    output: &mut K,
+) -> Result<(), HubError>
+    ensures text { OnOk result (Appends (K.held output.old) (K.held output.new) (entry_text number entry.now)) }
+    ensures part { OnErr result ((n : ℕ)
+        × Appends (K.held output.old) (K.held output.new) (take n (entry_text number entry.now))) }
+    ensures cause { HasWriteCause (K.faults output.old) (K.faults output.new) result }
+    ensures ready { result ≡ Err HubError.NotYet → ⊥ }
+{
+    let text = print_entry(alloc, number, entry)?;
+    match output.put(text.as_slice()) {
+        Ok(()) => Ok(()),
+        Err(_) => Err(HubError::WriteFault),
+    }
+}
+
+/// One event of the daemon at `now`, in milliseconds, and the print of its entry.
+pub fn step<K: Sink>(
+    alloc: Global,
+    number: u32,
+    daemon: &mut Daemon,
+    now: u64,
+    event: Event,
+    output: &mut K,
+) -> Result<(), HubError>
+    requires later { daemon.old.last ≤ now }
+    requires bound { now ≤ 2 ^ 53 }
+    requires allowed { may daemon.old.attached daemon.old.operation event ≡ true }
+
+    ensures done { OnOk result ((history : List Entry) → Stands daemon.old history
+        → (entry : Entry) × Fits entry history × IsAt entry now event × Stands daemon.new (entry ∷ history)
+        × Appends (K.held output.old) (K.held output.new) (entry_text number entry)) }
+    ensures part { OnErr result ((history : List Entry) → Stands daemon.old history
+        → (K.held output.new ≡ K.held output.old) ⊎ ((entry : Entry) × Fits entry history × IsAt entry now event
+        × ((n : ℕ) × Appends (K.held output.old) (K.held output.new) (take n (entry_text number entry))))) }
+    ensures last { OnOk result (daemon.new.last ≡ now) }
+    ensures cause { HasWriteCause (K.faults output.old) (K.faults output.new) result }
+    ensures ready { result ≡ Err HubError.NotYet → ⊥ }
+{
+    let entry = daemon.step(now, 0, event)?;
+    put_entry(alloc, number, &entry, output)?;
+    Ok(())
+}
+
+/// The ticks that are due up to `moment`, in milliseconds. One that was due before `clock` is done then.
+pub fn tick_to<K: Sink>(
+    alloc: Global,
+    number: u32,
+    daemon: &mut Daemon,
+    clock: u64,
+    moment: u64,
+    output: &mut K,
+) -> Result<(), HubError>
+    requires last { daemon.old.last ≤ clock }
+    requires later { clock ≤ moment }
+    requires bound { moment ≤ 2 ^ 53 }
+
+    ensures done { OnOk result ((history : List Entry) → Stands daemon.old history
+        → (ticks : List Entry) × AreTicks clock moment history ticks × IsIdleUntil moment (ticks ++ history)
+        × Stands daemon.new (ticks ++ history)
+        × Gains (K.held output.old) (K.held output.new)
+        (history_text number history) (history_text number (ticks ++ history))) }
+    ensures part { OnErr result ((history : List Entry) → Stands daemon.old history
+        → (ticks : List Entry) × AreTicks clock moment history ticks
+        × Fronts (K.held output.old) (K.held output.new)
+        (history_text number history) (history_text number (ticks ++ history))) }
+    ensures last { OnOk result (daemon.new.last ≤ moment) }
+    ensures cause { HasWriteCause (K.faults output.old) (K.faults output.new) result }
+    ensures ready { result ≡ Err HubError.NotYet → ⊥ }
+{
+    'ticks: while let Some(due) = daemon.next_due() {
+        if due > moment {
+            return Ok(());
+        }
+        step(alloc, number, daemon, due.max(clock), Event::Tick, output)?;
+    }
+    Ok(())
+}

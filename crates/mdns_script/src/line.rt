@@ -1,0 +1,222 @@
+ghost use Rattle.std.specs.Prelude.{◌≡◌, IfOk};
+ghost use Rattle.std.specs.Option.{option_map};
+ghost use Rattle.mdns_base.specs.Digits.{decimal_of};
+ghost use Rattle.mdns_script.specs.Lines.{line_of, is_read, first_of, is_known, command_of, command_of_words, daemon_command, call_command, hear_command, hear_words, packet_of, daemon_of};
+
+use crate::{Command, Line};
+use dns_message::plain_record;
+use dns_name::parse_plain_bytes;
+use dns_record::Bytes;
+use mdns_base::{Host, cut_at, is_same, read_decimal, read_decimal_u32, read_hex, read_ipv4};
+use mdns_history::{Config, Event};
+use sd_call::Request;
+use std::alloc::{AllocError, Global};
+
+/// The address of daemon K without a host is this and K: 10.0.0.K.
+const NETWORK: u32 = 167_772_160;
+
+const MDNS_PORT: u16 = 5353;
+
+/// What a line asks for. The line is without its line feed and the carriage return before it. Only want of memory is an
+/// error.
+#[tactic(auto, unfolding(crate::specs::Lines::line_of))]
+pub fn read_line(alloc: Global, line: &[u8]) -> Result<Line, AllocError>
+    ensures { IfOk result (λ read. read ≡ line_of line.now) }
+{
+    if !is_read(line) {
+        return Ok(Line::Command(Command::Pass));
+    }
+    if !is_known(first(line)) {
+        return Ok(Line::Bad);
+    }
+    match command_of(alloc, line)? {
+        Some(command) => Ok(Line::Command(command)),
+        None => Ok(Line::NotYet),
+    }
+}
+
+// Whether the line is neither empty nor a comment.
+fn is_read(line: &[u8]) -> bool
+    ensures { result ≡ is_read line.now }
+{
+    match line {
+        [] => false,
+        [first, ..] => *first != b'#',
+    }
+}
+
+// The first word.
+fn first(line: &[u8]) -> &[u8]
+    ensures { result.now ≡ first_of line.now }
+{
+    match cut_at(line, b' ') {
+        Some((word, _)) => word,
+        None => line,
+    }
+}
+
+// Whether the word begins lines of some form, built or not.
+fn is_known(word: &[u8]) -> bool
+    ensures { result ≡ is_known word.now }
+{
+    is_same(word, b"daemon")
+        || is_same(word, b"at")
+        || is_same(word, b"word")
+        || is_same(word, b"seed")
+        || is_same(word, b"delay")
+        || is_same(word, b"lose")
+        || is_same(word, b"part")
+        || is_same(word, b"meet")
+        || is_same(word, b"hear")
+        || is_same(word, b"open")
+        || is_same(word, b"close")
+        || is_same(word, b"take")
+        || is_same(word, b"call")
+}
+
+fn command_of(alloc: Global, line: &[u8]) -> Result<Option<Command>, AllocError>
+    ensures { IfOk result (λ found. found ≡ command_of line.now) }
+{
+    match cut_at(line, b' ') {
+        Some((word, rest)) => Ok(command_of_words(alloc, word, rest)?),
+        None => Ok(None),
+    }
+}
+
+fn command_of_words(alloc: Global, word: &[u8], rest: &[u8]) -> Result<Option<Command>, AllocError>
+    ensures { IfOk result (λ found. found ≡ command_of_words word.now rest.now) }
+{
+    if is_same(word, b"daemon") {
+        return Ok(daemon_command(rest));
+    }
+    if is_same(word, b"open") {
+        return Ok(open_command(rest));
+    }
+    if is_same(word, b"at") {
+        return Ok(at_command(rest));
+    }
+    if is_same(word, b"call") {
+        return Ok(call_command(rest));
+    }
+    if is_same(word, b"hear") {
+        return Ok(hear_command(alloc, rest)?);
+    }
+    Ok(None)
+}
+
+fn daemon_command(text: &[u8]) -> Option<Command>
+    ensures { result ≡ daemon_command text.now }
+{
+    let number = daemon_number(text)?;
+    Some(Command::Daemon {
+        number,
+        config: Config {
+            address: NETWORK + number,
+            host: None,
+        },
+    })
+}
+
+fn open_command(text: &[u8]) -> Option<Command>
+    ensures { result ≡ option_map (λ n. Command.Attach n) (daemon_of text.now) }
+{
+    let daemon = daemon_number(text)?;
+    Some(Command::Attach { daemon })
+}
+
+fn at_command(text: &[u8]) -> Option<Command>
+    ensures { result ≡ option_map (λ n. Command.At n) (decimal_of text.now) }
+{
+    let moment = read_decimal(text)?;
+    Some(Command::At { moment })
+}
+
+#[tactic(auto, unfolding(crate::specs::Lines::call_command))]
+fn call_command(text: &[u8]) -> Option<Command>
+    ensures { result ≡ call_command text.now }
+{
+    let (daemon, rest) = cut_at(text, b' ')?;
+    let (session, rest) = cut_at(rest, b' ')?;
+    let (op, rest) = cut_at(rest, b' ')?;
+    let (query, rest) = cut_at(rest, b' ')?;
+    let (kind, name) = cut_at(rest, b' ')?;
+    let daemon = daemon_number(daemon)?;
+    let op = read_decimal_u32(op)?;
+    let name = parse_plain_bytes(name)?;
+    if is_same(session, b"1") && is_same(query, b"query") && is_same(kind, b"A") {
+        Some(Command::Event {
+            daemon,
+            event: Event::Call {
+                session: 1,
+                op,
+                request: Request::Query { kind: 1, name },
+            },
+        })
+    } else {
+        None
+    }
+}
+
+fn hear_command(alloc: Global, text: &[u8]) -> Result<Option<Command>, AllocError>
+    ensures { IfOk result (λ found. found ≡ hear_command text.now) }
+{
+    let Some((daemon, ip, hex)) = hear_words(text) else {
+        return Ok(None);
+    };
+    let Some(bytes) = packet(alloc, hex)? else {
+        return Ok(None);
+    };
+    Ok(Some(Command::Event {
+        daemon,
+        event: Event::Hear {
+            from: Host {
+                ip,
+                port: MDNS_PORT,
+            },
+            bytes,
+        },
+    }))
+}
+
+// The daemon, the address and the text of the packet.
+#[tactic(auto, unfolding(crate::specs::Lines::hear_words))]
+fn hear_words(text: &[u8]) -> Option<(u32, u32, &[u8])>
+    ensures { option_map (λ words. (words.0, words.1, words.2.now)) result ≡ hear_words text.now }
+{
+    let (daemon, rest) = cut_at(text, b' ')?;
+    let (from, rest) = cut_at(rest, b' ')?;
+    let (port, hex) = cut_at(rest, b' ')?;
+    let daemon = daemon_number(daemon)?;
+    let ip = read_ipv4(from)?;
+    if is_same(port, b"5353") {
+        Some((daemon, ip, hex))
+    } else {
+        None
+    }
+}
+
+// Bytes in hexadecimal that are a plain packet.
+fn packet(alloc: Global, text: &[u8]) -> Result<Option<Bytes>, AllocError>
+    ensures { IfOk result (λ found. found ≡ packet_of text.now) }
+{
+    let Some(bytes) = read_hex(alloc, text)? else {
+        return Ok(None);
+    };
+    if plain_record(bytes.as_slice()).is_some() {
+        Ok(Some(Bytes::from_vec(bytes)))
+    } else {
+        Ok(None)
+    }
+}
+
+// The number of a daemon, 1 to 16.
+fn daemon_number(text: &[u8]) -> Option<u32>
+    ensures { result ≡ daemon_of text.now }
+{
+    let number = read_decimal(text)?;
+    if 1 <= number && number <= 16 {
+        Some(number as u32)
+    } else {
+        None
+    }
+}

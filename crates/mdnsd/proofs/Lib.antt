@@ -1,0 +1,3 @@
+mod Taking
+mod Running
+mod Words

@@ -1,0 +1,4 @@
+pub mod Stops
+pub mod Scripts
+pub mod Statuses
+pub mod Lines

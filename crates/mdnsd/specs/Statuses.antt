@@ -1,0 +1,84 @@
+-- What each status of a script says of its input and output.
+use Rattle.std.specs.Prelude.{◌⊎◌, ◌≡◌, ℕ, ◌+◌, ◌<◌, ◌≤◌, ◌++◌, List, [], ◌∷◌, length, Option, Some, codes}
+use Rattle.mdns_script.specs.declared.command.Line.{Line}
+use Rattle.mdns_script.specs.declared.command.Line.TheVariants.{Bad, NotYet, Command as CommandLine}
+use Rattle.mdns_script.specs.Lines.{line_of}
+use Rattle.mdns_core.specs.Replay.{ReplaysThroughout}
+use Rattle.mdns_hub.specs.Played.{Played, start, transcript}
+use Rattle.mdns_hub.specs.Output.{Gains, Fronts, PlaysPart}
+use Rattle.mdnsd.specs.Scripts.{lines_of, PlaysAll, IsNotYet, note_text}
+
+-- the most bytes that a script may have
+abbrev pub most_bytes : ℕ
+most_bytes = 67108864
+
+-- The script was read to its end, where the source tells it, and it isn't too large.
+abbrev pub ReadAll : Option (List ℕ) → Option (List ℕ) → (List ℕ → Type 0) → Type 0
+ReadAll old new P = (script : List ℕ) → old ≡ Some script → (length script ≤ most_bytes) × (new ≡ Some []) × P script
+
+-- More than 67,108,864 bytes were taken.
+abbrev pub IsTooLarge : Option (List ℕ) → Option (List ℕ) → Type 0
+IsTooLarge old new = (script : List ℕ) → old ≡ Some script → (taken : List ℕ) × (rest : List ℕ) × (script ≡ taken ++ rest) × (new ≡ Some rest) × (most_bytes < length taken)
+
+-- The whole script was played, the sink gained its transcript, and at each moment the items replay to the answers.
+pub record PlaysScript (script : List ℕ) (old new : Option (List ℕ)) : Type 0 where
+  pub played : Played
+  pub plays : PlaysAll start (lines_of script) played
+  pub gains : Gains old new [] (transcript played)
+  pub replays : ReplaysThroughout played.history
+
+-- Where the script stopped: the lines before were played, this one is the cause, and a line that names it was put.
+pub record Stops (script : List ℕ) (words : List ℕ) (IsCause : Played → List ℕ → Type 0) (old new : Option (List ℕ)) : Type 0 where
+  pub done : List (List ℕ)
+  pub line : List ℕ
+  pub more : List (List ℕ)
+  pub lines : lines_of script ≡ done ++ line ∷ more
+  pub played : Played
+  pub plays : PlaysAll start done played
+  pub cause : IsCause played line
+  pub gains : Gains old new [] (transcript played ++ note_text words (length done + 1))
+
+-- a line that is no line
+abbrev pub IsBadLine : Played → List ℕ → Type 0
+IsBadLine played line = line_of line ≡ Bad
+
+-- a line that isn't built yet at its place
+abbrev pub IsNotYetLine : Played → List ℕ → Type 0
+IsNotYetLine played line = IsNotYet played (line_of line)
+
+-- what a line that was broken off had played
+abbrev pub PlaysPartOfLine : Line → Played → Played → Type 0
+PlaysPartOfLine Bad before after = after ≡ before
+PlaysPartOfLine NotYet before after = after ≡ before
+PlaysPartOfLine (CommandLine command) before after = PlaysPart command before after
+
+-- What may be printed once a line is begun: the entries of a part of it, or the line that says that it stopped the script.
+abbrev pub MayPrint : Played → List ℕ → ℕ → List ℕ → Type 0
+MayPrint played line number whole =
+    ((reached : Played) × PlaysPartOfLine (line_of line) played reached × (whole ≡ transcript reached))
+    ⊎ (IsBadLine played line × (whole ≡ transcript played ++ note_text (codes "bad line ") number))
+    ⊎ (IsNotYetLine played line × (whole ≡ transcript played ++ note_text (codes "not yet line ") number))
+
+-- the same of the first of the lines that are left
+abbrev pub FirstMayPrint : Played → List (List ℕ) → ℕ → List ℕ → Type 0
+FirstMayPrint played [] number whole = whole ≡ transcript played
+FirstMayPrint played (line ∷ lines) number whole = MayPrint played line number whole
+
+-- What may be printed of a script: the entries of lines that were played, and what the next line may print.
+pub record IsPrintable (script : List ℕ) (whole : List ℕ) : Type 0 where
+  pub done : List (List ℕ)
+  pub more : List (List ℕ)
+  pub lines : lines_of script ≡ done ++ more
+  pub played : Played
+  pub plays : PlaysAll start done played
+  pub text : FirstMayPrint played more (length done + 1) whole
+
+-- The output is a beginning of that.
+pub record BreaksOff (script : List ℕ) (old new : Option (List ℕ)) : Type 0 where
+  pub whole : List ℕ
+  pub printable : IsPrintable script whole
+  pub front : Fronts old new [] whole
+
+-- the statuses of a script
+abbrev pub IsScriptStatus : ℕ → Type 0
+IsScriptStatus status = (status ≡ 0) ⊎ (status ≡ 3) ⊎ (status ≡ 4) ⊎ (status ≡ 5) ⊎ (status ≡ 6) ⊎ (status ≡ 7) ⊎ (status ≡ 8)

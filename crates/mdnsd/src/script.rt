@@ -1,0 +1,155 @@
+// A script, run line by line.
+ghost use Rattle.std.specs.Prelude.{ℕ, ◌≡◌, ◌⊎◌, ◌≤◌, Err, take, OnOk, OnErr, IfOk, codes, length};
+ghost use Rattle.std.specs.Io.KnownBytes.{Appends};
+ghost use Rattle.mdns_base.specs.Outside.{Rose};
+ghost use Rattle.mdns_script.specs.Lines.{line_of};
+ghost use Rattle.mdns_hub.specs.Played.{Played};
+ghost use Rattle.mdns_hub.specs.Hubs.{StandsFor, BreaksIn};
+ghost use Rattle.mdnsd.specs.Scripts.{note_text, IsNotYet};
+ghost use Rattle.mdnsd.specs.Statuses.{ReadAll, IsTooLarge, PlaysScript, Stops, IsBadLine, IsNotYetLine, BreaksOff, PlaysPartOfLine, IsScriptStatus};
+ghost use Rattle.mdnsd.specs.Lines.{RanLine, StopsAt, BreaksAt, IsFault};
+
+use crate::input::{ReadError, read_all};
+use crate::lines::next_line;
+use crate::stop::{NO_MEMORY, READ_FAULT, Stop, TOO_LARGE, status_of};
+use mdns_base::{Sink, Source, put_decimal};
+use mdns_hub::Hub;
+use mdns_script::{Line, read_line};
+use std::alloc::{AllocError, Global};
+
+/// Reads the script to its end and runs it line by line. The answer is the status of the program:
+/// - 0: all lines were played, and the output is the print of every entry.
+/// - 3: a line is no line. The output is the print of the lines before it, and a line that names it.
+/// - 4: the source failed. The output is empty.
+/// - 5: the sink failed. The output is a beginning of what was to be put.
+/// - 6: memory was refused. The output is as with 5.
+/// - 7: a line isn't built yet, or not at its place. The output is as with 3.
+/// - 8: there are more than 67,108,864 bytes. The output is empty.
+pub fn run_script<S: Source, K: Sink>(alloc: Global, input: &mut S, output: &mut K) -> u8
+    ensures done { result ≡ 0 → ReadAll (S.left input.old) (S.left input.new)
+        (λ script. PlaysScript script (K.held output.old) (K.held output.new)) }
+    ensures bad { result ≡ 3 → ReadAll (S.left input.old) (S.left input.new)
+        (λ script. Stops script (codes "bad line ") IsBadLine (K.held output.old) (K.held output.new)) }
+    ensures not_yet { result ≡ 7 → ReadAll (S.left input.old) (S.left input.new)
+        (λ script. Stops script (codes "not yet line ") IsNotYetLine (K.held output.old) (K.held output.new)) }
+
+    ensures read { result ≡ 4 → Rose (S.faults input.old) (S.faults input.new) × (output.new ≡ output.old) }
+    ensures large { result ≡ 8 → IsTooLarge (S.left input.old) (S.left input.new) × (output.new ≡ output.old) }
+
+    // The output is then a beginning of what was to be printed.
+    ensures write { result ≡ 5 → Rose (K.faults output.old) (K.faults output.new) }
+    ensures broken { result ≡ 5 → ReadAll (S.left input.old) (S.left input.new)
+        (λ script. BreaksOff script (K.held output.old) (K.held output.new)) }
+    ensures memory { result ≡ 6 → (output.new ≡ output.old) ⊎ ReadAll (S.left input.old) (S.left input.new)
+        (λ script. BreaksOff script (K.held output.old) (K.held output.new)) }
+
+    ensures others { IsScriptStatus result }
+{
+    match read_all(alloc, input) {
+        Ok(script) => status_of(run_lines(alloc, script.as_slice(), output)),
+        Err(ReadError::Fault) => READ_FAULT,
+        Err(ReadError::NoMemory) => NO_MEMORY,
+        Err(ReadError::TooLarge) => TOO_LARGE,
+    }
+}
+
+// Runs the lines of a script.
+fn run_lines<K: Sink>(alloc: Global, script: &[u8], output: &mut K) -> Result<(), Stop>
+    requires { length script.now ≤ 67108864 }
+    ensures done { OnOk result (PlaysScript script.now (K.held output.old) (K.held output.new)) }
+    ensures bad { result ≡ Err Stop.BadLine
+        → Stops script.now (codes "bad line ") IsBadLine (K.held output.old) (K.held output.new) }
+    ensures not_yet { result ≡ Err Stop.NotYet
+        → Stops script.now (codes "not yet line ") IsNotYetLine (K.held output.old) (K.held output.new) }
+    ensures broken { IsFault result → BreaksOff script.now (K.held output.old) (K.held output.new) }
+    ensures write { result ≡ Err Stop.WriteFault → Rose (K.faults output.old) (K.faults output.new) }
+{
+    let mut hub = Hub::new(alloc);
+    let mut rest = script;
+    let mut number = 1u64;
+    'lines: while let Some((line, after)) = next_line(rest) {
+        run_numbered(alloc, &mut hub, line, number, output)?;
+        rest = after;
+        number += 1;
+    }
+    Ok(())
+}
+
+// Runs the line of a number. One that is no line, or isn't built, is named in the output.
+fn run_numbered<K: Sink>(
+    alloc: Global,
+    hub: &mut Hub,
+    line: &[u8],
+    number: u64,
+    output: &mut K,
+) -> Result<(), Stop>
+    ensures ran { OnOk result (RanLine hub.old line.now hub.new (K.held output.old) (K.held output.new)) }
+    ensures bad { result ≡ Err Stop.BadLine
+        → StopsAt (codes "bad line ") IsBadLine hub.old line.now number (K.held output.old) (K.held output.new) }
+    ensures not_yet { result ≡ Err Stop.NotYet
+        → StopsAt (codes "not yet line ") IsNotYetLine hub.old line.now number (K.held output.old) (K.held output.new) }
+    ensures broken { IsFault result → BreaksAt hub.old line.now number (K.held output.old) (K.held output.new) }
+    ensures write { result ≡ Err Stop.WriteFault → Rose (K.faults output.old) (K.faults output.new) }
+    ensures later { K.faults output.old ≤ K.faults output.new }
+{
+    match run_line(alloc, hub, line, output) {
+        Err(Stop::BadLine) => put_note(alloc, b"bad line ", number, Stop::BadLine, output),
+        Err(Stop::NotYet) => put_note(alloc, b"not yet line ", number, Stop::NotYet, output),
+        ran => ran,
+    }
+}
+
+// Runs a line, and puts the print of what it leads to.
+fn run_line<K: Sink>(alloc: Global, hub: &mut Hub, line: &[u8], output: &mut K) -> Result<(), Stop>
+    ensures ran { OnOk result (RanLine hub.old line.now hub.new (K.held output.old) (K.held output.new)) }
+    ensures bad { result ≡ Err Stop.BadLine
+        → (line_of line.now ≡ Line.Bad) × (K.held output.new ≡ K.held output.old) }
+    ensures not_yet { result ≡ Err Stop.NotYet → (played : Played) → StandsFor hub.old played
+        → IsNotYet played (line_of line.now) × (K.held output.new ≡ K.held output.old) }
+    ensures broken { IsFault result
+        → BreaksIn (PlaysPartOfLine (line_of line.now)) hub.old (K.held output.old) (K.held output.new) }
+    ensures write { result ≡ Err Stop.WriteFault → Rose (K.faults output.old) (K.faults output.new) }
+    ensures later { K.faults output.old ≤ K.faults output.new }
+{
+    match read_line(alloc, line)? {
+        Line::Bad => Err(Stop::BadLine),
+        Line::NotYet => Err(Stop::NotYet),
+        Line::Command(command) => {
+            hub.run(command, output)?;
+            Ok(())
+        }
+    }
+}
+
+// Puts the line that names the line that stopped the script; the answer is why it stopped.
+fn put_note<K: Sink>(
+    alloc: Global,
+    words: &[u8],
+    number: u64,
+    stop: Stop,
+    output: &mut K,
+) -> Result<(), Stop>
+    requires { (stop ≡ Stop.BadLine) ⊎ (stop ≡ Stop.NotYet) }
+    ensures put { result ≡ Err stop → Appends (K.held output.old) (K.held output.new) (note_text words.now number) }
+    ensures part { IsFault result → (n : ℕ)
+        × Appends (K.held output.old) (K.held output.new) (take n (note_text words.now number)) }
+    ensures others { (result ≡ Err stop) ⊎ IsFault result }
+    ensures write { result ≡ Err Stop.WriteFault → Rose (K.faults output.old) (K.faults output.new) }
+    ensures later { K.faults output.old ≤ K.faults output.new }
+{
+    let note = note(alloc, words, number)?;
+    match output.put(note.as_slice()) {
+        Ok(()) => Err(stop),
+        Err(_) => Err(Stop::WriteFault),
+    }
+}
+
+fn note(alloc: Global, words: &[u8], number: u64) -> Result<Vec<u8>, AllocError>
+    ensures { IfOk result (λ text. text.items ≡ note_text words.now number) }
+{
+    let mut out = Vec::new(alloc);
+    out.extend_from_slice(words)?;
+    put_decimal(&mut out, number)?;
+    out.extend_from_slice(b"\n")?;
+    Ok(out)
+}

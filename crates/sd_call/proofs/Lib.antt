@@ -1,0 +1,5 @@
+pub mod Forms
+pub mod AnswerOrder
+pub mod AnswerLists
+pub mod ReplayLaws
+pub mod ReplayRuns

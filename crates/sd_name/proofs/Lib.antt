@@ -1,0 +1,4 @@
+pub mod Cuts
+pub mod Parsing
+pub mod Fronts
+mod Rows

@@ -1,0 +1,3 @@
+pub mod Strings
+pub mod Pairs
+pub mod Places

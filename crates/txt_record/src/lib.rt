@@ -1,0 +1,17 @@
+//! TXT records: the pairs of keys and values that describe a service. (RFC 6763 section 6)
+#![tactic(auto)]
+
+mod error;
+mod octets;
+mod pair;
+mod strings;
+mod txt;
+
+pub use error::TxtError;
+pub use octets::Octets;
+pub use pair::{Found, Pair};
+pub use strings::{Strings, is_txt};
+pub use txt::Txt;
+
+#[cfg(test)]
+mod tests;
