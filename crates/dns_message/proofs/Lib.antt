@@ -1,4 +1,7 @@
 mod Rows
+pub mod Whole
+pub mod Parts
+pub mod NameParts
 pub mod Once
 pub mod Bounded
 pub mod Sequences

@@ -1,5 +1,5 @@
 -- The bytes that a message is written as. Of the names in it, those of questions, owners, PTR and CNAME are compressed. (RFC 1035 4.1, RFC 6762 18.14)
-use Rattle.std.specs.Prelude.{ℕ, ◌+◌, ◌*◌, ◌^◌, Bool, true, false, List, [], ◌∷◌, ◌++◌, length, Option, Some, None, nat_lt, ◌&&◌, ◌≡◌, ◌≤◌, if◌then◌else◌}
+use Rattle.std.specs.Prelude.{ℕ, ◌+◌, ◌*◌, ◌%◌, ◌^◌, Bool, true, false, List, [], ◌∷◌, ◌++◌, length, Option, Some, None, nat_lt, ◌&&◌, ◌≡◌, ◌≤◌, if◌then◌else◌}
 use Rattle.std.specs.List.{list_all}
 use Rattle.std.specs.Int.{to_be_bytes, w16, w32}
 use Rattle.dns_name.specs.Names.{exact_eq, is_name}
@@ -21,7 +21,7 @@ pub record Piece : Type 0 where
   pub names : Offsets
 
 -- the least offset at which a name was written
-abbrev pub offset_of : List (List ℕ) → Offsets → Option ℕ
+unfoldable pub offset_of : List (List ℕ) → Offsets → Option ℕ
 offset_of name [] = None
 offset_of name (written ∷ more) = if exact_eq name written.0 then Some written.1 else offset_of name more
 
@@ -39,7 +39,7 @@ pointer_or (Some offset) names piece = record { bytes = pointer_to offset; names
 pointer_or None names piece = piece
 
 -- a name at an offset, behind names that were written
-abbrev pub written_name : Offsets → ℕ → List (List ℕ) → Piece
+unfoldable pub written_name : Offsets → ℕ → List (List ℕ) → Piece
 written_name names at [] = record { bytes = 0 ∷ []; names = names }
 written_name names at (label ∷ rest) =
     let tail = written_name (names ++ (label ∷ rest, at) ∷ []) (at + 1 + length label) rest in
@@ -51,26 +51,26 @@ class_word true = to_be_bytes w16 (2 ^ 15 + 1)
 class_word false = to_be_bytes w16 1
 
 -- a question at an offset
-abbrev pub written_question : Offsets → ℕ → Question → Piece
+unfoldable pub written_question : Offsets → ℕ → Question → Piece
 written_question names at question =
     let name = written_name names at question.name in
     record { bytes = name.bytes ++ to_be_bytes w16 question.kind ++ class_word question.unicast; names = name.names }
 
 -- the data of a record at an offset
-abbrev pub written_data : Offsets → ℕ → Rdata → Piece
+unfoldable pub written_data : Offsets → ℕ → Rdata → Piece
 written_data names at (Ptr name) = written_name names at name
 written_data names at (Cname name) = written_name names at name
 written_data names at rdata = record { bytes = data_of rdata; names = names }
 
 -- a record at an offset
-abbrev pub written_record : Offsets → ℕ → Rr → Piece
+unfoldable pub written_record : Offsets → ℕ → Rr → Piece
 written_record names at rr =
     let owner = written_name names at rr.owner in
     let rdata = written_data owner.names (at + length owner.bytes + 10) rr.rdata in
     onto (owner.bytes ++ to_be_bytes w16 (kind_of rr.rdata) ++ class_word rr.flush ++ to_be_bytes w32 rr.ttl ++ to_be_bytes w16 (length rdata.bytes)) rdata
 
 -- things in a row from an offset on, behind names that were written
-abbrev pub written_all : {X : Type 0} → (Offsets → ℕ → X → Piece) → Offsets → ℕ → List X → Piece
+unfoldable pub written_all : {X : Type 0} → (Offsets → ℕ → X → Piece) → Offsets → ℕ → List X → Piece
 written_all written names at [] = record { bytes = []; names = names }
 written_all written names at (x ∷ xs) =
     let first = written names at x in onto first.bytes (written_all written first.names (at + length first.bytes) xs)
@@ -80,16 +80,21 @@ abbrev pub bit_worth : Bool → ℕ → ℕ
 bit_worth true worth = worth
 bit_worth false worth = 0
 
--- the header: ID, flags, and the four counts
-abbrev pub header : Message → List ℕ
-header m =
-    to_be_bytes w16 m.id
-    ++ (bit_worth m.response 128 + m.opcode * 8 + bit_worth m.authoritative 4 + bit_worth m.truncated 2) ∷ m.rcode
-    ∷ to_be_bytes w16 (length m.questions) ++ to_be_bytes w16 (length m.answers)
-    ++ to_be_bytes w16 (length m.authority) ++ to_be_bytes w16 (length m.additional)
+-- the flags; of opcode and rcode the low four bits
+abbrev pub flag_bytes : Message → List ℕ
+flag_bytes m = (bit_worth m.response 128 + m.opcode % 16 * 8 + bit_worth m.authoritative 4 + bit_worth m.truncated 2) ∷ m.rcode % 16 ∷ []
+
+-- the four counts
+abbrev pub count_bytes : Message → List ℕ
+count_bytes m =
+    to_be_bytes w16 (length m.questions) ++ to_be_bytes w16 (length m.answers) ++ to_be_bytes w16 (length m.authority) ++ to_be_bytes w16 (length m.additional)
+
+-- the header: ID, flags and counts
+unfoldable pub header : Message → List ℕ
+header m = to_be_bytes w16 m.id ++ flag_bytes m ++ count_bytes m
 
 -- the message behind its header
-abbrev pub written_body : Message → List ℕ
+unfoldable pub written_body : Message → List ℕ
 written_body m =
     let questions = written_all written_question [] 12 m.questions in
     let records = written_all written_record questions.names (12 + length questions.bytes) (m.answers ++ m.authority ++ m.additional) in

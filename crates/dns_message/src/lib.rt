@@ -1,6 +1,7 @@
 //! Messages of the domain name system, as Multicast DNS uses them. (RFC 1035 4.1, RFC 6762 18)
 #![tactic(auto)]
 
+mod compress;
 mod data;
 mod fields;
 mod law;
@@ -10,12 +11,14 @@ mod names;
 mod plain;
 mod reading;
 mod sections;
+mod writing;
 
 pub use law::one_message_is_spelled;
 pub use lists::{Questions, Rrs};
-pub use message::{Message, MessageError};
+pub use message::{Message, MessageError, WriteError};
 pub use plain::{plain_record, read_plain};
 pub use reading::read;
+pub use writing::write;
 
 #[cfg(test)]
 mod tests;

@@ -1,6 +1,7 @@
 // A message, and why bytes spell none.
 ghost use Rattle.std.specs.Prelude.{◌≡◌};
-ghost use Rattle.dns_message.specs.declared.message.MessageError.TheVariants.{NoMemory};
+ghost use Rattle.dns_message.specs.declared.message.MessageError.TheVariants as message_error;
+ghost use Rattle.dns_message.specs.declared.message.WriteError.TheVariants as write_error;
 
 use crate::{Questions, Rrs};
 use std::alloc::AllocError;
@@ -46,9 +47,26 @@ pub enum MessageError {
 }
 
 impl From<AllocError> for MessageError {
-    ghost from_gives = { λ _ e. e ≡ NoMemory };
+    ghost from_gives = { λ _ e. e ≡ message_error.NoMemory };
 
     fn from(_e: AllocError) -> MessageError {
         MessageError::NoMemory
+    }
+}
+
+/// Why a message isn't written.
+#[derive(Clone, Copy, Debug, PartialEq, Eq)]
+pub enum WriteError {
+    /// What is written passes the limit.
+    TooLong = 1,
+    /// Memory was refused.
+    NoMemory,
+}
+
+impl From<AllocError> for WriteError {
+    ghost from_gives = { λ _ e. e ≡ write_error.NoMemory };
+
+    fn from(_e: AllocError) -> WriteError {
+        WriteError::NoMemory
     }
 }

@@ -1,5 +1,5 @@
 // Packets, and what is read of them: a line of the header, one for each question and record, or the fault's number.
-use crate::{Message, MessageError, Questions, Rrs, read};
+use crate::{Message, MessageError, Questions, Rrs, WriteError, read, write};
 use dns_record::{put_kind, put_name, put_record};
 use mdns_base::{put_decimal, read_hex};
 use std::alloc::{AllocError, Global};
@@ -334,5 +334,79 @@ fn reads_up_to_the_limits(rt: HostRuntime) -> Result<(), Fail> {
         read(alloc, zeros.as_slice()).err(),
         Some(MessageError::TooLong)
     );
+    Ok(())
+}
+
+// Packets that are written as they were read.
+const WRITTEN: [&str; 5] = [
+    "0000840000000001000000000161056c6f63616c0000018001000000780004c0000201",
+    "000084000000000100000000045f697070045f746370056c6f63616c00000c000100001194000a075072696e746572c00c",
+    "000084000000000100000000075072696e746572045f697070045f746370056c6f63616c000021800100000078000f0000000000500178056c6f63616c00",
+    "0000000000010000000100000168056c6f63616c0000ff8001c00c00010001000000780004a9fec832",
+    "0001fa0f0000000000000000",
+];
+
+// Packets that are written in another way than they were read. A name in other letter case isn't aimed at, and of the
+// offsets where a name stands the least is; names in SRV and NSEC stand whole, and aren't aimed at.
+const REWRITTEN: [(&str, &str); 4] = [
+    (
+        "0000840000000002000000000161056c6f63616c00000100010000007800040a0000010161054c4f43414c00000100010000007800040a000002",
+        "0000840000000002000000000161056c6f63616c00000100010000007800040a0000010161054c4f43414c00000100010000007800040a000002",
+    ),
+    (
+        "0000840000000003000000000161056c6f63616c00000100010000007800040a0000010162056c6f63616c00000100010000007800040a000002c023000c00010000007800040163c025",
+        "0000840000000003000000000161056c6f63616c00000100010000007800040a0000010162c00e000100010000007800040a000002c023000c00010000007800040163c00e",
+    ),
+    (
+        "000084000000000300000000000021000100000000000b0000000000000161016200016100002f000100000000000401620040016200000100010000000000040a000001",
+        "000084000000000300000000000021000100000000000b0000000000000161016200016100002f000100000000000401620040016200000100010000000000040a000001",
+    ),
+    (
+        "00008400000000010001000100000100010000000000040a00000100001c000100000000001000000000000000000000000000000001000010000100000000000101",
+        "00008400000000010001000100000100010000000000040a00000100001c000100000000001000000000000000000000000000000001000010000100000000000101",
+    ),
+];
+
+// The bytes that a packet is read and written as, or the number of the error of writing it.
+fn rewritten(alloc: Global, bytes: &[u8], limit: usize) -> Result<Vec<u8>, AllocError> {
+    let Ok(message) = read(alloc, bytes) else {
+        return Ok(Vec::new(alloc));
+    };
+    match write(alloc, &message, limit.min(8972)) {
+        Ok(bytes) => Ok(bytes.into_vec()),
+        Err(fault) => Ok(vec![in alloc; fault as u8]?),
+    }
+}
+
+#[test]
+fn writes_packets(rt: HostRuntime) -> Result<(), Fail> {
+    let alloc = rt.alloc();
+    for text in WRITTEN {
+        let bytes = bytes_of(alloc, text)?;
+        assert_eq!(rt;
+            rewritten(alloc, bytes.as_slice(), 8972)?.as_slice(),
+            bytes.as_slice(),
+            "{text}"
+        );
+        assert_eq!(rt;
+            rewritten(alloc, bytes.as_slice(), bytes.len())?.as_slice(),
+            bytes.as_slice(),
+            "{text}"
+        );
+        assert_eq!(rt;
+            rewritten(alloc, bytes.as_slice(), bytes.len().saturating_sub(1))?.as_slice(),
+            [WriteError::TooLong as u8].as_slice(),
+            "{text}"
+        );
+    }
+    for (text, want) in REWRITTEN {
+        let bytes = bytes_of(alloc, text)?;
+        let wanted = bytes_of(alloc, want)?;
+        assert_eq!(rt;
+            rewritten(alloc, bytes.as_slice(), 1440)?.as_slice(),
+            wanted.as_slice(),
+            "{text}"
+        );
+    }
     Ok(())
 }

@@ -36,6 +36,16 @@ fault_of before Dot = if length (last_label (labels_spelled before)) == 0 then S
 fault_of before (Byte byte) = too_long (labels_spelled (before ++ Byte byte ∷ []))
 fault_of before Bad = Some BadEscape
 
+-- an item behind any that spell these labels has no fault, and leads to those
+abbrev pub Takes : List (List ℕ) → TextItem → List (List ℕ) → Type 0
+Takes labels item more =
+    (before : List TextItem) → labels_spelled before ≡ labels
+    → (fault_of before item ≡ None) × (labels_spelled (before ++ item ∷ []) ≡ more)
+
+-- an item behind any that spell these labels has this fault
+abbrev pub Refuses : List (List ℕ) → TextItem → NameError → Type 0
+Refuses labels item fault = (before : List TextItem) → labels_spelled before ≡ labels → fault_of before item ≡ Some fault
+
 -- the first fault of items that stand behind others
 unfoldable pub first_fault : List TextItem → List TextItem → Option NameError
 first_fault before [] = None

@@ -1,8 +1,7 @@
-ghost use Rattle.std.specs.Prelude.{◌≡◌, ◌↔◌, ◌⊎◌, ◌<◌, ℕ, IsTrue, IfOk, List, [], ◌∷◌, ◌++◌, length, filter, nat_lt, Some, None, Ok, Err, OnOk, IfErr};
+ghost use Rattle.std.specs.Prelude.{◌≡◌, ◌↔◌, ◌⊎◌, ℕ, IsTrue, List, [], ◌∷◌, ◌++◌, length, filter, nat_lt, Ok, Err, OnOk, IfOk, IfErr};
 ghost use Rattle.std.specs.Option.{option_map_or};
-ghost use Rattle.dns_name.specs.declared.items.TextItem.{TextItem};
 ghost use Rattle.dns_name.specs.TextItems.{items_of};
-ghost use Rattle.dns_name.specs.ReadName.{labels_spelled, fault_of, first_fault, name_spelled, read_name, HasItemsOf, IsSpelling};
+ghost use Rattle.dns_name.specs.ReadName.{Takes, Refuses, first_fault, name_spelled, read_name, HasItemsOf, IsSpelling};
 ghost use Rattle.dns_name.specs.Names.{is_name};
 
 use crate::{Name, NameError, TextItem, TextItems};
@@ -71,9 +70,8 @@ impl Reading {
 
     // Takes an item behind those that spelled the labels so far.
     fn take(&mut self, item: TextItem) -> Result<(), NameError>
-        ensures ok { OnOk result ((before : List TextItem) → labels_spelled before ≡ self.old
-            → (fault_of before item ≡ None) × (labels_spelled (before ++ item ∷ []) ≡ self.new)) }
-        ensures err { IfErr result (λ fault. (before : List TextItem) → labels_spelled before ≡ self.old → fault_of before item ≡ Some fault) }
+        ensures ok { OnOk result (Takes self.old item self.new) }
+        ensures err { IfErr result (Refuses self.old item) }
     {
         match item {
             TextItem::Dot => self.take_dot(),
@@ -83,9 +81,8 @@ impl Reading {
     }
 
     fn take_dot(&mut self) -> Result<(), NameError>
-        ensures ok { OnOk result ((before : List TextItem) → labels_spelled before ≡ self.old
-            → (fault_of before TextItem.Dot ≡ None) × (labels_spelled (before ++ TextItem.Dot ∷ []) ≡ self.new)) }
-        ensures err { IfErr result (λ fault. (before : List TextItem) → labels_spelled before ≡ self.old → fault_of before TextItem.Dot ≡ Some fault) }
+        ensures ok { OnOk result (Takes self.old TextItem.Dot self.new) }
+        ensures err { IfErr result (Refuses self.old TextItem.Dot) }
     {
         if self.label.is_empty() {
             return Err(NameError::EmptyLabel);
@@ -96,9 +93,8 @@ impl Reading {
     }
 
     fn take_byte(&mut self, byte: u8) -> Result<(), NameError>
-        ensures ok { OnOk result ((before : List TextItem) → labels_spelled before ≡ self.old
-            → (fault_of before (TextItem.Byte byte) ≡ None) × (labels_spelled (before ++ (TextItem.Byte byte) ∷ []) ≡ self.new)) }
-        ensures err { IfErr result (λ fault. (before : List TextItem) → labels_spelled before ≡ self.old → fault_of before (TextItem.Byte byte) ≡ Some fault) }
+        ensures ok { OnOk result (Takes self.old (TextItem.Byte byte) self.new) }
+        ensures err { IfErr result (Refuses self.old (TextItem.Byte byte)) }
     {
         if self.label.is_full() {
             return Err(NameError::LongLabel);

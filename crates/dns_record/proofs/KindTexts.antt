@@ -18,8 +18,21 @@ unnamed : (k : ℕ) → (k ≡ 1 → ⊥) → (k ≡ 2 → ⊥) → (k ≡ 5 →
     → (k ≡ 28 → ⊥) → (k ≡ 33 → ⊥) → (k ≡ 41 → ⊥) → (k ≡ 47 → ⊥) → (k ≡ 255 → ⊥) → kind_name k ≡ None
 unfolding kind_name
 unnamed k a b c d e f g h i j l m n =
-    rw (ne_eqb k 1 a, ne_eqb k 2 b, ne_eqb k 5 c, ne_eqb k 6 d, ne_eqb k 12 e, ne_eqb k 13 f, ne_eqb k 15 g, ne_eqb k 16 h,
-      ne_eqb k 28 i, ne_eqb k 33 j, ne_eqb k 41 l, ne_eqb k 47 m, ne_eqb k 255 n) refl
+    rw (
+      ne_eqb k 1 a,
+      ne_eqb k 2 b,
+      ne_eqb k 5 c,
+      ne_eqb k 6 d,
+      ne_eqb k 12 e,
+      ne_eqb k 13 f,
+      ne_eqb k 15 g,
+      ne_eqb k 16 h,
+      ne_eqb k 28 i,
+      ne_eqb k 33 j,
+      ne_eqb k 41 l,
+      ne_eqb k 47 m,
+      ne_eqb k 255 n,
+    ) refl
 
 -- a type is one of those that have a name, or has none
 pub kind_cases : (P : ℕ → Type 0) → P 1 → P 2 → P 5 → P 6 → P 12 → P 13 → P 15 → P 16 → P 28 → P 33 → P 41 → P 47 → P 255
@@ -97,15 +110,17 @@ number_found text n e = option_and_then_some _ _ _ e (λ m em h. at_prefix (byte
     at_name : (m : ℕ) (o : Option (List ℕ)) → kind_name m ≡ o → cond (is_some o) None (Some m) ≡ Some n → (kind_name n ≡ None) × (m ≡ n)
     at_name m (Some name) en h = absurd (cc)
     at_name m None en h = let same : m ≡ n = cc in (ap kind_name (sym same) ∙ en, same)
+
     at_prefix : (t : Bool) → bytes_eq (take 4 text) (codes "TYPE") ≡ t → (m : ℕ) → cond t (decimal_below (2 ^ 16) (drop 4 text)) None ≡ Some m
         → cond (is_some (kind_name m)) None (Some m) ≡ Some n → (n < 2 ^ 16) × (text ≡ kind_text n)
     at_prefix false et m em h = absurd (cc)
     at_prefix true et m em h =
         let front : take 4 text ≡ codes "TYPE" = (bytes_eq-Decides (take 4 text) (codes "TYPE")).0 et in
         let d = decimal_below_exact (2 ^ 16) (drop 4 text) (Some m) (omega arith) (sym em) in
-        let named = at_name m (kind_name m) refl h in
-        (subst (λ (k : ℕ). k < 2 ^ 16) named.1 d.0,
-        sym (take-append-drop 4 text) ∙ (λ i. front i ++ d.1 i) ∙ ap (λ (k : ℕ). codes "TYPE" ++ decimal k) named.1 ∙ sym (shown n named.0))
+        let named = at_name m (kind_name m) refl h in (
+          subst (λ (k : ℕ). k < 2 ^ 16) named.1 d.0,
+          sym (take-append-drop 4 text) ∙ (λ i. front i ++ d.1 i) ∙ ap (λ (k : ℕ). codes "TYPE" ++ decimal k) named.1 ∙ sym (shown n named.0),
+        )
 
 -- a type is read exactly from what it is written as
 pub kind_exact : (text : List ℕ) (r : Option ℕ) → r ≡ kind_read text → IsReadFrom kind_text (2 ^ 16) text r

@@ -51,6 +51,7 @@ after_name-parts bytes more e = at_tests (is_name (labels_of bytes)) (bytes_eq (
   where
     rest : List ℕ
     rest = drop (length (wire_of (labels_of bytes))) bytes
+
     at_tests : (t u : Bool) → is_name (labels_of bytes) ≡ t → bytes_eq (wire_of (labels_of bytes) ++ rest) bytes ≡ u → cond (t && u) (Some rest) None ≡ Some more
         → IsTrue (is_name (labels_of bytes)) × (bytes ≡ wire_of (labels_of bytes) ++ more)
     at_tests false u et eu e = absurd (cc)
@@ -71,7 +72,7 @@ one_more bytes after size so_far some most within room =
       labels = labels ++ label ∷ [];
       each = list_all-append is_label labels (label ∷ []) ∙ and_true (list_all is_label labels) (is_label label && true) so_far.each (and_true (is_label label) true (label_is label (omega arith) (omega arith)) refl);
       parts = so_far.parts ∙ ap (λ (l : List ℕ). front_of labels ++ size ∷ l) (sym (take-append-drop size after)) ∙ regrouped (front_of labels) label (drop size after) size n
-        ∙ ap (λ (l : List ℕ). l ++ drop size after) (sym pushed);
+          ∙ ap (λ (l : List ℕ). l ++ drop size after) (sym pushed);
       short = omega (arith, ap length pushed, length-append (front_of labels) (length label ∷ label));
     }
   where
@@ -148,6 +149,7 @@ no_label bytes after size so_far some bad = no_name bytes (size ∷ after) so_fa
   where
     whole : length bytes ≡ length (front_of so_far.labels) + length after + 1
     whole = omega (arith, ap length so_far.parts, length-append (front_of so_far.labels) (size ∷ after))
+
     refuse : (later : List (List ℕ)) (more : List ℕ) → list_all is_label later ≡ true → size ∷ after ≡ wire_of later ++ more → length (front_of so_far.labels) + length (wire_of later) ≤ 255 → ⊥
     refuse [] more each e room = some (list_head size 0 after more e)
     refuse (label ∷ later) more each e room =

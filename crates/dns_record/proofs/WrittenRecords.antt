@@ -27,9 +27,11 @@ byte_lacks b = at_tests (eqb b 46 || eqb b 92) (leb b 32 || leb 127 b) refl refl
     mark true u h et eu = ne_eqb b 32 (λ e. omega (arith, eqb-true b 46 et))
     mark false true h et eu = ne_eqb b 32 (λ e. omega (arith, eqb-true b 92 eu))
     mark false false h et eu = absurd (false≢true h)
+
     high : (t u : Bool) → (t || u) ≡ false → leb b 32 ≡ t → eqb b 32 ≡ false
     high true u h et = absurd (false≢true (sym h))
     high false u h et = ne_eqb b 32 (λ e. omega (arith, leb-false b 32 et))
+
     at_tests : (t u : Bool) → (eqb b 46 || eqb b 92) ≡ t → (leb b 32 || leb 127 b) ≡ u → lacks 32 (cond t (92 ∷ b ∷ []) (cond u (92 ∷ three_digits b) (b ∷ []))) ≡ false
     at_tests true u et eu = rw (mark (eqb b 46) (eqb b 92) et refl refl) refl
     at_tests false true et eu = rw (ne_eqb (48 + b / 100) 32 (λ e. omega arith), ne_eqb (48 + b / 10 % 10) 32 (λ e. omega arith), ne_eqb (48 + b % 10) 32 (λ e. omega arith)) refl

@@ -1,5 +1,6 @@
 // When two records are the same, their order, and which records a question asks for.
 ghost use Rattle.std.specs.Prelude.{◌≡◌, ◌↔◌, ◌++◌, ◌≤◌, length, IsTrue};
+ghost use Rattle.std.specs.Int.{to_be_bytes, w32};
 ghost use Rattle.std.specs.Ordering.{nat_cmp};
 ghost use Rattle.std.specs.Cmp.Lexicographic.{slice_cmp};
 ghost use Rattle.dns_record.specs.Records.{data_of, data_eq, identity_of, same, record_cmp, rdata_cmp, matches};
@@ -65,12 +66,25 @@ impl Rdata {
         }
     }
 
-    // The order of the bytes of data.
+    // The order of the bytes of data. The most common pairs go without their parts.
     fn data_cmp(&self, other: &Rdata) -> Ordering
         ensures { result ≡ slice_cmp nat_cmp (data_of self.now) (data_of other.now) }
     {
-        order_of(&self.parts(), &other.parts())
+        match (self, other) {
+            (Rdata::A(left), Rdata::A(right)) => address_cmp(*left, *right),
+            (Rdata::Ptr(left), Rdata::Ptr(right)) => left.as_wire().cmp(right.as_wire()),
+            (Rdata::Txt(left), Rdata::Txt(right)) => left.as_slice().cmp(right.as_slice()),
+            _ => order_of(&self.parts(), &other.parts()),
+        }
     }
+}
+
+// Addresses go by their bytes, which is by their numbers.
+#[tactic(auto, using(crate::proofs::AddressOrder::address_order))]
+fn address_cmp(left: u32, right: u32) -> Ordering
+    ensures { result ≡ slice_cmp nat_cmp (to_be_bytes w32 left) (to_be_bytes w32 right) }
+{
+    left.cmp(&right)
 }
 
 fn order_of(left: &Parts<'_>, right: &Parts<'_>) -> Ordering

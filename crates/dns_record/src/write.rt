@@ -145,7 +145,13 @@ pub fn put_rdata(out: &mut Vec<u8>, rdata: &Rdata) -> Result<(), AllocError>
 }
 
 #[tactic(auto, using(crate::proofs::WrittenRecords::srv_written))]
-fn put_srv(out: &mut Vec<u8>, priority: u16, weight: u16, port: u16, target: &Name) -> Result<(), AllocError>
+fn put_srv(
+    out: &mut Vec<u8>,
+    priority: u16,
+    weight: u16,
+    port: u16,
+    target: &Name,
+) -> Result<(), AllocError>
     ensures text { OnOk result (out.new.items ≡ out.old.items ++ srv_text priority weight port target.now) }
     ensures read { OnOk result (srv_read (srv_text priority weight port target.now) ≡ Some (Rdata.Srv priority weight port target.now)) }
 {

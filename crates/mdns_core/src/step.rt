@@ -337,12 +337,7 @@ fn give(given: &mut Gifts, item: Item) -> Result<(), AllocError>
     Ok(())
 }
 
-fn give_removed(
-    given: &mut Gifts,
-    op: u32,
-    before: &[u32],
-    after: &[u32],
-) -> Result<(), AllocError>
+fn give_removed(given: &mut Gifts, op: u32, before: &[u32], after: &[u32]) -> Result<(), AllocError>
     ensures { OnOk result (given.new ≡ given.old ++ map to_session (map (removed op) (filter (λ a. not (has after.now a)) before.now))) }
 {
     for address in before {
@@ -354,12 +349,7 @@ fn give_removed(
     Ok(())
 }
 
-fn give_added(
-    given: &mut Gifts,
-    op: u32,
-    before: &[u32],
-    after: &[u32],
-) -> Result<(), AllocError>
+fn give_added(given: &mut Gifts, op: u32, before: &[u32], after: &[u32]) -> Result<(), AllocError>
     ensures { OnOk result (given.new ≡ given.old ++ map to_session (map (added op) (filter (λ a. not (has before.now a)) after.now))) }
 {
     for address in after {

@@ -1,9 +1,8 @@
 -- Requests, answers and items as text: they stand in a line, and tell what they are the text of.
-use Rattle.std.proofs.Common.{◌≡◌, ℕ, ℤ, ◌+◌, ◌*◌, ◌^◌, ◌<◌, Bool, true, false, cond, ◌&&◌, eqb, List, [], ◌∷◌, ◌++◌, Option, Some, None, refl, ap, sym, ◌∙◌, arith, codes, append_assoc, drop}
+use Rattle.std.proofs.Common.{◌≡◌, ℕ, ℤ, ◌+◌, ◌^◌, ◌<◌, Bool, true, false, cond, ◌&&◌, eqb, List, [], ◌∷◌, ◌++◌, Option, Some, None, refl, ap, sym, ◌∙◌, arith, codes, append_assoc, drop}
 use Rattle.std.specs.Prelude.{decimal}
 use Rattle.std.specs.Char.{is_ascii_digit}
 use Rattle.std.specs.Fmt.{signed_decimal}
-use Rattle.std.specs.List.{list_all}
 use Rattle.std.specs.Str.{bytes_eq}
 use Rattle.std.proofs.lemmas.Bool.{eqb-true}
 use Rattle.std.proofs.lemmas.Slice.Eq.{bytes_eq-Decides}
@@ -26,9 +25,9 @@ use Rattle.sd_call.specs.declared.item.Item.{Item}
 use Rattle.sd_call.specs.declared.item.Item.TheVariants.{Reply, Add, Remove}
 use Rattle.sd_call.specs.CallText.{label_token, type_token, families_text, norename_text, request_text, answer_text, verb_text, item_text}
 use Rattle.mdns_history.specs.Typed.{is_signed, is_text, is_typed_request, is_typed_answer, is_typed_item}
-use Rattle.mdns_history.proofs.Texts.{are_seen, in_line, both, and_true, line_joined, seen_line, apart, lead}
+use Rattle.mdns_history.proofs.Texts.{are_seen, in_line, both, line_joined, seen_line, apart, lead}
 use Rattle.mdns_history.proofs.TokenTexts.{below, decimal_seen, decimal_told, decimal_no_word, signed_seen, signed_told, hex_seen, hex_told, label_token_seen, label_token_told, type_token_seen, type_token_told, name_seen, name_told}
-use Rattle.mdns_history.proofs.RecordTexts.{kind_seen, kind_told, data_told, data_line, kind_small, srv_line, number_line, three, four}
+use Rattle.mdns_history.proofs.RecordTexts.{kind_seen, kind_told, data_told, data_line, kind_small, srv_line, number_line, four}
 
 -- the test of a number's size, with what it says of a decimal
 pub number_seen : (bits n : ℕ) → is_below bits n ≡ true → 2 ^ bits < 2 ^ 64 + 1 → are_seen (decimal n) ≡ true

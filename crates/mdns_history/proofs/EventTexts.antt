@@ -1,8 +1,6 @@
 -- Events, marks and outcomes as text: they stand in a line, and tell what they are the text of.
-use Rattle.std.proofs.Common.{◌≡◌, ℕ, ℤ, ◌+◌, ◌*◌, ◌^◌, ◌<◌, Bool, true, false, cond, ◌&&◌, eqb, List, [], ◌∷◌, ◌++◌, length, Option, Some, None, refl, ap, sym, ◌∙◌, arith, codes, append_assoc, drop}
+use Rattle.std.proofs.Common.{◌≡◌, ℕ, true, List, ◌∷◌, ◌++◌, Option, Some, None, refl, ap, sym, ◌∙◌, arith, codes, append_assoc, drop}
 use Rattle.std.specs.Prelude.{decimal}
-use Rattle.std.specs.Fmt.{signed_decimal}
-use Rattle.std.specs.List.{list_all, flat_map}
 use Rattle.mdns_base.specs.Digits.{hex_text, ipv4_text, ipv6_text}
 use Rattle.mdns_base.specs.declared.host.Host.{Host}
 use Rattle.mdns_base.specs.declared.host.Dest.{Dest}
@@ -11,10 +9,8 @@ use Rattle.dns_name.specs.Names.{is_label}
 use Rattle.dns_name.specs.NameText.{name_text}
 use Rattle.dns_record.specs.RecordText.{space, kind_text}
 use Rattle.dns_message.specs.Writing.{is_below, are_bytes, is_spellable_name}
-use Rattle.sd_call.specs.declared.item.Item.{Item}
 use Rattle.sd_call.specs.declared.request.Request.{Request}
-use Rattle.sd_call.specs.CallText.{label_token, request_text, item_text}
-use Rattle.mdns_history.specs.declared.config.Config.{Config}
+use Rattle.sd_call.specs.CallText.{label_token, request_text}
 use Rattle.mdns_history.specs.declared.config.HostConfig.{HostConfig}
 use Rattle.mdns_history.specs.declared.event.Event.{Event}
 use Rattle.mdns_history.specs.declared.event.Event.TheVariants as event
@@ -24,7 +20,7 @@ use Rattle.mdns_history.specs.declared.mark.Mark.{Mark}
 use Rattle.mdns_history.specs.declared.mark.Mark.TheVariants as mark
 use Rattle.mdns_history.specs.EntryText.{v6_text, host_text, from_text, event_text, cause_text, mark_text, dest_text}
 use Rattle.mdns_history.specs.Typed.{is_typed_host, is_typed_dest, is_typed_v6, is_typed_label, is_typed_event, is_typed_mark, is_typed_request}
-use Rattle.mdns_history.proofs.Texts.{are_seen, in_line, both, and_true, line_joined, seen_line, apart, EndsToken, lead}
+use Rattle.mdns_history.proofs.Texts.{are_seen, in_line, both, line_joined, seen_line, apart, EndsToken, lead}
 use Rattle.mdns_history.proofs.TokenTexts.{below, hex_seen, hex_told, ipv4_seen, ipv4_told, ipv6_seen, ipv6_told, label_token_seen, label_token_told, name_seen, name_told}
 use Rattle.mdns_history.proofs.RecordTexts.{kind_seen, kind_told, number_line, three}
 use Rattle.mdns_history.proofs.CallTexts.{number_seen, number_told, words, request_line, request_told}

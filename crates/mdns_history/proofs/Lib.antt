@@ -12,6 +12,8 @@ pub mod TokenTexts
 pub mod RecordTexts
 pub mod CallTexts
 pub mod EventTexts
+pub mod SentTexts
+pub mod EntryTexts
 mod Determined
 mod GoodCalls
 mod Stages

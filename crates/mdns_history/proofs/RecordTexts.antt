@@ -1,5 +1,5 @@
 -- Types, data and records as text: they stand in a line, and tell what they are the text of.
-use Rattle.std.proofs.Common.{◌≡◌, ℕ, ◌+◌, ◌*◌, ◌^◌, ◌<◌, Bool, true, false, ◌&&◌, List, [], ◌∷◌, ◌++◌, Option, Some, None, refl, ap, sym, ◌∙◌, arith, codes, append_assoc}
+use Rattle.std.proofs.Common.{◌≡◌, ℕ, ◌+◌, ◌^◌, ◌<◌, Bool, true, false, ◌&&◌, List, ◌++◌, Option, Some, refl, ap, sym, ◌∙◌, arith, codes}
 use Rattle.std.specs.Prelude.{decimal}
 use Rattle.std.specs.Option.{unwrap_or}
 use Rattle.std.specs.List.{list_all}
@@ -20,7 +20,7 @@ use Rattle.dns_record.specs.declared.record.Rr.{Rr}
 use Rattle.dns_record.proofs.KindTexts.{kind_cases, kind_written}
 use Rattle.dns_record.proofs.WrittenRecords.{IsReadBack, srv_written, back_A, back_Aaaa, back_Ptr, back_Cname, back_Srv, back_Txt, back_Nsec, back_Raw, record_written}
 use Rattle.dns_message.specs.Writing.{is_below, are_bytes, is_spellable_name, is_spellable_data, is_spellable_record}
-use Rattle.mdns_history.proofs.Texts.{are_seen, in_line, both, and_true, seen_joined, line_joined, seen_line}
+use Rattle.mdns_history.proofs.Texts.{are_seen, in_line, both, line_joined, seen_line}
 use Rattle.mdns_history.proofs.TokenTexts.{below, decimal_seen, bytes_are, hex_seen, ipv4_seen, ipv6_seen, name_seen}
 
 some_same : {X : Type 0} (x y : X) → Some x ≡ Some y → x ≡ y

@@ -1,5 +1,5 @@
 -- Texts that are told apart: tokens before a space or a line's end, lines before a line feed, and runs of lines before another line.
-use Rattle.std.proofs.Common.{◌≡◌, ℕ, ◌*◌, ◌+◌, Bool, true, false, cond, not, ◌&&◌, eqb, ltb, List, [], ◌∷◌, ◌++◌, refl, ap, sym, ◌∙◌, append_assoc}
+use Rattle.std.proofs.Common.{◌≡◌, ℕ, ◌*◌, ◌+◌, Bool, true, false, cond, ◌&&◌, eqb, ltb, List, [], ◌∷◌, ◌++◌, refl, ap, sym, ◌∙◌, append_assoc}
 use Rattle.std.specs.List.{list_all, flat_map}
 use Rattle.std.proofs.Common.{arith}
 use Rattle.std.proofs.lemmas.Bool.Decides.{nat_tests}
@@ -90,11 +90,15 @@ lead_from n (b ∷ t) = let rest = lead_from (n * 256 + b) t in cond (ltb 32 b) 
 abbrev pub lead : List ℕ → ℕ
 lead text = lead_from 0 text
 
+-- the first byte, if there is one
+abbrev pub first : List ℕ → ℕ
+first [] = 0
+first (b ∷ x) = b
+
 -- the byte behind the space with which a line begins, 0 where it begins otherwise
 abbrev pub sign : List ℕ → ℕ
 sign [] = 0
-sign (b ∷ []) = 0
-sign (b ∷ c ∷ x) = cond (eqb b 32) c 0
+sign (b ∷ x) = cond (eqb b 32) (first x) 0
 
 -- the third byte of a line
 abbrev pub third : List ℕ → ℕ

@@ -1,5 +1,5 @@
 -- Numbers, bytes, addresses, labels and names as text: they can be seen, and tell what they are the text of.
-use Rattle.std.proofs.Common.{◌≡◌, ℕ, zero, suc, ℤ, pos, negsuc, ◌+◌, ◌-◌, ◌*◌, ◌/◌, ◌%◌, ◌^◌, ◌<◌, Bool, true, false, cond, ◌&&◌, ◌||◌, eqb, ltb, leb, List, [], ◌∷◌, ◌++◌, Option, Some, None, Result, Ok, Err, refl, ap, sym, ◌∙◌, inl, inr, arith, rules, append_assoc}
+use Rattle.std.proofs.Common.{◌≡◌, ℕ, zero, suc, ℤ, pos, negsuc, ◌+◌, ◌-◌, ◌*◌, ◌/◌, ◌%◌, ◌^◌, ◌<◌, Bool, true, false, cond, ◌&&◌, ◌||◌, eqb, ltb, leb, List, [], ◌∷◌, ◌++◌, Some, refl, ap, sym, ◌∙◌, inl, inr, arith, rules}
 use Rattle.std.specs.Prelude.{decimal, slice_index}
 use Rattle.std.specs.Char.{is_ascii_digit}
 use Rattle.std.specs.Fmt.{signed_decimal}
@@ -26,9 +26,9 @@ use Rattle.dns_name.specs.declared.items.TextItem.TheVariants.{Dot, Byte, Bad}
 use Rattle.dns_name.proofs.ReadBack.{items_of-byte, read_name-name_text}
 use Rattle.dns_name.proofs.Spelling.{items_of-next, items_of-none}
 use Rattle.dns_message.specs.Writing.{is_below, are_bytes, is_spellable_name}
-use Rattle.sd_call.specs.CallText.{label_token, type_byte, type_token, families_text}
-use Rattle.mdns_history.specs.Typed.{is_signed, is_text}
-use Rattle.mdns_history.proofs.Texts.{are_seen, both, and_true, seen_joined, all_flat}
+use Rattle.sd_call.specs.CallText.{label_token, type_byte, type_token}
+use Rattle.mdns_history.specs.Typed.{is_signed}
+use Rattle.mdns_history.proofs.Texts.{are_seen, both, and_true, seen_joined}
 
 -- what a test of size says
 pub below : (bits n : ℕ) → is_below bits n ≡ true → n < 2 ^ bits

@@ -1,5 +1,5 @@
 -- What the types of the code allow, said of numbers and lists that could be any, and which entries their texts tell apart.
-use Rattle.std.specs.Prelude.{◌≡◌, ℕ, ℤ, pos, negsuc, ◌^◌, ◌==◌, nat_lt, nat_le, Bool, true, not, ◌&&◌, List, [], ◌∷◌, ◌++◌, length, Option, Some, None, if◌then◌else◌}
+use Rattle.std.specs.Prelude.{◌≡◌, ℕ, ℤ, pos, negsuc, ◌==◌, nat_le, Bool, true, not, ◌&&◌, List, length, Option, Some, None, if◌then◌else◌}
 use Rattle.std.specs.List.{list_all, flat_map}
 use Rattle.mdns_base.specs.declared.host.Host.{Host}
 use Rattle.mdns_base.specs.declared.host.Dest.{Dest}
@@ -13,7 +13,6 @@ use Rattle.sd_call.specs.declared.answer.Answer.{Answer}
 use Rattle.sd_call.specs.declared.answer.Answer.TheVariants.{Datum, Found, Resolved, Named, Conflict}
 use Rattle.sd_call.specs.declared.item.Item.{Item}
 use Rattle.sd_call.specs.declared.item.Item.TheVariants.{Reply, Add, Remove}
-use Rattle.mdns_history.specs.declared.config.Config.{Config}
 use Rattle.mdns_history.specs.declared.config.HostConfig.{HostConfig}
 use Rattle.mdns_history.specs.declared.event.Event.{Event}
 use Rattle.mdns_history.specs.declared.event.Event.TheVariants as event

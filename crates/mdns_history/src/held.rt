@@ -1,11 +1,31 @@
 // Records that are kept.
-use dns_record::Rr;
+ghost use Rattle.std.specs.Prelude.{◌≡◌, IfOk};
 
-/// A heard record that is live until its end: the moments of its last hearing and of its end in ms, and the random word of that hearing.
+use dns_record::Rr;
+use std::alloc::{AllocError, Global};
+
+/// A heard record that is live until its end, in ms, as its last hearing spells it. (RFC 6762 10)
 #[derive(Drop)]
 pub struct Held {
     pub rr: Rr,
+    /// The moment of its last hearing with a TTL above 0, in ms.
     pub heard: u64,
+    /// The random word of that hearing.
     pub word: u32,
+    /// The moment from which on it is no longer live, in ms.
     pub end: u64,
+}
+
+impl Held {
+    /// An equal record. Refused only for want of memory.
+    pub fn copy(&self, alloc: Global) -> Result<Held, AllocError>
+        ensures { IfOk result (λ copy. copy ≡ self.now) }
+    {
+        Ok(Held {
+            rr: self.rr.copy(alloc)?,
+            heard: self.heard,
+            word: self.word,
+            end: self.end,
+        })
+    }
 }

@@ -16,9 +16,17 @@ most_bytes = 67108864
 abbrev pub ReadAll : Option (List ℕ) → Option (List ℕ) → (List ℕ → Type 0) → Type 0
 ReadAll old new P = (script : List ℕ) → old ≡ Some script → (length script ≤ most_bytes) × (new ≡ Some []) × P script
 
--- More than 67,108,864 bytes were taken.
+-- a first part of the script was taken, where the source tells it, and its length passes a test
+abbrev pub Took : Option (List ℕ) → Option (List ℕ) → (ℕ → Type 0) → Type 0
+Took old new IsLength = (script : List ℕ) → old ≡ Some script → (taken : List ℕ) × (rest : List ℕ) × (script ≡ taken ++ rest) × (new ≡ Some rest) × IsLength (length taken)
+
+-- More bytes were taken than a script may have.
 abbrev pub IsTooLarge : Option (List ℕ) → Option (List ℕ) → Type 0
-IsTooLarge old new = (script : List ℕ) → old ≡ Some script → (taken : List ℕ) × (rest : List ℕ) × (script ≡ taken ++ rest) × (new ≡ Some rest) × (most_bytes < length taken)
+IsTooLarge old new = Took old new (λ count. most_bytes < count)
+
+-- No more bytes were taken than a script may have.
+abbrev pub IsWithin : Option (List ℕ) → Option (List ℕ) → Type 0
+IsWithin old new = Took old new (λ count. count ≤ most_bytes)
 
 -- The whole script was played, the sink gained its transcript, and at each moment the items replay to the answers.
 pub record PlaysScript (script : List ℕ) (old new : Option (List ℕ)) : Type 0 where

@@ -1,7 +1,7 @@
 // The input, read whole.
 ghost use Rattle.std.specs.Prelude.{◌≡◌, ◌≤◌, [], Some, Err, IfOk, length};
 ghost use Rattle.mdns_base.specs.Outside.{Rose};
-ghost use Rattle.mdnsd.specs.Statuses.{ReadAll, IsTooLarge};
+ghost use Rattle.mdnsd.specs.Statuses.{ReadAll, IsTooLarge, IsWithin};
 
 use mdns_base::Source;
 use std::alloc::Global;
@@ -26,7 +26,8 @@ pub fn read_all<S: Source>(alloc: Global, input: &mut S) -> Result<Vec<u8>, Read
     ensures all { IfOk result (λ all.
         ReadAll (S.left input.old) (S.left input.new) (λ script. all.items ≡ script)) }
     ensures large { result ≡ Err ReadError.TooLarge → IsTooLarge (S.left input.old) (S.left input.new) }
-    ensures fault { result ≡ Err ReadError.Fault → Rose (S.faults input.old) (S.faults input.new) }
+    ensures fault { result ≡ Err ReadError.Fault → Rose (S.faults input.old) (S.faults input.new)
+        × IsWithin (S.left input.old) (S.left input.new) }
 {
     let mut all = Vec::new(alloc);
     let mut buffer = [0u8; 4096];

@@ -6,7 +6,7 @@ ghost use Rattle.mdns_script.specs.Lines.{line_of};
 ghost use Rattle.mdns_hub.specs.Played.{Played};
 ghost use Rattle.mdns_hub.specs.Hubs.{StandsFor, BreaksIn};
 ghost use Rattle.mdnsd.specs.Scripts.{note_text, IsNotYet};
-ghost use Rattle.mdnsd.specs.Statuses.{ReadAll, IsTooLarge, PlaysScript, Stops, IsBadLine, IsNotYetLine, BreaksOff, PlaysPartOfLine, IsScriptStatus};
+ghost use Rattle.mdnsd.specs.Statuses.{ReadAll, IsTooLarge, IsWithin, PlaysScript, Stops, IsBadLine, IsNotYetLine, BreaksOff, PlaysPartOfLine, IsScriptStatus};
 ghost use Rattle.mdnsd.specs.Lines.{RanLine, StopsAt, BreaksAt, IsFault};
 
 use crate::input::{ReadError, read_all};
@@ -33,7 +33,8 @@ pub fn run_script<S: Source, K: Sink>(alloc: Global, input: &mut S, output: &mut
     ensures not_yet { result ≡ 7 → ReadAll (S.left input.old) (S.left input.new)
         (λ script. Stops script (codes "not yet line ") IsNotYetLine (K.held output.old) (K.held output.new)) }
 
-    ensures read { result ≡ 4 → Rose (S.faults input.old) (S.faults input.new) × (output.new ≡ output.old) }
+    ensures read { result ≡ 4 → Rose (S.faults input.old) (S.faults input.new)
+        × IsWithin (S.left input.old) (S.left input.new) × (output.new ≡ output.old) }
     ensures large { result ≡ 8 → IsTooLarge (S.left input.old) (S.left input.new) × (output.new ≡ output.old) }
 
     // The output is then a beginning of what was to be printed.

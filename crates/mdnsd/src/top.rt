@@ -2,7 +2,7 @@
 ghost use Rattle.std.specs.Prelude.{◌≡◌, ◌⊎◌, ◌≢◌, ◌↔◌, [], ◌∷◌, codes, map, true};
 ghost use Rattle.std.specs.String.{string_bytes};
 ghost use Rattle.mdns_base.specs.Outside.{Rose};
-ghost use Rattle.mdnsd.specs.Statuses.{Stops, IsBadLine, IsNotYetLine, PlaysScript, BreaksOff, ReadAll, IsTooLarge, IsScriptStatus};
+ghost use Rattle.mdnsd.specs.Statuses.{Stops, IsBadLine, IsNotYetLine, PlaysScript, BreaksOff, ReadAll, IsTooLarge, IsWithin, IsScriptStatus};
 
 use crate::script::run_script;
 use crate::stop::USAGE;
@@ -33,7 +33,8 @@ pub fn mdnsd<R: Wait + Copy + Send + 'static, S: Source, K: Sink, P: Place>(
     ensures not_yet { result ≡ 7 → ReadAll (S.left input.old) (S.left input.new)
         (λ script. Stops script (codes "not yet line ") IsNotYetLine (K.held output.old) (K.held output.new)) }
 
-    ensures read { result ≡ 4 → Rose (S.faults input.old) (S.faults input.new) × (output.new ≡ output.old) }
+    ensures read { result ≡ 4 → Rose (S.faults input.old) (S.faults input.new)
+        × IsWithin (S.left input.old) (S.left input.new) × (output.new ≡ output.old) }
     ensures large { result ≡ 8 → IsTooLarge (S.left input.old) (S.left input.new) × (output.new ≡ output.old) }
 
     // The output is then a beginning of what was to be printed.

@@ -1,4 +1,4 @@
-ghost use Rattle.std.specs.Prelude.{◌≡◌, ◌==◌, ◌<◌, ◌≤◌, ◌++◌, true, Some, None, if◌then◌else◌, length, option_map, slice_get, codes, IfSome, MatchOption, IfOk, OnErr};
+ghost use Rattle.std.specs.Prelude.{◌≡◌, ◌==◌, ◌<◌, ◌≤◌, if◌then◌else◌, length, option_map, slice_get, IfSome, MatchOption, IfOk, OnErr};
 ghost use Rattle.std.specs.List.{slice_split};
 ghost use Rattle.std.specs.Option.{option_copied};
 ghost use Rattle.dns_name.specs.Names.{wire_of};
@@ -84,6 +84,14 @@ impl RegType {
         ensures short { length (wire_of result) ≤ 29 }
     {
         self.type_name.copy()
+    }
+
+    /// How many subtypes the type has, at most 16.
+    pub fn subtype_count(&self) -> usize
+        ensures count { result ≡ length self.now.subtypes }
+        ensures few { result ≤ 16 }
+    {
+        self.subtypes.len()
     }
 
     /// The subtype at a place, counted from 0 in the order written, with its underscore where it has one. `None` exactly

@@ -37,7 +37,12 @@ fn a_text_is_a_service_type_or_none(rt: HostRuntime) {
 
 fn subtypes_of(text: &str) -> Option<usize> {
     let regtype = RegType::parse(text).ok()?;
-    (0..17usize).find(|place| regtype.subtype(*place).is_none())
+    let count = regtype.subtype_count();
+    if regtype.subtype(count).is_none() {
+        Some(count)
+    } else {
+        None
+    }
 }
 
 #[test]
@@ -56,6 +61,8 @@ fn names_of_a_service_are_put_together(rt: HostRuntime) -> Result<(), Fail> {
     for (name, text) in &names {
         assert_eq!(rt; name.write_text().as_str(), *text);
     }
+    let subtype = regtype.subtype(0).ok_or("subtype")?;
+    assert_eq!(rt; subtype.as_slice(), b"_color".as_slice());
     assert!(rt; regtype.subtype_name(1).is_none());
     Ok(())
 }

@@ -1,4 +1,4 @@
-ghost use Rattle.std.specs.Prelude.{◌≡◌, ◌↔◌, nat_le, ◌≤◌, ◌++◌, ◌∷◌, length, position, option_copied, OnOk};
+ghost use Rattle.std.specs.Prelude.{◌≡◌, nat_le, ◌≤◌, ◌++◌, ◌∷◌, length, position, option_copied, OnOk};
 ghost use Rattle.std.specs.List.{list_all};
 ghost use Rattle.txt_record.specs.Strings.{txt_data};
 ghost use Rattle.txt_record.specs.Pairs.{is_equals, is_key, is_key_byte, key_of, value_of, has_key, entry_of, is_entry, entries_of, pairs_refusal};

@@ -1,4 +1,4 @@
-ghost use Rattle.std.specs.Prelude.{List, ℕ, ◌≡◌, ◌≢◌, ◌+◌, ◌≤◌, ◌↔◌, ◌++◌, [], ◌∷◌, ◌⊎◌, false, None, Some, length, nat_le, option_map, option_copied, IsTrue, IsSome, IfSome, MatchOption, IfOk, IfErr, OnOk, OnErr, is_some};
+ghost use Rattle.std.specs.Prelude.{List, ℕ, ◌≡◌, ◌≢◌, ◌+◌, ◌≤◌, ◌↔◌, ◌++◌, [], ◌∷◌, ◌⊎◌, false, length, nat_le, option_map, option_copied, IsTrue, IfSome, MatchOption, IfOk, IfErr, OnOk, OnErr, is_some};
 ghost use Rattle.std.specs.List.{list_any, find};
 ghost use Rattle.std.specs.Str.{str_eq_ignore_ascii_case};
 ghost use Rattle.txt_record.specs.Strings.{is_txt, strings_of, txt_data};
