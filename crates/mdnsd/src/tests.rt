@@ -88,7 +88,7 @@ fn faults_come_from_outside(rt: HostRuntime) -> Result<(), Fail> {
 // So many bytes `#`, which aren't held.
 #[derive(Drop)]
 struct Signs {
-    left: u64,
+    left: usize,
 }
 
 impl Source for Signs {
@@ -97,14 +97,9 @@ impl Source for Signs {
     ghost faults = { λ s. 0 };
 
     fn read(&mut self, into: &mut [u8]) -> Result<usize, Failed> {
-        let mut count = 0;
-        for byte in into.iter_mut() {
-            if self.left > 0 {
-                *byte = b'#';
-                self.left -= 1;
-                count += 1;
-            }
-        }
+        let count = into.len().min(self.left);
+        into[..count].fill(b'#');
+        self.left -= count;
         Ok(count)
     }
 }
