@@ -9,3 +9,7 @@ pub mod Chunks
 pub mod NameTurns
 pub mod Labels
 pub mod Spelled
+pub mod Standing
+pub mod LabelSteps
+pub mod Tables
+pub mod NamesAgain
