@@ -13,3 +13,5 @@ pub mod Standing
 pub mod LabelSteps
 pub mod Tables
 pub mod NamesAgain
+pub mod NamesRead
+pub mod Wide

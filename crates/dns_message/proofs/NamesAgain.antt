@@ -16,12 +16,12 @@ turns_left : (n turns : ℕ) → n < turns → (more : ℕ) × (turns ≡ suc mo
 turns_left n zero h = absurd (omega arith)
 turns_left n (suc more) h = (more, refl)
 
-spelled_end : (bytes : List ℕ) (low at : ℕ) → Stands bytes at (0 ∷ []) → IsSpelledFrom bytes low at [] (at + 1)
+pub spelled_end : (bytes : List ℕ) (low at : ℕ) → Stands bytes at (0 ∷ []) → IsSpelledFrom bytes low at [] (at + 1)
 spelled_end bytes low at s = record {
   read = λ start turns used h enough short. let t = turns_left (start + 0) turns enough in rw t.1 (end_step t.0 bytes start at used s);
 }
 
-spelled_label : (bytes : List ℕ) (low at : ℕ) (label : List ℕ) (rest : List (List ℕ)) (stop : ℕ) → Stands bytes at (length label ∷ label) → is_label label ≡ true
+pub spelled_label : (bytes : List ℕ) (low at : ℕ) (label : List ℕ) (rest : List (List ℕ)) (stop : ℕ) → Stands bytes at (length label ∷ label) → is_label label ≡ true
     → IsSpelledFrom bytes low (at + 1 + length label) rest stop → IsSpelledFrom bytes low at (label ∷ rest) stop
 spelled_label bytes low at label rest stop s l later = record {
   read = λ start turns used h enough short.
