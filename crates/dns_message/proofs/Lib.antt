@@ -15,3 +15,5 @@ pub mod Tables
 pub mod NamesAgain
 pub mod NamesRead
 pub mod Wide
+pub mod DataAgain
+pub mod RawAgain
