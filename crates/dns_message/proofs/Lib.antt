@@ -17,3 +17,5 @@ pub mod NamesRead
 pub mod Wide
 pub mod DataAgain
 pub mod RawAgain
+pub mod DataRead
+pub mod RecordSteps
