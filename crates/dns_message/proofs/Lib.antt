@@ -19,3 +19,4 @@ pub mod DataAgain
 pub mod RawAgain
 pub mod DataRead
 pub mod RecordSteps
+pub mod RecordsRead
