@@ -20,3 +20,5 @@ pub mod RawAgain
 pub mod DataRead
 pub mod RecordSteps
 pub mod RecordsRead
+pub mod HeaderAgain
+pub mod ReadAgain

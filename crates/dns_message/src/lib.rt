@@ -13,7 +13,7 @@ mod reading;
 mod sections;
 mod writing;
 
-pub use law::one_message_is_spelled;
+pub use law::{one_message_is_spelled, what_is_written_is_read_again};
 pub use lists::{Questions, Rrs};
 pub use message::{Message, MessageError, WriteError};
 pub use plain::{plain_record, read_plain};
