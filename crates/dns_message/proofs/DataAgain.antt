@@ -1,14 +1,11 @@
 -- The data of a record are read as they were written, kind by kind.
-use Rattle.std.proofs.Common.{◌≡◌, ℕ, ◌+◌, ◌-◌, ◌<◌, ◌≤◌, ◌^◌, ◌++◌, List, [], ◌∷◌, ◌∙◌, Bool, true, false, length, refl, arith, ap, sym, length-append, append_assoc, Result, Ok, eqb, leb, eq-eqb}
+use Rattle.std.proofs.Common.{◌≡◌, ℕ, ◌+◌, ◌-◌, ◌<◌, ◌^◌, ◌++◌, List, true, length, refl, arith, ap, length-append, Ok, eqb, leb, eq-eqb}
 use Rattle.std.specs.Prelude.{IsTrue}
-use Rattle.std.specs.List.{slice_range}
 use Rattle.std.specs.Int.{to_be_bytes, w16, w32, w128}
 use Rattle.std.proofs.lemmas.Bool.{le-leb}
 use Rattle.dns_name.specs.Names.{wire_of, is_name}
-use Rattle.dns_record.specs.declared.record.Rdata.{Rdata}
 use Rattle.dns_record.specs.declared.record.Rdata.TheVariants.{A, Aaaa, Ptr, Cname, Srv, Txt, Nsec}
-use Rattle.dns_message.specs.declared.message.MessageError.{MessageError}
-use Rattle.dns_message.specs.Reading.{◌>>=◌, holds_or, name_at, name_within, name_up_to, fixed_within, srv_at, nsec_at, number_data, rdata_at, u16_in, u32_in, u128_in}
+use Rattle.dns_message.specs.Reading.{name_at, srv_at, nsec_at, rdata_at}
 use Rattle.dns_message.proofs.Standing.{Stands, first_part, last_part, ranged, u16_is, u32_is}
 use Rattle.dns_message.proofs.Wide.{u128_is}
 use Rattle.dns_message.proofs.NamesRead.{whole_read, up_to, inside}

@@ -1,5 +1,5 @@
 -- Data as they are written behind names are read again, and the names after them are a table.
-use Rattle.std.proofs.Common.{◌≡◌, ℕ, ◌+◌, ◌<◌, ◌≤◌, ◌^◌, ◌++◌, ◌&&◌, not, List, ◌∙◌, Bool, true, false, length, refl, arith, ap, sym, Result, Ok, eqb, ltb, append_assoc}
+use Rattle.std.proofs.Common.{◌≡◌, ℕ, ◌+◌, ◌<◌, ◌≤◌, ◌^◌, ◌++◌, ◌&&◌, not, List, true, false, length, refl, arith, Ok, eqb}
 use Rattle.std.specs.Prelude.{IsTrue}
 use Rattle.std.proofs.lemmas.Bool.{ltb-true}
 use Rattle.dns_name.specs.Names.{wire_of, is_name}
@@ -7,14 +7,13 @@ use Rattle.dns_name.proofs.Wire.{both}
 use Rattle.dns_record.specs.Records.{kind_of, data_of, is_typed, has_raw_form, is_rdata}
 use Rattle.dns_record.specs.declared.record.Rdata.{Rdata}
 use Rattle.dns_record.specs.declared.record.Rdata.TheVariants.{A, Aaaa, Ptr, Cname, Srv, Txt, Nsec, Raw}
-use Rattle.dns_message.specs.declared.message.MessageError.{MessageError}
-use Rattle.dns_message.specs.Reading.{rdata_at, name_at}
+use Rattle.dns_message.specs.Reading.{rdata_at}
 use Rattle.dns_message.specs.Writing.{Offsets, Piece, written_name, written_data, is_below, are_bytes, is_spellable_name, is_spellable_data}
 use Rattle.dns_message.proofs.Standing.{Stands}
 use Rattle.dns_message.proofs.Tables.{IsTable, raised}
 use Rattle.dns_message.proofs.NamesRead.{IsNameRead, name_read}
 use Rattle.dns_message.proofs.DataAgain.{address_again, wide_again, ptr_again, cname_again, srv_again, txt_again, nsec_again}
-use Rattle.dns_message.proofs.RawAgain.{IsUntyped, untyped, raw_again}
+use Rattle.dns_message.proofs.RawAgain.{untyped, raw_again}
 
 pub record IsDataRead (bytes : List ℕ) (at : ℕ) (rdata : Rdata) (piece : Piece) : Type 0 where
   pub read : rdata_at bytes (kind_of rdata) at (at + length piece.bytes) ≡ Ok rdata

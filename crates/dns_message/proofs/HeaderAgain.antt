@@ -1,9 +1,7 @@
 -- The header is read as it was written.
-use Rattle.std.proofs.Common.{◌≡◌, ℕ, ◌+◌, ◌*◌, ◌/◌, ◌%◌, ◌<◌, ◌≤◌, ◌^◌, ◌++◌, List, [], ◌∷◌, ◌∙◌, Bool, true, false, length, refl, arith, ap, sym, eqb, eq-eqb, get_or}
+use Rattle.std.proofs.Common.{◌≡◌, ℕ, ◌+◌, ◌*◌, ◌/◌, ◌%◌, ◌<◌, ◌^◌, ◌++◌, List, [], ◌∷◌, ◌∙◌, Bool, true, false, length, refl, arith, eqb, eq-eqb, get_or}
 use Rattle.std.specs.Int.{to_be_bytes, w16}
 use Rattle.std.proofs.lemmas.Bool.{ne_eqb}
-use Rattle.dns_record.specs.declared.record.Rr.{Rr}
-use Rattle.dns_record.specs.declared.record.Question.{Question}
 use Rattle.dns_message.specs.declared.message.Message.{Message}
 use Rattle.dns_message.specs.Reading.{has_bit, u16_in, with_header}
 use Rattle.dns_message.specs.Writing.{bit_worth, flag_bytes, count_bytes, header}

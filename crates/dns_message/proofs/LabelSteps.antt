@@ -1,13 +1,11 @@
 -- One turn of reading a name, where it is known what stands there.
-use Rattle.std.proofs.Common.{◌≡◌, ℕ, suc, ◌+◌, ◌-◌, ◌*◌, ◌/◌, ◌%◌, ◌<◌, ◌≤◌, ◌++◌, List, [], ◌∷◌, ◌∙◌, Bool, true, false, cond, eqb, ltb, length, get_or, refl, arith, ap, sym, append_assoc, length-append, Result, Ok}
+use Rattle.std.proofs.Common.{◌≡◌, ℕ, suc, ◌+◌, ◌-◌, ◌*◌, ◌/◌, ◌%◌, ◌<◌, ◌≤◌, List, [], ◌∷◌, ◌∙◌, true, false, eqb, ltb, length, refl, arith, ap, Ok}
 use Rattle.std.proofs.lemmas.Bool.{ne_eqb, le-ltb, lt-ltb}
-use Rattle.std.specs.Int.{to_be_bytes, w16}
 use Rattle.dns_name.specs.Names.{is_label}
 use Rattle.dns_name.proofs.Wire.{label_some, label_most}
-use Rattle.dns_message.specs.declared.message.MessageError.{MessageError}
-use Rattle.dns_message.specs.Reading.{◌>>=◌, byte_at, label_at, target_at, labels_at}
+use Rattle.dns_message.specs.Reading.{label_at, target_at, labels_at}
 use Rattle.dns_message.specs.Writing.{pointer_to}
-use Rattle.dns_message.proofs.Standing.{Stands, within, first_part, last_part, moved, ranged, index_is, byte_is}
+use Rattle.dns_message.proofs.Standing.{Stands, within, last_part, ranged, index_is, byte_is}
 
 -- the zero byte
 pub end_step : (turns : ℕ) (bytes : List ℕ) (start at used : ℕ) → Stands bytes at (0 ∷ []) → labels_at (suc turns) bytes start at used ≡ Ok ([], at + 1)

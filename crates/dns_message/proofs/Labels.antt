@@ -1,5 +1,5 @@
 -- One turn of reading a name.
-use Rattle.std.proofs.Common.{◌≡◌, ℕ, suc, ◌+◌, ◌-◌, ◌<◌, ◌≤◌, ◌++◌, ◌||◌, List, [], ◌∷◌, ◌∙◌, Bool, true, false, cond, eqb, ltb, length, take, drop, refl, arith, ap, sym, Option, Some, None, ⊎_elim}
+use Rattle.std.proofs.Common.{◌≡◌, ℕ, suc, ◌+◌, ◌-◌, ◌<◌, ◌≤◌, ◌++◌, ◌||◌, List, [], ◌∷◌, Bool, true, false, ltb, length, take, drop, arith, Some, None, ⊎_elim}
 use Rattle.std.proofs.lemmas.Bool.{cases_lt}
 use Rattle.dns_name.specs.Names.{wire_of, is_label}
 use Rattle.std.proofs.lemmas.Bool.{ne_eqb}

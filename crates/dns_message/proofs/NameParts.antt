@@ -1,11 +1,11 @@
 -- One turn of compressing a name.
-use Rattle.std.proofs.Common.{◌≡◌, ℕ, zero, suc, ◌+◌, ◌-◌, ◌<◌, ◌≤◌, ◌++◌, List, [], ◌∷◌, ◌∙◌, Bool, true, false, cond, length, take, drop, get_or, refl, arith, ap, sym, subst, append_assoc, append-nil, length-append, length-take, length-drop, Option, Some, None}
+use Rattle.std.proofs.Common.{◌≡◌, ℕ, suc, ◌+◌, ◌-◌, ◌<◌, ◌≤◌, ◌++◌, List, [], ◌∷◌, ◌∙◌, true, false, length, take, drop, get_or, refl, arith, ap, sym, subst, append_assoc, length-append, length-take, length-drop, Some, None}
 use Rattle.std.proofs.Math.Seq.{take-append_seam, drop-append_seam, drop-cons}
 use Rattle.std.proofs.lemmas.List.{nil_from_length}
 use Rattle.std.specs.Prelude.{IsTrue}
 use Rattle.dns_name.specs.Names.{wire_of, labels_of, is_label, is_name, exact_eq, IsNameInWire}
-use Rattle.dns_name.proofs.Wire.{both, label_some, name_each, name_short, name_is, in_wire, list_head, wire_some}
-use Rattle.dns_message.specs.Writing.{Offsets, Piece, onto, offset_of, written_name, pointer_to, pointer_or}
+use Rattle.dns_name.proofs.Wire.{both, name_each, name_short, name_is, in_wire, wire_some}
+use Rattle.dns_message.specs.Writing.{Offsets, Piece, onto, offset_of, written_name}
 use Rattle.dns_message.specs.Compressing.{IsCut, pointer_bytes}
 
 -- what a name in wire form holds besides its first label

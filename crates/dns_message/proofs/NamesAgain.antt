@@ -1,15 +1,12 @@
 -- A name that is written is read again.
-use Rattle.std.proofs.Common.{◌≡◌, ◌⊎◌, inl, inr, ⊎_elim, ℕ, zero, suc, ◌+◌, ◌-◌, ◌<◌, ◌≤◌, ◌++◌, List, [], ◌∷◌, ◌∙◌, Bool, true, false, cond, length, refl, arith, ap, sym, subst, append_assoc, length-append, Option, Some, None, Result, Ok}
+use Rattle.std.proofs.Common.{◌≡◌, ◌⊎◌, inl, inr, ⊎_elim, ℕ, zero, suc, ◌+◌, ◌<◌, ◌≤◌, ◌++◌, List, [], ◌∷◌, true, length, refl, arith, sym, subst, length-append, Option, Some, None}
 use Rattle.std.specs.List.{list_all}
-use Rattle.std.specs.Prelude.{IsTrue}
-use Rattle.dns_name.specs.Names.{wire_of, is_label, is_name}
-use Rattle.dns_name.proofs.Wire.{both, wire_some, name_each, name_short, name_count}
-use Rattle.dns_message.specs.declared.message.MessageError.{MessageError}
-use Rattle.dns_message.specs.Reading.{labels_at, name_at}
+use Rattle.dns_name.specs.Names.{wire_of, is_label}
+use Rattle.dns_name.proofs.Wire.{both, wire_some}
 use Rattle.dns_message.specs.Writing.{Offsets, Piece, onto, offset_of, pointer_to, pointer_or, written_name}
-use Rattle.dns_message.proofs.Standing.{Stands, within, first_part, last_part, moved, same_piece}
+use Rattle.dns_message.proofs.Standing.{Stands, within, first_part, last_part, moved}
 use Rattle.dns_message.proofs.LabelSteps.{end_step, label_step, pointer_step}
-use Rattle.dns_message.proofs.Tables.{IsSpelledFrom, IsAimedAt, IsTable, IsTableOf, of_all, of_fewer, offset_pushed, pushed_longer}
+use Rattle.dns_message.proofs.Tables.{IsSpelledFrom, IsAimedAt, IsTableOf, of_fewer, offset_pushed, pushed_longer}
 
 -- some turns are left
 turns_left : (n turns : ℕ) → n < turns → (more : ℕ) × (turns ≡ suc more)

@@ -1,16 +1,15 @@
 -- Names as they are read in messages: compressed ones, and those that are written whole.
-use Rattle.std.proofs.Common.{◌≡◌, ⊎_elim, ℕ, ◌+◌, ◌*◌, ◌<◌, ◌≤◌, ◌++◌, List, [], ◌∷◌, ◌∙◌, Bool, true, false, length, refl, arith, ap, sym, length-append, Result, Ok, eq-eqb}
+use Rattle.std.proofs.Common.{◌≡◌, ⊎_elim, ℕ, ◌+◌, ◌*◌, ◌≤◌, ◌++◌, List, [], ◌∷◌, true, length, refl, arith, length-append, Ok, eq-eqb}
 use Rattle.std.specs.List.{list_all}
 use Rattle.std.specs.Prelude.{IsTrue}
 use Rattle.std.proofs.lemmas.Bool.{le-leb}
 use Rattle.dns_name.specs.Names.{wire_of, is_label, is_name}
 use Rattle.dns_name.proofs.Wire.{both, label_some, name_each, name_short}
-use Rattle.dns_message.specs.declared.message.MessageError.{MessageError}
-use Rattle.dns_message.specs.Reading.{labels_at, name_at, name_within, name_up_to}
+use Rattle.dns_message.specs.Reading.{name_at, name_within, name_up_to}
 use Rattle.dns_message.specs.Writing.{Offsets, Piece, written_name}
 use Rattle.dns_message.proofs.Standing.{Stands, within, first_part, last_part, moved}
-use Rattle.dns_message.proofs.Tables.{IsSpelledFrom, IsTable, of_all, raised}
-use Rattle.dns_message.proofs.NamesAgain.{spelled_end, spelled_label, IsNameAgain, name_again}
+use Rattle.dns_message.proofs.Tables.{IsSpelledFrom, IsTable, of_all}
+use Rattle.dns_message.proofs.NamesAgain.{spelled_end, spelled_label, name_again}
 
 -- a label takes two bytes at least
 labels_few : (name : List (List ℕ)) → list_all is_label name ≡ true → 2 * length name + 1 ≤ length (wire_of name)

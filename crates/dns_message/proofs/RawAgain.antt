@@ -1,18 +1,15 @@
 -- Raw data are read as they were written: those of types without names, and NS, MX and SOA.
-use Rattle.std.proofs.Common.{◌≡◌, ℕ, ◌+◌, ◌-◌, ◌<◌, ◌≤◌, ◌++◌, ◌&&◌, ◌||◌, not, List, [], ◌∷◌, ◌∙◌, Bool, true, false, cond, length, take, drop, refl, arith, ap, sym, subst, append-nil, length-append, length-take, append_assoc, Option, Some, None, Result, Ok, eqb, leb, eq-eqb}
+use Rattle.std.proofs.Common.{◌≡◌, ℕ, ◌+◌, ◌≤◌, ◌++◌, ◌||◌, not, List, [], ◌∙◌, Bool, true, false, length, take, drop, refl, arith, ap, sym, subst, append-nil, length-append, length-take, append_assoc, Option, Some, None, Ok, eqb, leb, eq-eqb}
 use Rattle.std.specs.Prelude.{IsTrue, option_and_then}
-use Rattle.std.specs.List.{slice_range}
 use Rattle.std.proofs.lemmas.Bool.{le-leb, leb-true, eqb-true, false≢true}
 use Rattle.std.proofs.lemmas.List.{nil_from_length, take-append-drop}
 use Rattle.dns_name.specs.Names.{wire_of, labels_of, is_name}
 use Rattle.dns_name.proofs.Wire.{both}
 use Rattle.dns_record.specs.Records.{after_name, is_typed, has_raw_form, is_rdata, leaves}
 use Rattle.dns_record.proofs.RawForms.{after_name-parts}
-use Rattle.dns_record.specs.declared.record.Rdata.{Rdata}
 use Rattle.dns_record.specs.declared.record.Rdata.TheVariants.{Raw}
-use Rattle.dns_message.specs.declared.message.MessageError.{MessageError}
-use Rattle.dns_message.specs.Reading.{◌>>=◌, holds_or, name_at, name_within, name_up_to, fixed_within, ns_at, mx_at, soa_at, rdata_at}
-use Rattle.dns_message.proofs.Standing.{Stands, within, first_part, last_part, same_piece, ranged}
+use Rattle.dns_message.specs.Reading.{name_at, ns_at, mx_at, soa_at, rdata_at}
+use Rattle.dns_message.proofs.Standing.{Stands, first_part, last_part, same_piece, ranged}
 use Rattle.dns_message.proofs.NamesRead.{whole_read, up_to, inside}
 
 -- bytes that are a name and so many more

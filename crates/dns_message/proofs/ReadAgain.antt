@@ -1,14 +1,13 @@
 -- What is written is read again.
-use Rattle.std.proofs.Common.{◌≡◌, ℕ, ◌+◌, ◌<◌, ◌≤◌, ◌^◌, ◌++◌, ◌&&◌, List, [], ◌∷◌, ◌∙◌, Bool, true, false, length, refl, arith, ap, sym, subst, length-append, Option, Some, Result, Ok, leb}
+use Rattle.std.proofs.Common.{◌≡◌, ℕ, ◌+◌, ◌<◌, ◌≤◌, ◌^◌, ◌++◌, ◌&&◌, List, [], true, length, refl, arith, ap, subst, length-append, Ok, leb}
 use Rattle.std.specs.List.{list_all}
 use Rattle.std.proofs.lemmas.Bool.{le-leb}
 use Rattle.dns_name.proofs.Wire.{both}
 use Rattle.dns_record.specs.declared.record.Rr.{Rr}
 use Rattle.dns_record.specs.declared.record.Question.{Question}
 use Rattle.dns_message.specs.declared.message.Message.{Message}
-use Rattle.dns_message.specs.declared.message.MessageError.{MessageError}
-use Rattle.dns_message.specs.Reading.{◌>>=◌, holds_or, all_at, question_at, record_at, sections_at, with_header, spelled, Spells, u16_in}
-use Rattle.dns_message.specs.Writing.{Offsets, Piece, header, written_all, written_question, written_record, written, is_below, is_spellable_question, is_spellable_record, is_spellable, IsReadAgain}
+use Rattle.dns_message.specs.Reading.{all_at, question_at, record_at, sections_at, spelled, u16_in}
+use Rattle.dns_message.specs.Writing.{Offsets, header, written_all, written_question, written_record, written, is_below, is_spellable_question, is_spellable_record, is_spellable, IsReadAgain}
 use Rattle.dns_message.proofs.Whole.{questions_of, answers_at, answers_of, authority_at, authority_of, additional_at, additional_of, length-header, whole_is, count_short}
 use Rattle.dns_message.proofs.Standing.{Stands, within, first_part, last_part, moved}
 use Rattle.dns_message.proofs.Tables.{IsTable, no_names}
@@ -60,8 +59,7 @@ laid bytes m h q a u d p2 p3 p4 n e2 e3 e4 s =
     let n3 = length-append ((h ++ q) ++ a) u in
     let s4 = first_part bytes 0 (((h ++ q) ++ a) ++ u) d s in
     let s3 = first_part bytes 0 ((h ++ q) ++ a) u s4 in
-    let s2 = first_part bytes 0 (h ++ q) a s3 in
-    (
+    let s2 = first_part bytes 0 (h ++ q) a s3 in (
       first_part bytes 0 h q s2,
       moved bytes (0 + length h) 12 q (last_part bytes 0 h q s2) (omega arith),
       moved bytes (0 + length (h ++ q)) p2 a (last_part bytes 0 (h ++ q) a s3) (omega arith),
@@ -74,7 +72,7 @@ stands m more =
     let s : Stands (written m ++ more) 0 (written m) = record { front = []; more = more; is = refl; place = refl } in
     let t = subst (λ (l : List ℕ). Stands (written m ++ more) 0 l) (whole_is m) s in
     let l = laid (written m ++ more) m (header m) (questions_of m).bytes (answers_of m).bytes (authority_of m).bytes (additional_of m).bytes
-        (answers_at m) (authority_at m) (additional_at m) (length-header m) refl refl refl t in
+    (answers_at m) (authority_at m) (additional_at m) (length-header m) refl refl refl t in
     record { header = l.0; questions = l.1; answers = l.2; authority = l.3; additional = l.4 }
 
 -- records in a row

@@ -1,14 +1,11 @@
 -- A record and a question, where it is known what stands behind their names.
-use Rattle.std.proofs.Common.{◌≡◌, ℕ, ◌+◌, ◌%◌, ◌<◌, ◌≤◌, ◌^◌, ◌++◌, ◌||◌, not, List, ◌∙◌, Bool, true, false, cond, length, refl, arith, ap, sym, Option, Some, None, Result, Ok, eqb, leb}
-use Rattle.std.specs.Int.{to_be_bytes, w16, w32}
+use Rattle.std.proofs.Common.{◌≡◌, ℕ, ◌+◌, ◌%◌, ◌≤◌, ◌^◌, List, Bool, true, false, length, refl, arith, ap, Some, Ok, eqb, leb}
 use Rattle.std.proofs.lemmas.Bool.{le-leb}
-use Rattle.dns_record.specs.declared.record.Rdata.{Rdata}
 use Rattle.dns_record.specs.declared.record.Rr.{Rr}
 use Rattle.dns_record.specs.declared.record.Question.{Question}
-use Rattle.dns_message.specs.declared.message.MessageError.{MessageError}
-use Rattle.dns_message.specs.Reading.{◌>>=◌, holds_or, name_at, rdata_at, data_end_at, class_in, top_bit_in, u16_in, u32_in, record_at, question_at}
+use Rattle.dns_message.specs.Reading.{name_at, rdata_at, data_end_at, class_in, top_bit_in, u16_in, u32_in, record_at, question_at}
 use Rattle.dns_message.specs.Writing.{class_word}
-use Rattle.dns_message.proofs.Standing.{Stands, u16_is, u32_is}
+use Rattle.dns_message.proofs.Standing.{Stands, u16_is}
 
 -- the class IN and the bit above it
 pub record IsClass (bytes : List ℕ) (at : ℕ) (bit : Bool) : Type 0 where

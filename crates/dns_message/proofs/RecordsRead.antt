@@ -1,18 +1,18 @@
 -- Records and questions, as they are written behind names, are read again.
-use Rattle.std.proofs.Common.{◌≡◌, ℕ, zero, suc, ◌+◌, ◌<◌, ◌≤◌, ◌^◌, ◌++◌, ◌&&◌, List, [], ◌∷◌, ◌∙◌, Bool, true, false, length, refl, arith, ap, sym, subst, Option, Some, None, Result, Ok, length-append}
+use Rattle.std.proofs.Common.{◌≡◌, ℕ, ◌+◌, ◌<◌, ◌≤◌, ◌^◌, ◌++◌, ◌&&◌, List, [], ◌∷◌, Bool, true, false, length, refl, arith, Option, Some, Result, Ok, length-append}
 use Rattle.std.specs.Int.{to_be_bytes, w16, w32}
-use Rattle.std.specs.List.{list_all, cons_option}
+use Rattle.std.specs.List.{list_all}
 use Rattle.dns_name.proofs.Wire.{both}
 use Rattle.dns_record.specs.Records.{kind_of}
 use Rattle.dns_record.specs.declared.record.Rr.{Rr}
 use Rattle.dns_record.specs.declared.record.Question.{Question}
 use Rattle.dns_message.specs.declared.message.MessageError.{MessageError}
-use Rattle.dns_message.specs.Reading.{◌>>=◌, record_at, question_at, all_at}
+use Rattle.dns_message.specs.Reading.{record_at, question_at, all_at}
 use Rattle.dns_message.specs.Writing.{Offsets, Piece, onto, class_word, written_name, written_data, written_record, written_question, written_all, is_below, is_spellable_name, is_spellable_data, is_spellable_record, is_spellable_question}
 use Rattle.dns_message.proofs.Standing.{Stands, within, first_part, last_part, moved, u16_is, u32_is}
 use Rattle.dns_message.proofs.Tables.{IsTable, raised}
 use Rattle.dns_message.proofs.NamesRead.{IsNameRead, name_read}
-use Rattle.dns_message.proofs.DataRead.{IsDataRead, data_read, below, spellable_name, IsKind, kind_is}
+use Rattle.dns_message.proofs.DataRead.{IsDataRead, data_read, below, spellable_name, kind_is}
 use Rattle.dns_message.proofs.RecordSteps.{class_is, record_step, question_step}
 
 -- A thing is read where it was written, and the names after it are a table.
@@ -108,7 +108,7 @@ question_of bytes at question o k c n small ek ec hk hc s =
     let room : at + length o.bytes + 4 ≤ length bytes = omega (arith, within bytes at ((o.bytes ++ k) ++ c) s) in
     record {
       read = rw whole (question_step bytes at (at + length o.bytes) question n.read (u16_is bytes (at + length o.bytes) question.kind small kind)
-      (class_is bytes (at + length o.bytes + 2) question.unicast class) room);
+          (class_is bytes (at + length o.bytes + 2) question.unicast class) room);
       table = rw whole (raised bytes o.names (at + length o.bytes) (at + length o.bytes + 4) (omega arith) n.table);
     }
 

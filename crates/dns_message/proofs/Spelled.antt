@@ -7,14 +7,13 @@ use Rattle.std.proofs.lemmas.Nat.{be_bytes_4}
 use Rattle.std.specs.Int.{w32, to_be_bytes, from_be_bytes}
 use Rattle.dns_name.specs.Names.{wire_of}
 use Rattle.std.proofs.lemmas.List.{take-append-drop}
-use Rattle.std.proofs.lemmas.Bool.{false≢true}
 use Rattle.std.proofs.lemmas.Option.{option_and_then_some}
 use Rattle.std.specs.Option.{IfSome}
 use Rattle.std.specs.Str.{bytes_eq}
 use Rattle.std.proofs.lemmas.Slice.Eq.{bytes_eq-Decides}
 use Rattle.dns_record.specs.declared.record.Rr.{Rr}
 use Rattle.dns_record.specs.declared.record.Rdata.TheVariants.{A}
-use Rattle.dns_message.specs.Plain.{header, address_of_internet, address_packet, living, plain_record_of, IsSpelled, after, number_at, labels_at, name_at}
+use Rattle.dns_message.specs.Plain.{header, address_of_internet, living, plain_record_of, IsSpelled, after, number_at, labels_at, name_at}
 
 none≢any : {A : Type 0} {x : A} → None ≡ Some x → ⊥
 none≢any e = cc

@@ -1,11 +1,10 @@
 -- A piece that stands in the bytes at an offset, and what is read there.
-use Rattle.std.proofs.Common.{◌≡◌, ℕ, ◌+◌, ◌-◌, ◌<◌, ◌≤◌, ◌^◌, ◌++◌, List, [], ◌∷◌, ◌∙◌, length, take, drop, get_or, refl, arith, ap, sym, subst, append_assoc, length-append, Option, Some, Result, Ok}
+use Rattle.std.proofs.Common.{◌≡◌, ℕ, ◌+◌, ◌<◌, ◌≤◌, ◌^◌, ◌++◌, List, ◌∷◌, ◌∙◌, length, take, get_or, refl, arith, ap, sym, subst, append_assoc, length-append, Some, Ok}
 use Rattle.std.proofs.Math.Seq.{take-append_seam, drop-append_seam, get_or-append_seam}
 use Rattle.std.proofs.lemmas.Option.{slice_get-get_or}
 use Rattle.std.proofs.lemmas.Nat.{from_be_bytes-to_be_bytes_2, from_be_bytes-to_be_bytes_4}
-use Rattle.std.specs.List.{slice_get, slice_range}
+use Rattle.std.specs.List.{slice_range}
 use Rattle.std.specs.Int.{to_be_bytes, from_be_bytes, w16, w32}
-use Rattle.dns_message.specs.declared.message.MessageError.{MessageError}
 use Rattle.dns_message.specs.Reading.{byte_at, byte_or_end, u16_in, u32_in}
 use Rattle.dns_message.proofs.Chunks.{range_chunk}
 

@@ -1,8 +1,7 @@
 -- The names that were written are spelled where they are said to be.
-use Rattle.std.proofs.Common.{◌≡◌, ◌⊎◌, inl, inr, ⊎_elim, ℕ, suc, ◌+◌, ◌<◌, ◌≤◌, ◌++◌, List, [], ◌∷◌, ◌∙◌, Bool, true, false, cond, length, refl, arith, ap, sym, subst, Option, Some, None, Result, Ok}
+use Rattle.std.proofs.Common.{◌≡◌, ◌⊎◌, inl, inr, ⊎_elim, ℕ, ◌+◌, ◌<◌, ◌≤◌, ◌++◌, List, [], ◌∷◌, Bool, true, false, cond, length, refl, arith, ap, sym, Some, None, Ok}
 use Rattle.dns_name.specs.Names.{wire_of, exact_eq}
 use Rattle.dns_name.proofs.Folding.{exact_eq-tells}
-use Rattle.dns_message.specs.declared.message.MessageError.{MessageError}
 use Rattle.dns_message.specs.Reading.{labels_at}
 use Rattle.dns_message.specs.Writing.{Offsets, offset_of}
 

@@ -1,5 +1,5 @@
 -- A message is its header, its questions and its records, one behind the other.
-use Rattle.std.proofs.Common.{◌≡◌, ℕ, ◌+◌, ◌<◌, ◌≤◌, ◌++◌, List, [], ◌∷◌, ◌∙◌, Bool, true, false, length, refl, arith, ap, sym, subst, append_assoc, length-append, Result, Err}
+use Rattle.std.proofs.Common.{◌≡◌, ℕ, ◌+◌, ◌<◌, ◌≤◌, ◌++◌, List, [], ◌∙◌, length, refl, arith, ap, sym, append_assoc, length-append, Result, Err}
 use Rattle.std.specs.Int.{to_be_bytes, w16, w32}
 use Rattle.dns_record.specs.Records.{kind_of}
 use Rattle.dns_record.specs.declared.record.Rr.{Rr}
@@ -7,7 +7,7 @@ use Rattle.dns_record.specs.declared.record.Question.{Question}
 use Rattle.dns_message.specs.declared.message.Message.{Message}
 use Rattle.dns_message.specs.declared.message.WriteError.{WriteError}
 use Rattle.dns_message.specs.declared.message.WriteError.TheVariants.{TooLong, NoMemory}
-use Rattle.dns_message.specs.Writing.{Offsets, Piece, onto, class_word, flag_bytes, count_bytes, header, written_name, written_data, written_question, written_record, written_all, written_body, written}
+use Rattle.dns_message.specs.Writing.{Offsets, Piece, class_word, header, written_name, written_data, written_question, written_record, written_all, written_body, written}
 use Rattle.dns_message.specs.Compressing.{item_count}
 use Rattle.dns_message.proofs.Parts.{all_append, all_count}
 

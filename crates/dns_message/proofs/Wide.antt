@@ -1,5 +1,5 @@
 -- Numbers of 16 bytes are read as they were written.
-use Rattle.std.proofs.Common.{◌≡◌, ℕ, ◌+◌, ◌-◌, ◌*◌, ◌/◌, ◌%◌, ◌^◌, ◌<◌, ◌≤◌, List, ◌∙◌, refl, arith, ap}
+use Rattle.std.proofs.Common.{◌≡◌, ℕ, ◌+◌, ◌*◌, ◌/◌, ◌%◌, ◌^◌, ◌<◌, List, ◌∙◌, refl, arith, ap}
 use Rattle.std.proofs.Math.Nat as nat
 use Rattle.std.specs.Int.{to_be_bytes, from_be_bytes, w128}
 use Rattle.dns_message.specs.Reading.{u128_in}

@@ -4,7 +4,6 @@ use Rattle.std.specs.Str.{bytes_eq}
 use Rattle.std.specs.Int.{w32, to_be_bytes, from_be_bytes}
 use Rattle.dns_name.specs.Names.{wire_of}
 use Rattle.dns_record.specs.declared.record.Rr.{Rr}
-use Rattle.dns_record.specs.declared.record.Rdata.{Rdata}
 use Rattle.dns_record.specs.declared.record.Rdata.TheVariants.{A}
 use Rattle.dns_message.specs.declared.message.Message.{Message}
 

@@ -337,13 +337,14 @@ fn reads_up_to_the_limits(rt: HostRuntime) -> Result<(), Fail> {
     Ok(())
 }
 
-// Packets that are written as they were read.
-const WRITTEN: [&str; 5] = [
+// Packets that are written as they were read. The last has every section and every kind of data.
+const WRITTEN: [&str; 6] = [
     "0000840000000001000000000161056c6f63616c0000018001000000780004c0000201",
     "000084000000000100000000045f697070045f746370056c6f63616c00000c000100001194000a075072696e746572c00c",
     "000084000000000100000000075072696e746572045f697070045f746370056c6f63616c000021800100000078000f0000000000500178056c6f63616c00",
     "0000000000010000000100000168056c6f63616c0000ff8001c00c00010001000000780004a9fec832",
     "0001fa0f0000000000000000",
+    "0007ae030002000600030002075072696e746572045f697070045f746370056c6f63616c0000ff80010168c01e00010001c014000c0001000011940002c00cc00c0021800100000078000f0000000002770168056c6f63616c00c00c0010800100001194000a09747874766572733d31c02900018001000000780004c0000201c029001c8001000000780010fe800000000000000000000000000001c029002f800100000078000f0168056c6f63616c00000440000008c01e000200010000003c00090168056c6f63616c00c01e000600010000003c00260168056c6f63616c000168056c6f63616c0000000001000000020000000300000004000000050177c01e000500010000003c0002c029c01e000f00010000003c000b000a0168056c6f63616c00c029000d00010000003c00020161",
 ];
 
 // Packets that are written in another way than they were read. A name in other letter case isn't aimed at, and of the
@@ -407,6 +408,38 @@ fn writes_packets(rt: HostRuntime) -> Result<(), Fail> {
             wanted.as_slice(),
             "{text}"
         );
+    }
+    Ok(())
+}
+
+// A packet of so many bytes: a TXT record that fills it, and an SRV record whose target is a pointer to a label of one
+// byte. The target is written whole, which takes a byte more.
+fn filled(alloc: Global, size: u16) -> Result<Vec<u8>, AllocError> {
+    let text = size.saturating_sub(45);
+    let mut bytes = bytes_of(alloc, "0000840000000002000000000178000010000100000000")?;
+    bytes.extend_from_slice(&text.to_be_bytes())?;
+    for _ in 0..text {
+        bytes.push(0)?;
+    }
+    let srv = bytes_of(alloc, "c00c00210001000000000008000000000000c00c")?;
+    bytes.extend_from_slice(srv.as_slice())?;
+    Ok(bytes)
+}
+
+#[test]
+fn writes_up_to_the_limits(rt: HostRuntime) -> Result<(), Fail> {
+    let alloc = rt.alloc();
+    let long = [WriteError::TooLong as u8];
+    for (below, most) in [(1439, 1440), (8971, 8972)] {
+        let limit = usize::from(most);
+        let shorter = filled(alloc, below)?;
+        let written = rewritten(alloc, shorter.as_slice(), limit)?;
+        assert_eq!(rt; (shorter.len(), written.len()), (usize::from(below), limit));
+        let refused = rewritten(alloc, shorter.as_slice(), usize::from(below))?;
+        assert_eq!(rt; refused.as_slice(), long.as_slice(), "{limit}");
+        let full = filled(alloc, most)?;
+        let longer = rewritten(alloc, full.as_slice(), limit)?;
+        assert_eq!(rt; longer.as_slice(), long.as_slice(), "{limit}");
     }
     Ok(())
 }

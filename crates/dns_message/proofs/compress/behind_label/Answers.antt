@@ -1,4 +1,4 @@
-use Rattle.std.proofs.Common.{◌≤◌, ◌+◌, arith}
+use Rattle.std.proofs.Common.{arith}
 use Rattle.dns_message.proofs.NameParts.{cut_in}
 use Rattle.dns_message.proofs.compress.behind_label.Goals as goal
 

@@ -1,4 +1,4 @@
-use Rattle.std.proofs.Common.{◌≡◌, ◌≤◌, ◌+◌, ◌-◌, ◌++◌, ℕ, List, [], ◌∷◌, length, take, arith, sym, ap, ◌∙◌, append-nil, length-append}
+use Rattle.std.proofs.Common.{◌≡◌, ◌-◌, ◌++◌, ℕ, List, [], ◌∷◌, length, arith, ap, ◌∙◌, append-nil, length-append}
 use Rattle.dns_name.specs.Names.{labels_of}
 use Rattle.dns_message.specs.Writing.{Piece, offset_of}
 use Rattle.dns_message.proofs.NameParts.{begins, found, pushed_on, ended}

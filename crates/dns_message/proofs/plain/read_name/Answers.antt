@@ -1,8 +1,8 @@
-use Rattle.std.proofs.Common.{refl, List, ℕ, [], ◌++◌, take, drop, ◌≡◌, ◌+◌, ◌<◌, ◌≤◌, ◌∷◌, length, arith, rules, sym, ap, ◌∙◌}
+use Rattle.std.proofs.Common.{refl, List, ℕ, [], ◌++◌, take, drop, ◌≡◌, ◌∷◌, arith, ap, ◌∙◌}
 use Rattle.std.proofs.lemmas.Bool.{false≢true}
 use Rattle.std.proofs.lemmas.List.{nil_from_length}
 use Rattle.dns_name.proofs.Wire.{label_most}
-use Rattle.dns_message.proofs.Labels.{Reads, refused, name_end, name_done, name_refused, name_more, name_over, refused_past, refused_long, refused_full, refused_not, not_label}
+use Rattle.dns_message.proofs.Labels.{name_end, name_done, name_refused, name_more, name_over, refused_past, refused_long, refused_full, refused_not, not_label}
 use Rattle.dns_message.proofs.plain.read_name.Goals as goal
 
 pub returns-in_err-length : goal.returns-in_err-length

@@ -1,4 +1,4 @@
-use Rattle.std.proofs.Common.{◌≤◌, length, arith}
+use Rattle.std.proofs.Common.{arith}
 use Rattle.dns_message.proofs.Parts.{part_at, one_written, part_short, part_end, bytes_written, names_written}
 use Rattle.dns_message.proofs.writing.put_questions.Goals as goal
 

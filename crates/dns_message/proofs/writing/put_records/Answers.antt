@@ -1,4 +1,4 @@
-use Rattle.std.proofs.Common.{◌≤◌, length, arith}
+use Rattle.std.proofs.Common.{arith}
 use Rattle.std.proofs.lemmas.Result.{err_from_is_err_and}
 use Rattle.dns_message.proofs.Parts.{part_at, one_written, part_short, next_short, part_end, bytes_written, names_written}
 use Rattle.dns_message.proofs.writing.put_records.Goals as goal

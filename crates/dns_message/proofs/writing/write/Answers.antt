@@ -1,7 +1,7 @@
-use Rattle.std.proofs.Common.{◌≡◌, ◌<◌, ◌≤◌, ◌+◌, [], length, arith, ◌∙◌}
+use Rattle.std.proofs.Common.{[], arith, ◌∙◌}
 use Rattle.std.proofs.lemmas.Result.{err_from_is_err_and}
-use Rattle.dns_message.specs.Writing.{written, written_question, written_record}
-use Rattle.dns_message.proofs.Whole.{questions_of, answers_at, answers_of, authority_at, authority_of, additional_at, additional_of, length-whole, count_short, stage, stage_long, begun, put_together, not_memory}
+use Rattle.dns_message.specs.Writing.{written_question, written_record}
+use Rattle.dns_message.proofs.Whole.{questions_of, answers_at, answers_of, authority_at, authority_of, additional_at, length-whole, count_short, stage, stage_long, begun, put_together, not_memory}
 use Rattle.dns_message.proofs.writing.write.Goals as goal
 
 pub returns-then-limit-lt12-clause-long : goal.returns-then-limit-lt12-clause-long
