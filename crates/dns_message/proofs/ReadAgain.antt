@@ -51,9 +51,9 @@ record AreLaid (bytes : List ℕ) (m : Message) : Type 0 where
   pub authority : Stands bytes (authority_at m) (authority_of m).bytes
   pub additional : Stands bytes (additional_at m) (additional_of m).bytes
 
-laid : (bytes : List ℕ) (m : Message) (h q a u d : List ℕ) (p2 p3 p4 : ℕ) → length h ≡ 12 → p2 ≡ 12 + length q → p3 ≡ p2 + length a → p4 ≡ p3 + length u
+laid : (bytes : List ℕ) (h q a u d : List ℕ) (p2 p3 p4 : ℕ) → length h ≡ 12 → p2 ≡ 12 + length q → p3 ≡ p2 + length a → p4 ≡ p3 + length u
     → Stands bytes 0 ((((h ++ q) ++ a) ++ u) ++ d) → Stands bytes 0 h × Stands bytes 12 q × Stands bytes p2 a × Stands bytes p3 u × Stands bytes p4 d
-laid bytes m h q a u d p2 p3 p4 n e2 e3 e4 s =
+laid bytes h q a u d p2 p3 p4 n e2 e3 e4 s =
     let n1 = length-append h q in
     let n2 = length-append (h ++ q) a in
     let n3 = length-append ((h ++ q) ++ a) u in
@@ -71,7 +71,7 @@ stands : (m : Message) (more : List ℕ) → AreLaid (written m ++ more) m
 stands m more =
     let s : Stands (written m ++ more) 0 (written m) = record { front = []; more = more; is = refl; place = refl } in
     let t = subst (λ (l : List ℕ). Stands (written m ++ more) 0 l) (whole_is m) s in
-    let l = laid (written m ++ more) m (header m) (questions_of m).bytes (answers_of m).bytes (authority_of m).bytes (additional_of m).bytes
+    let l = laid (written m ++ more) (header m) (questions_of m).bytes (answers_of m).bytes (authority_of m).bytes (additional_of m).bytes
     (answers_at m) (authority_at m) (additional_at m) (length-header m) refl refl refl t in
     record { header = l.0; questions = l.1; answers = l.2; authority = l.3; additional = l.4 }
 
