@@ -22,3 +22,5 @@ pub mod RecordSteps
 pub mod RecordsRead
 pub mod HeaderAgain
 pub mod ReadAgain
+pub mod ValidParts
+pub mod Valid

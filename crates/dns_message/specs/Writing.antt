@@ -1,5 +1,5 @@
 -- The bytes that a message is written as. Of the names in it, those of questions, owners, PTR and CNAME are compressed. (RFC 1035 4.1, RFC 6762 18.14)
-use Rattle.std.specs.Prelude.{ℕ, ◌+◌, ◌*◌, ◌%◌, ◌^◌, Bool, true, false, List, [], ◌∷◌, ◌++◌, length, Option, Some, None, nat_lt, ◌&&◌, ◌≡◌, ◌≤◌, if◌then◌else◌}
+use Rattle.std.specs.Prelude.{ℕ, ◌+◌, ◌*◌, ◌%◌, ◌^◌, Bool, true, false, List, [], ◌∷◌, ◌++◌, length, Option, Some, None, nat_lt, ◌&&◌, ◌≡◌, ◌≤◌, IsTrue, if◌then◌else◌}
 use Rattle.std.specs.List.{list_all}
 use Rattle.std.specs.Int.{to_be_bytes, w16, w32}
 use Rattle.dns_name.specs.Names.{exact_eq, is_name}
@@ -140,6 +140,13 @@ unfoldable pub is_spellable : Message → Bool
 is_spellable m =
     is_below 16 m.id && is_below 4 m.opcode && is_below 4 m.rcode && list_all is_spellable_question m.questions
     && list_all is_spellable_record m.answers && list_all is_spellable_record m.authority && list_all is_spellable_record m.additional
+
+-- The parts of each question and of each record are as their types say: names of bytes, numbers of their sizes, raw data of their form.
+pub record HasValidParts (m : Message) : Type 0 where
+  pub questions : IsTrue (list_all is_spellable_question m.questions)
+  pub answers : IsTrue (list_all is_spellable_record m.answers)
+  pub authority : IsTrue (list_all is_spellable_record m.authority)
+  pub additional : IsTrue (list_all is_spellable_record m.additional)
 
 -- What is written is read again, whatever follows it, up to the longest message.
 abbrev pub IsReadAgain : Type 0

@@ -1,7 +1,8 @@
 // Reading a message.
-ghost use Rattle.std.specs.Prelude.{◌≡◌, ◌≢◌, ◌⊎◌, ◌↔◌, ◌<◌, ◌≤◌, Ok, Err, Some, length, IfOk, IfErr, IsErrOf};
+ghost use Rattle.std.specs.Prelude.{◌≡◌, ◌≢◌, ◌⊎◌, ◌↔◌, ◌<◌, ◌≤◌, Ok, Err, Some, All, length, IfOk, IfErr, IsErrOf};
 ghost use Rattle.dns_message.specs.declared.message.Message.{Message};
 ghost use Rattle.dns_message.specs.Reading.{Spells, spelled, fault, fault_number, has_bit, IsReadAs};
+ghost use Rattle.dns_message.specs.Writing.{HasValidParts};
 
 use crate::fields::u16_at;
 use crate::sections::{read_questions, read_records};
@@ -21,6 +22,7 @@ pub fn read(alloc: Global, bytes: &[u8]) -> Result<Message, MessageError>
     ensures fault { IfErr result (λ e. e ≢ MessageError.NoMemory → fault bytes.now ≡ Some (fault_number e)) }
     ensures only { (message : Message) → Spells bytes.now message → (result ≡ Ok message) ⊎ (result ≡ Err MessageError.NoMemory) }
     ensures bounded { IsErrOf result MessageError.TooLong ↔ (8972 < length bytes.now) }
+    ensures valid { IfOk result (λ message. HasValidParts message) }
 {
     if bytes.len() > 8972 {
         return Err(MessageError::TooLong);
@@ -28,11 +30,12 @@ pub fn read(alloc: Global, bytes: &[u8]) -> Result<Message, MessageError>
     read_short(alloc, bytes)
 }
 
-// The message that bytes spell that are not too long.
+// The message that bytes spell that are not too long. That they are bytes is told here, where some are looked at.
 #[tactic(auto, unfolding(crate::specs::Reading::spelled, crate::specs::Reading::sections_at))]
 fn read_short(alloc: Global, bytes: &[u8]) -> Result<Message, MessageError>
     requires { length bytes.now ≤ 8972 }
-    ensures { IsReadAs result (spelled bytes.now) }
+    ensures read { IsReadAs result (spelled bytes.now) }
+    ensures bytes { IfOk result (λ _. All (λ byte. byte < 256) bytes.now) }
 {
     if bytes.len() < 12 {
         return Err(MessageError::Truncated);
