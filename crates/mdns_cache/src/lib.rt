@@ -1,0 +1,15 @@
+//! The records that were heard and are live, each until its end. (RFC 6762 10)
+#![tactic(auto)]
+
+mod cache;
+mod count;
+mod error;
+mod hear;
+mod look;
+mod steps;
+#[cfg(test)]
+mod tests;
+
+pub use cache::Cache;
+pub use error::HearError;
+pub use steps::Steps;
