@@ -84,6 +84,13 @@ impl Cache {
         self.held.len()
     }
 
+    /// Whether no record is held.
+    pub fn is_empty(&self) -> bool
+        ensures { IsTrue result ↔ (self.now.held ≡ []) }
+    {
+        self.held.is_empty()
+    }
+
     /// Whether as many records may be live as would be after `hear` of these at `now`.
     pub fn fits(&self, now: u64, heard: &[Rr]) -> bool
         ensures { (past : List Hearing) (word : ℕ) → Stands self.now.held past now
