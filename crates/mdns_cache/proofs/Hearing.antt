@@ -1,14 +1,16 @@
 -- What is held after a hearing is exactly the live records of the hearings with it.
 use Rattle.std.proofs.Common.{◌≡◌, ℕ, ◌+◌, ◌*◌, ◌<◌, ◌≤◌, min, Bool, true, false, cond, List, [], ◌∷◌, ◌++◌, map, filter, reverse, nat_lt, refl, sym, ap, subst, ◌∙◌, arith, append_assoc, IsPermutation}
+use Rattle.std.specs.List.{AllByRecursion}
 use Rattle.std.proofs.lemmas.Bool.{ltb-true, lt-ltb}
 use Rattle.std.proofs.lemmas.List.{reverse-append}
-use Rattle.std.proofs.lemmas.List.Sorted.{IsPermutation-refl, IsPermutation-sym, IsPermutation-trans, IsPermutation-cons, IsPermutation-to_front, IsPermutation-map}
+use Rattle.std.proofs.lemmas.List.Elements.{All-from_recursion, recursion_from_All}
+use Rattle.std.proofs.lemmas.List.Sorted.{All-permutation, IsPermutation-refl, IsPermutation-sym, IsPermutation-trans, IsPermutation-cons, IsPermutation-to_front, IsPermutation-map}
 use Rattle.dns_record.specs.declared.record.Rr.{Rr}
 use Rattle.dns_record.specs.Records.{same}
 use Rattle.dns_record.proofs.Same.{same_tells}
 use Rattle.mdns_history.specs.declared.held.Held.{Held}
 use Rattle.mdns_history.specs.Hearings.{Hearing}
-use Rattle.mdns_history.specs.Lifetimes.{live_of, is_live_at, cuts}
+use Rattle.mdns_history.specs.Lifetimes.{live_of, is_live_at, cuts, held_from, renewals}
 use Rattle.mdns_history.proofs.LifetimeSteps.{live_of-later, live_of-renewal, live_of-goodbye}
 use Rattle.mdns_cache.specs.Lifetimes.{Holds, Stands, AllLive, hearing_at, hearings_at, renewed, shortened, is_other, after_hearing, after_hearings}
 use Rattle.mdns_cache.proofs.ListLemmas.{IsPermutation-filter, filter_all, filter_less, each-append, each-filter, each-passes, each-map, each-weaker}
@@ -114,3 +116,17 @@ Stands-taken held rest one heard moment ended p stands =
     let left : IsPermutation (filter (is_live_at moment) held) (filter (is_live_at moment) rest) =
     subst (λ b. IsPermutation (filter (is_live_at moment) held) (cond b (one ∷ filter (is_live_at moment) rest) (filter (is_live_at moment) rest))) gone q in
     IsPermutation-trans _ _ _ (IsPermutation-sym _ _ left) stands
+
+-- exactly the live records are live
+pub AllLive-from_holds : (moment : ℕ) (held : List Held) (heard : List Hearing) → Holds held heard moment → AllLive moment held
+unfolding live_of
+AllLive-from_holds moment held heard holds =
+    let Lives : Held → Type 0 = λ one. moment < one.end in
+    let all : List Held = map (held_from heard) (renewals heard) in
+    let live : AllByRecursion Lives (filter (is_live_at moment) all) = each-passes Lives (is_live_at moment) (λ one h. ltb-true moment one.end h) all in
+    recursion_from_All Lives held (All-permutation Lives (filter (is_live_at moment) all) held (IsPermutation-sym _ _ holds) (All-from_recursion Lives (filter (is_live_at moment) all) live))
+
+-- exactly the live records stand for their hearings at every later moment
+pub Stands-from_held : (held : List Held) (heard : List Hearing) (before moment : ℕ) → before ≤ moment → Holds held heard before → Stands held heard moment
+Stands-from_held held heard before moment h holds =
+    Stands-later held heard before moment h (Stands-from_holds before held heard (AllLive-from_holds before held heard holds) holds)

@@ -5,6 +5,7 @@ mod cache;
 mod count;
 mod error;
 mod hear;
+mod law;
 mod look;
 mod steps;
 #[cfg(test)]
@@ -12,4 +13,5 @@ mod tests;
 
 pub use cache::Cache;
 pub use error::HearError;
+pub use law::held_records_stand_later;
 pub use steps::Steps;
