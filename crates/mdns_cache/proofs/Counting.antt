@@ -1,5 +1,5 @@
 -- How many records are held after the records of a packet.
-use Rattle.std.proofs.Common.{◌≡◌, ◌↔◌, ℕ, ◌+◌, ◌-◌, leb, ⊎_elim, ◌<◌, ◌≤◌, ◌&&◌, ◌||◌, Bool, true, false, not, cond, List, [], ◌∷◌, ◌++◌, map, filter, length, nat_lt, count_by, refl, sym, ap, ◌∙◌, arith, length-append, IsPermutation}
+use Rattle.std.proofs.Common.{◌≡◌, ◌↔◌, ℕ, ◌+◌, ◌-◌, leb, ⊎_elim, ◌<◌, ◌≤◌, ◌&&◌, ◌||◌, Bool, true, false, not, cond, List, [], ◌∷◌, ◌++◌, map, filter, length, nat_lt, count_by, refl, sym, ap, ◌∙◌, arith, length-append}
 use Rattle.std.proofs.lemmas.Bool.{leb-true, le-leb, both_ways, cases_lt}
 use Rattle.std.proofs.lemmas.List.Elements.{filter-append, filter_agree}
 use Rattle.std.proofs.lemmas.List.Sums.{length-filter}
@@ -9,9 +9,9 @@ use Rattle.dns_record.specs.Records.{same}
 use Rattle.mdns_history.specs.declared.held.Held.{Held}
 use Rattle.mdns_history.specs.Hearings.{Hearing}
 use Rattle.mdns_history.specs.Lifetimes.{live_of, is_live_at}
-use Rattle.mdns_cache.specs.Lifetimes.{Holds, Stands, AllLive, hearing_at, hearings_at, renewed, shortened, is_other, is_renewed_by, count_renewed, after_hearing, after_hearings}
+use Rattle.mdns_cache.specs.Lifetimes.{Stands, hearing_at, hearings_at, renewed, shortened, is_other, is_renewed_by, count_renewed, after_hearing, after_hearings}
 use Rattle.mdns_cache.proofs.ListLemmas.{filter-filter, length-filter-map}
-use Rattle.mdns_cache.proofs.Hearing.{AllLive-filter_live, Holds-after_hearings, Stands-from_holds}
+use Rattle.mdns_cache.proofs.Hearing.{AllLive-filter_live, Holds-after_hearings}
 
 -- a held record that none of several renews
 abbrev pub is_left : List Rr → Held → Bool

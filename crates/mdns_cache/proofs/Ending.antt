@@ -1,8 +1,8 @@
 -- The first record that has ended, found from the front.
 use Rattle.std.proofs.Common.{◌≡◌, ℕ, ◌+◌, ◌<◌, ◌≤◌, ◌&&◌, Bool, true, false, cond, List, [], ◌∷◌, ◌++◌, Option, Some, None, MatchOption, IsPermutation, remove, length, get_or, take, nat_le, refl, sym, ap, subst, ◌∙◌, arith, Ordering, Less, Equal, Greater}
-use Rattle.std.specs.List.{AllByRecursion, HoldsAt}
-use Rattle.std.specs.Option.{ForSome, unwrap_or}
-use Rattle.std.specs.Ordering.{nat_cmp, is_le, is_lt, is_gt, ordering_reverse}
+use Rattle.std.specs.List.{HoldsAt}
+use Rattle.std.specs.Option.{ForSome}
+use Rattle.std.specs.Ordering.{is_le, is_lt, is_gt, ordering_reverse}
 use Rattle.std.specs.Cmp.{IsTotalOrder}
 use Rattle.std.proofs.lemmas.Bool.{false≢true, leb-true, leb-false}
 use Rattle.std.proofs.lemmas.Cmp.{on_total, then_total, nat_cmp_total, tied_itself, upto}
@@ -86,9 +86,11 @@ found_at moment held seen one (Some place) h i within is b e = of b (nat_le one.
     of false true ended true less f = absurd (false≢true (sym f))
     of false true ended false less f =
         (h.0, λ d. subst (λ x. IsFirstEnded moment (seen ++ one ∷ []) x) (get_or_default held place one d h.0) (first_stays moment seen best one (h.1 one) (λ k. le_back one best less)))
-    of false false ended less k f =
-        (h.0, λ d. subst (λ x. IsFirstEnded moment (seen ++ one ∷ []) x) (get_or_default held place one d h.0)
-        (first_stays moment seen best one (h.1 one) (λ k. let lives : moment < one.end = leb-false one.end moment ended in absurd (omega arith))))
+    of false false ended less k f = (
+      h.0,
+      λ d. subst (λ x. IsFirstEnded moment (seen ++ one ∷ []) x) (get_or_default held place one d h.0)
+          (first_stays moment seen best one (h.1 one) (λ k. let lives : moment < one.end = leb-false one.end moment ended in absurd (omega arith))),
+    )
 
 -- a loop's step
 pub found_more : (moment : ℕ) (held : List Held) (i : ℕ) (one : Held) (found : Option ℕ) → i < length held → one ≡ get_or held i one → IsFoundIn moment held (take i held) found →

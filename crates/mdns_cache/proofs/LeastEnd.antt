@@ -1,8 +1,8 @@
 -- The least end: of a list that is read from the front, and of a permutation.
-use Rattle.std.proofs.Common.{◌≡◌, ℕ, ◌+◌, ◌<◌, ◌≤◌, min, List, [], ◌∷◌, ◌++◌, map, take, length, get_or, Some, None, refl, sym, ap, ◌∙◌, arith, IsPermutation}
+use Rattle.std.proofs.Common.{◌≡◌, ℕ, ◌+◌, ◌<◌, min, List, [], ◌∷◌, ◌++◌, map, take, length, get_or, Some, refl, sym, ap, ◌∙◌, arith, IsPermutation}
 use Rattle.std.proofs.lemmas.List.{take_more, map-append}
-use Rattle.std.proofs.lemmas.List.Sorted.{IsPermutation-sym, length_permutation}
-use Rattle.dns_name.specs.Lists.{least_of, least}
+use Rattle.std.proofs.lemmas.List.Sorted.{length_permutation}
+use Rattle.dns_name.specs.Lists.{least_of}
 use Rattle.mdns_history.specs.declared.held.Held.{Held}
 use Rattle.mdns_cache.specs.Lifetimes.{next_end_of}
 use Rattle.mdns_cache.proofs.ListLemmas.{along_permutation}

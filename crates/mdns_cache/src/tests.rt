@@ -12,34 +12,67 @@ use std::sync::ledger::{Blank, Ledger};
 use std::test::Fail;
 
 const FIRST: &str = "a.local. 120 - A 192.0.2.1";
+
 const SECOND: &str = "a.local. 120 - A 192.0.2.2";
+
 const SECOND_FLUSHES: &str = "a.local. 120 flush A 192.0.2.2";
+
 const GOODBYE: &str = "a.local. 0 - A 192.0.2.1";
 
 // Packets by moment, and what is then taken out: by its end, the moment of its last renewal, and as it is spelled.
 type Packets = [(u32, &'static [&'static str]); 3];
+
 type Endings = [(u64, u64, &'static str); 2];
 
 const NO_PACKET: (u32, &[&str]) = (200_000, &[]);
+
 const NO_ENDING: (u64, u64, &str) = (0, 0, "");
 
 const CASES: [(Packets, Endings); 17] = [
     // Heard once, and renewed.
-    ([(1000, &[FIRST]), NO_PACKET, NO_PACKET], [(121_000, 1000, FIRST), NO_ENDING]),
-    ([(1000, &[FIRST]), (5000, &[FIRST]), NO_PACKET], [(125_000, 5000, FIRST), NO_ENDING]),
+    (
+        [(1000, &[FIRST]), NO_PACKET, NO_PACKET],
+        [(121_000, 1000, FIRST), NO_ENDING],
+    ),
+    (
+        [(1000, &[FIRST]), (5000, &[FIRST]), NO_PACKET],
+        [(125_000, 5000, FIRST), NO_ENDING],
+    ),
     // A goodbye leaves a second, and does nothing alone.
-    ([(1000, &[FIRST]), (5000, &[GOODBYE]), NO_PACKET], [(6000, 1000, FIRST), NO_ENDING]),
-    ([(1000, &[GOODBYE]), NO_PACKET, NO_PACKET], [NO_ENDING, NO_ENDING]),
-    ([(1000, &[FIRST]), (5000, &[GOODBYE]), (5500, &[GOODBYE])], [(6000, 1000, FIRST), NO_ENDING]),
-    ([(1000, &[FIRST]), (5000, &[GOODBYE]), (5500, &[FIRST])], [(125_500, 5500, FIRST), NO_ENDING]),
+    (
+        [(1000, &[FIRST]), (5000, &[GOODBYE]), NO_PACKET],
+        [(6000, 1000, FIRST), NO_ENDING],
+    ),
+    (
+        [(1000, &[GOODBYE]), NO_PACKET, NO_PACKET],
+        [NO_ENDING, NO_ENDING],
+    ),
+    (
+        [(1000, &[FIRST]), (5000, &[GOODBYE]), (5500, &[GOODBYE])],
+        [(6000, 1000, FIRST), NO_ENDING],
+    ),
+    (
+        [(1000, &[FIRST]), (5000, &[GOODBYE]), (5500, &[FIRST])],
+        [(125_500, 5500, FIRST), NO_ENDING],
+    ),
     // A goodbye doesn't lengthen a life.
     (
-        [(1000, &["a.local. 1 - A 192.0.2.1"]), (1500, &[GOODBYE]), NO_PACKET],
+        [
+            (1000, &["a.local. 1 - A 192.0.2.1"]),
+            (1500, &[GOODBYE]),
+            NO_PACKET,
+        ],
         [(2000, 1000, "a.local. 1 - A 192.0.2.1"), NO_ENDING],
     ),
     // Within a packet, the order of the records decides.
-    ([(1000, &[FIRST, GOODBYE]), NO_PACKET, NO_PACKET], [(2000, 1000, FIRST), NO_ENDING]),
-    ([(1000, &[GOODBYE, FIRST]), NO_PACKET, NO_PACKET], [(121_000, 1000, FIRST), NO_ENDING]),
+    (
+        [(1000, &[FIRST, GOODBYE]), NO_PACKET, NO_PACKET],
+        [(2000, 1000, FIRST), NO_ENDING],
+    ),
+    (
+        [(1000, &[GOODBYE, FIRST]), NO_PACKET, NO_PACKET],
+        [(121_000, 1000, FIRST), NO_ENDING],
+    ),
     // A flush leaves alone what was heard within the second before it.
     (
         [(1000, &[FIRST]), (2000, &[SECOND_FLUSHES]), NO_PACKET],
@@ -50,27 +83,60 @@ const CASES: [(Packets, Endings); 17] = [
         [(3001, 1000, FIRST), (122_001, 2001, SECOND_FLUSHES)],
     ),
     (
-        [(1000, &[FIRST]), (1000, &[SECOND]), (5000, &[SECOND_FLUSHES])],
+        [
+            (1000, &[FIRST]),
+            (1000, &[SECOND]),
+            (5000, &[SECOND_FLUSHES]),
+        ],
         [(6000, 1000, FIRST), (125_000, 5000, SECOND_FLUSHES)],
     ),
     // A goodbye flushes too, and a flush is of one type.
     (
-        [(1000, &[SECOND, FIRST]), (5000, &["a.local. 0 flush A 192.0.2.2"]), NO_PACKET],
+        [
+            (1000, &[SECOND, FIRST]),
+            (5000, &["a.local. 0 flush A 192.0.2.2"]),
+            NO_PACKET,
+        ],
         [(6000, 1000, FIRST), (6000, 1000, SECOND)],
     ),
     (
-        [(1000, &[FIRST]), (5000, &["a.local. 120 flush TXT 00"]), NO_PACKET],
-        [(121_000, 1000, FIRST), (125_000, 5000, "a.local. 120 flush TXT 00")],
+        [
+            (1000, &[FIRST]),
+            (5000, &["a.local. 120 flush TXT 00"]),
+            NO_PACKET,
+        ],
+        [
+            (121_000, 1000, FIRST),
+            (125_000, 5000, "a.local. 120 flush TXT 00"),
+        ],
     ),
     // Letters' case doesn't matter, and the last spelling is kept.
     (
-        [(1000, &[FIRST]), (2000, &["A.Local. 120 - A 192.0.2.1"]), NO_PACKET],
+        [
+            (1000, &[FIRST]),
+            (2000, &["A.Local. 120 - A 192.0.2.1"]),
+            NO_PACKET,
+        ],
         [(122_000, 2000, "A.Local. 120 - A 192.0.2.1"), NO_ENDING],
     ),
-    ([(1000, &[FIRST]), (5000, &["A.LOCAL. 0 - A 192.0.2.1"]), NO_PACKET], [(6000, 1000, FIRST), NO_ENDING]),
     (
-        [(1000, &[FIRST]), (5000, &["A.LOCAL. 120 flush A 192.0.2.2"]), NO_PACKET],
-        [(6000, 1000, FIRST), (125_000, 5000, "A.LOCAL. 120 flush A 192.0.2.2")],
+        [
+            (1000, &[FIRST]),
+            (5000, &["A.LOCAL. 0 - A 192.0.2.1"]),
+            NO_PACKET,
+        ],
+        [(6000, 1000, FIRST), NO_ENDING],
+    ),
+    (
+        [
+            (1000, &[FIRST]),
+            (5000, &["A.LOCAL. 120 flush A 192.0.2.2"]),
+            NO_PACKET,
+        ],
+        [
+            (6000, 1000, FIRST),
+            (125_000, 5000, "A.LOCAL. 120 flush A 192.0.2.2"),
+        ],
     ),
 ];
 

@@ -1,4 +1,4 @@
-use Rattle.std.proofs.Common.{◌≡◌, ◌∙◌, sym, ap, set}
+use Rattle.std.proofs.Common.{◌∙◌, sym, ap, set}
 use Rattle.std.proofs.lemmas.List.Edits.{map_over_more}
 use Rattle.mdns_cache.specs.Lifetimes.{hearing_at, shortened}
 use Rattle.mdns_cache.proofs.hear.shorten.Goals as goal

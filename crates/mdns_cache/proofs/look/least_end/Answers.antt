@@ -1,4 +1,4 @@
-use Rattle.std.proofs.Common.{◌≡◌, ◌∙◌, sym, ap, min}
+use Rattle.std.proofs.Common.{◌∙◌, sym, ap, min}
 use Rattle.mdns_cache.proofs.LeastEnd.{least_of-more}
 use Rattle.mdns_cache.proofs.look.least_end.Goals as goal
 

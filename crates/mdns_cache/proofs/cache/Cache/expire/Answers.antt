@@ -1,7 +1,5 @@
-use Rattle.std.proofs.Common.{◌≡◌, ◌∙◌, sym, ap, subst, IsPermutation, IfNone, Option, Some, None, List, ◌∷◌, ◌<◌, ◌≤◌, length, get_or}
-use Rattle.std.proofs.lemmas.List.Sorted.{IsPermutation-remove}
+use Rattle.std.proofs.Common.{◌≡◌, IfNone, Option, Some, None, List, ◌<◌, ◌≤◌, length, get_or}
 use Rattle.std.specs.List.{HoldsAt}
-use Rattle.mdns_history.specs.declared.held.Held.{Held}
 use Rattle.mdns_history.specs.Hearings.{Hearing}
 use Rattle.mdns_cache.specs.Lifetimes.{AllLive, IsFirstEnded, Holds, Stands}
 use Rattle.mdns_cache.proofs.Hearing.{Holds-from_stands, Stands-later, Stands-taken}

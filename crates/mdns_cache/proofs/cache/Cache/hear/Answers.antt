@@ -1,10 +1,8 @@
-use Rattle.std.proofs.Common.{◌≡◌, ◌∙◌, ◌≤◌, ◌<◌, ◌++◌, ap, sym, subst, arith, length, map, List, Result, Ok, Err, IsErrAnd}
-use Rattle.mdns_history.specs.declared.held.Held.{Held}
-use Rattle.mdns_history.specs.Hearings.{Hearing}
+use Rattle.std.proofs.Common.{◌≡◌, ◌∙◌, ◌≤◌, ◌++◌, ap, arith, length, map, Result, Ok, Err, IsErrAnd}
 use Rattle.mdns_history.specs.Lifetimes.{live_of}
 use Rattle.mdns_cache.specs.declared.error.HearError.{HearError}
 use Rattle.mdns_cache.specs.declared.error.HearError.TheVariants.{Full, NoMemory}
-use Rattle.mdns_cache.specs.Lifetimes.{Holds, Stands, AllLive, hearing_at, hearings_at, after_hearings}
+use Rattle.mdns_cache.specs.Lifetimes.{hearing_at, hearings_at, after_hearings}
 use Rattle.mdns_cache.proofs.Hearing.{Holds-after_hearings, AllLive-after_hearings, Stands-from_holds}
 use Rattle.mdns_cache.proofs.Counting.{past_limit}
 use Rattle.mdns_cache.proofs.cache.Cache.hear.Goals as goal

@@ -1,4 +1,4 @@
-use Rattle.std.proofs.Common.{◌≡◌, ◌∙◌, ap}
+use Rattle.std.proofs.Common.{◌∙◌, ap}
 use Rattle.mdns_history.specs.Lifetimes.{live_of}
 use Rattle.mdns_cache.specs.Lifetimes.{next_end_of}
 use Rattle.mdns_cache.proofs.LeastEnd.{next_end_of-permutation}
