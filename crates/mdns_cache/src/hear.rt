@@ -43,6 +43,7 @@ fn hear_one(held: &mut Vec<Held>, now: u64, word: u32, rr: Rr)
     });
 }
 
+// Drops what the record is the same as. (A hearing's word doesn't count here and below, so the clauses write 0.)
 fn drop_same(held: &mut Vec<Held>, rr: &Rr)
     ensures items { held.new.items ≡ filter (is_other (hearing_at 0 0 rr.now)) held.old.items }
     ensures len { vec_len held.new ≤ vec_len held.old }
