@@ -45,6 +45,14 @@ impl Rrs {
     {
         self.vec.as_slice()
     }
+
+    /// The records, in their order, each by value. It takes no memory.
+    pub fn into_vec(self) -> Vec<Rr>
+        ensures { result.items ≡ self }
+    {
+        let Rrs { vec } = self;
+        vec
+    }
 }
 
 /// A list of questions.

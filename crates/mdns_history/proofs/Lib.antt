@@ -1,5 +1,5 @@
 pub mod AllOpen
-mod LifetimeSteps
+pub mod LifetimeSteps
 mod LifetimeAll
 mod Steps
 mod Played

@@ -1,0 +1,5 @@
+pub mod ListLemmas
+pub mod LeastEnd
+pub mod Hearing
+pub mod Counting
+pub mod Ending

@@ -1,0 +1,178 @@
+// The cache: the heard records that are live.
+ghost use Rattle.std.specs.Prelude.{◌≡◌, ◌↔◌, ℕ, ◌+◌, ◌-◌, ◌<◌, ◌≤◌, ◌^◌, List, [], ◌∷◌, ◌++◌, length, slice_get, IsTrue, IsOk, IfOk, OnOk, OnErr, IfErr, IfNone, IfSome, MatchOption};
+ghost use Rattle.std.specs.Option.{option_copied};
+ghost use Rattle.std.specs.List.Sorted.{IsPermutation};
+ghost use Rattle.mdns_history.specs.Hearings.{Hearing};
+ghost use Rattle.mdns_history.specs.Lifetimes.{live_of};
+ghost use Rattle.mdns_cache.specs.Lifetimes.{hearings_at, Holds, Stands, AllLive, IsFirstEnded, held_of, next_end_of};
+
+use crate::count::{count_left, count_renewed};
+use crate::hear::hear_all;
+use crate::look::{first_ended, held_at, least_end};
+use crate::{HearError, Steps};
+use dns_message::Rrs;
+use dns_name::Name;
+use dns_record::Rr;
+use mdns_history::Held;
+use std::alloc::{AllocError, Global};
+use std::marker::Model;
+use std::sync::ledger::Ledger;
+
+/// The records that were heard and are live, with room for a limited number. A moment is in ms. (RFC 6762 10)
+#[derive(Drop)]
+pub struct Cache {
+    limit: usize,
+    held: Vec<Held>,
+}
+
+impl Model for Cache {
+    ghost use Rattle.std.specs.Prelude.{◌-◌, vec_len, vec_capacity};
+    ghost use Rattle.mdns_cache.specs.Contents.{Contents};
+
+    ghost Value = { Contents };
+
+    ghost view = { λ c. record { held = c.held.items; limit = c.limit; spare = vec_capacity c.held - vec_len c.held } };
+}
+
+impl Cache {
+    /// A cache that holds nothing, in which at most `limit` records may be live. Refused only for want of memory.
+    pub fn new(alloc: Global, limit: usize) -> Result<Cache, AllocError>
+        ensures held { IfOk result (λ cache. cache.held ≡ []) }
+        ensures limit { IfOk result (λ cache. cache.limit ≡ limit) }
+        ensures stands { IfOk result (λ cache. (moment : ℕ) → Holds cache.held [] moment) }
+    {
+        Ok(Cache {
+            limit,
+            held: Vec::new(alloc),
+        })
+    }
+
+    /// An equal cache, but for its room. Refused only for want of memory.
+    pub fn copy(&self, alloc: Global) -> Result<Cache, AllocError>
+        ensures held { IfOk result (λ copy. copy.held ≡ self.now.held) }
+        ensures limit { IfOk result (λ copy. copy.limit ≡ self.now.limit) }
+    {
+        Ok(Cache {
+            limit: self.limit,
+            held: copied(alloc, &self.held)?,
+        })
+    }
+
+    /// Takes room for `more` records. Nothing else changes. Refused only for want of memory.
+    pub fn reserve(&mut self, more: usize) -> Result<(), AllocError>
+        ensures held { self.new.held ≡ self.old.held }
+        ensures limit { self.new.limit ≡ self.old.limit }
+        ensures room { OnOk result (more ≤ self.new.spare) }
+        ensures kept { self.old.spare ≤ self.new.spare }
+        ensures err { OnErr result (self.new ≡ self.old) }
+    {
+        self.held.reserve(more)?;
+        Ok(())
+    }
+
+    /// The held records, in no promised order.
+    pub fn held(&self) -> &[Held]
+        ensures { result.now ≡ self.now.held }
+    {
+        self.held.as_slice()
+    }
+
+    /// How many records are held.
+    pub fn len(&self) -> usize
+        ensures { result ≡ length self.now.held }
+    {
+        self.held.len()
+    }
+
+    /// Whether no record is held.
+    pub fn is_empty(&self) -> bool
+        ensures { IsTrue result ↔ (self.now.held ≡ []) }
+    {
+        self.held.is_empty()
+    }
+
+    /// Whether as many records may be live as would be after `hear` of these at `now`.
+    pub fn fits(&self, now: u64, heard: &[Rr]) -> bool
+        ensures { (past : List Hearing) (word : ℕ) → Stands self.now.held past now
+            → IsTrue result ↔ (length (live_of (hearings_at now word heard.now ++ past) now) ≤ self.now.limit) }
+    {
+        let left = count_left(&self.held, now, heard);
+        left <= self.limit && count_renewed(heard) <= self.limit - left
+    }
+
+    /// Hears the records of a packet, in their order, at `now` with the packet's random word. `Full` where more records
+    /// than the limit would be live, and `NoMemory` only where there is no room for all of `heard`. After an `Err` the
+    /// cache is as before. (RFC 6762 10, 10.1 and 10.2)
+    pub fn hear(&mut self, now: u64, word: u32, heard: Rrs) -> Result<(), HearError>
+        requires bound { now ≤ 2 ^ 53 }
+        requires live { AllLive now self.old.held }
+
+        // It holds exactly the live records, for every list of hearings with these in front.
+        ensures holds { OnOk result ((past : List Hearing) → Holds self.old.held past now
+            → Holds self.new.held (hearings_at now word heard ++ past) now) }
+        ensures live { OnOk result (AllLive now self.new.held) }
+
+        ensures full { (past : List Hearing) → Holds self.old.held past now
+            → (result ≡ Err HearError.Full) ↔ (self.old.limit < length (live_of (hearings_at now word heard ++ past) now)) }
+        ensures no_memory { result ≡ Err HearError.NoMemory → self.old.spare < length heard }
+        ensures err { OnErr result (self.new ≡ self.old) }
+
+        ensures limit { self.new.limit ≡ self.old.limit }
+        ensures room { self.old.spare ≤ self.new.spare + length heard }
+    {
+        if !self.fits(now, heard.as_slice()) {
+            return Err(HearError::Full);
+        }
+        let records = heard.into_vec();
+        self.held.reserve(records.len())?;
+        hear_all(&mut self.held, now, word, records);
+        Ok(())
+    }
+
+    /// Takes out the first record that has ended at `now`, by end and then by record, `None` exactly where none has ended.
+    pub fn expire<L: Ledger>(&mut self, now: u64, steps: &mut Steps<L>) -> Option<Held>
+        // What stood for hearings at an earlier moment stands for them now.
+        ensures stands { (heard : List Hearing) (before : ℕ) → before ≤ now → Stands self.old.held heard before
+            → Stands self.new.held heard now }
+        // When nothing has ended, it holds exactly the live records.
+        ensures none { IfNone result ((self.new ≡ self.old) × AllLive now self.new.held) }
+        ensures holds { IfNone result ((heard : List Hearing) (before : ℕ) → before ≤ now → Stands self.old.held heard before
+            → Holds self.new.held heard now) }
+
+        ensures first { IfSome result (IsFirstEnded now self.old.held) }
+        ensures taken { IfSome result (λ one. IsPermutation self.old.held (one ∷ self.new.held)) }
+        ensures limit { self.new.limit ≡ self.old.limit }
+        ensures room { self.old.spare ≤ self.new.spare }
+    {
+        steps.tick();
+        let place = first_ended(&self.held, now)?;
+        Some(self.held.remove(place))
+    }
+
+    /// The held record at a place, counted from 0, among those of a name, case aside; `None` exactly past the last.
+    pub fn visit<L: Ledger>(&self, name: &Name, place: usize, steps: &mut Steps<L>) -> Option<&Held>
+        ensures { option_copied result ≡ slice_get (held_of name.now self.now.held) place }
+    {
+        steps.tick();
+        held_at(&self.held, name, place)
+    }
+
+    /// The least end of the held records; `None` exactly where nothing is held.
+    pub fn next_end(&self) -> Option<u64>
+        ensures least { result ≡ next_end_of self.now.held }
+        ensures live { (heard : List Hearing) (moment : ℕ) → Holds self.now.held heard moment
+            → result ≡ next_end_of (live_of heard moment) }
+    {
+        least_end(&self.held)
+    }
+}
+
+fn copied(alloc: Global, held: &[Held]) -> Result<Vec<Held>, AllocError>
+    ensures { IfOk result (λ copy. copy.items ≡ held.now) }
+{
+    let mut copy = Vec::new(alloc);
+    for one in held {
+        copy.push(one.copy(alloc)?)?;
+    }
+    Ok(copy)
+}

@@ -1,0 +1,85 @@
+// What hearings do to the records that are held.
+ghost use Rattle.std.specs.Prelude.{◌≡◌, ◌+◌, ◌<◌, ◌≤◌, ◌^◌, vec_len, vec_capacity, map, filter, reverse};
+ghost use Rattle.mdns_history.specs.Lifetimes.{cuts};
+ghost use Rattle.mdns_cache.specs.Lifetimes.{hearing_at, is_other, shortened, after_hearing, after_hearings};
+
+use dns_record::Rr;
+use mdns_history::Held;
+
+/// Hears records one after another, where there is room for as many.
+pub fn hear_all(held: &mut Vec<Held>, now: u64, word: u32, mut records: Vec<Rr>)
+    requires bound { now ≤ 2 ^ 53 }
+    requires room { vec_len held.old + vec_len records ≤ vec_capacity held.old }
+    ensures items { held.new.items ≡ after_hearings held.old.items (map (hearing_at now word) records.items) }
+    ensures len { vec_len held.new ≤ vec_len held.old + vec_len records }
+    ensures capacity { vec_capacity held.old ≤ vec_capacity held.new }
+{
+    records.reverse();
+    while let Some(rr) = records.pop() {
+        hear_one(held, now, word, rr);
+    }
+}
+
+// Hears one record: what it is the same as is dropped, other lives are cut, and it is held itself.
+fn hear_one(held: &mut Vec<Held>, now: u64, word: u32, rr: Rr)
+    requires bound { now ≤ 2 ^ 53 }
+    requires room { vec_len held.old < vec_capacity held.old }
+    ensures items { held.new.items ≡ after_hearing held.old.items (hearing_at now word rr) }
+    ensures len { vec_len held.new ≤ vec_len held.old + 1 }
+    ensures capacity { vec_capacity held.old ≤ vec_capacity held.new }
+{
+    if rr.ttl == 0 {
+        shorten(held, now, &rr);
+        return;
+    }
+    drop_same(held, &rr);
+    shorten(held, now, &rr);
+    let end = now + 1000 * u64::from(rr.ttl);
+    let _ = held.push(Held {
+        rr,
+        heard: now,
+        word,
+        end,
+    });
+}
+
+// Drops what the record is the same as. (A hearing's word doesn't count here and below, so the clauses write 0.)
+fn drop_same(held: &mut Vec<Held>, rr: &Rr)
+    ensures items { held.new.items ≡ filter (is_other (hearing_at 0 0 rr.now)) held.old.items }
+    ensures len { vec_len held.new ≤ vec_len held.old }
+    ensures capacity { vec_capacity held.new ≡ vec_capacity held.old }
+{
+    held.retain(|one| !one.rr.same(rr));
+}
+
+// Cuts the lives of records to a second where a hearing does so.
+fn shorten(held: &mut [Held], now: u64, rr: &Rr)
+    requires { now ≤ 2 ^ 53 }
+    ensures { held.new ≡ map (shortened (hearing_at now 0 rr.now)) held.old }
+{
+    for one in held.iter_mut() {
+        shorten_one(one, now, rr);
+    }
+}
+
+fn shorten_one(one: &mut Held, now: u64, rr: &Rr)
+    requires { now ≤ 2 ^ 53 }
+    ensures { one.new ≡ shortened (hearing_at now 0 rr.now) one.old }
+{
+    if is_cut(one, now, rr) {
+        one.end = (now + 1000).min(one.end);
+    }
+}
+
+// Whether a hearing cuts the life of a record: a goodbye, or a flush more than a second after it was heard.
+fn is_cut(one: &Held, now: u64, rr: &Rr) -> bool
+    ensures { result ≡ cuts one.now.rr one.now.heard (hearing_at now 0 rr.now) }
+{
+    if rr.ttl == 0 && one.rr.same(rr) {
+        return true;
+    }
+    rr.flush
+        && one.rr.owner.folded_eq(&rr.owner)
+        && one.rr.rdata.kind() == rr.rdata.kind()
+        && one.heard < now.saturating_sub(1000)
+}
