@@ -1,0 +1,4 @@
+pub mod Frames
+pub mod Parts
+pub mod Reading
+pub mod Taking
