@@ -59,7 +59,7 @@ named bytes (Some rest) = Ok (labels_of bytes, rest)
 unfoldable pub name_part : List ℕ → Part (List (List ℕ))
 name_part bytes = named bytes (after_name bytes)
 
--- a value whose bytes end with it
-abbrev pub ended : {X : Type 0} → X → List ℕ → Result X FrameError
-ended value [] = Ok value
-ended value (byte ∷ rest) = Err BadBody
+-- Nothing follows.
+abbrev pub ended : List ℕ → Result (Unit {0}) FrameError
+ended [] = Ok tt
+ended (byte ∷ rest) = Err BadBody

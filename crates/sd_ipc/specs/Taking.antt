@@ -18,3 +18,7 @@ IsOf result wanted = IsRefused result ⊎ (result ≡ wanted)
 -- at most so many bytes were taken
 abbrev pub TakesUpTo : ℕ → List ℕ → Option (List ℕ) → Type 0
 TakesUpTo most bytes left = (count : ℕ) × (count ≤ most) × (left ≡ Some (drop count bytes))
+
+-- So many bytes were taken, as far as there were so many, but where the reading was refused.
+abbrev pub TakesWhole : {X : Type 0} → Result X FrameError → ℕ → List ℕ → Option (List ℕ) → Type 0
+TakesWhole result size bytes left = IsRefused result ⊎ (left ≡ Some (drop size bytes))

@@ -4,8 +4,12 @@
 #![tactic(auto)]
 
 mod answers;
+mod bodies;
 mod data;
+mod data_bytes;
 mod error;
+mod fields;
+mod item_bodies;
 mod items;
 mod parts;
 mod reading;

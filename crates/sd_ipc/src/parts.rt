@@ -1,6 +1,6 @@
 // The parts with which bytes begin, each with what follows it. Numbers have their byte of the greatest worth first.
-ghost use Rattle.std.specs.Prelude.{◌≡◌, ◌⊎◌, ◌≤◌, length, Ok, Err, OnOk, IfErr, MatchResult};
-ghost use Rattle.sd_ipc.specs.Parts.{byte_part, u16_part, u32_part, bytes_part, counted_part, text_part, txt_part, name_part, ended, IsReadAs};
+ghost use Rattle.std.specs.Prelude.{◌≡◌, ◌⊎◌, ◌≤◌, length, Ok, Err, IfOk, MatchResult};
+ghost use Rattle.sd_ipc.specs.Parts.{byte_part, u16_part, u32_part, bytes_part, counted_part, text_part, txt_part, name_part, ended};
 
 use crate::FrameError;
 use dns_name::Name;
@@ -107,7 +107,7 @@ pub(crate) fn name_part(bytes: &[u8]) -> Result<(Name, &[u8]), FrameError>
 
 /// Nothing follows.
 pub(crate) fn ended(rest: &[u8]) -> Result<(), FrameError>
-    ensures { result ≡ ended tt rest.now }
+    ensures { result ≡ ended rest.now }
 {
     if rest.is_empty() {
         Ok(())
