@@ -1,0 +1,10 @@
+pub mod Numbers
+pub mod Names
+pub mod PartsAgain
+pub mod Chains
+pub mod RequestsAgain
+pub mod DataAgain
+pub mod ItemsAgain
+pub mod Sources
+pub mod NoFault
+pub mod FramesAgain

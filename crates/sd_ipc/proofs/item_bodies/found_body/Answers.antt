@@ -1,0 +1,6 @@
+use Rattle.sd_ipc.proofs.Chains.{first, next}
+use Rattle.sd_ipc.proofs.ItemsAgain.{found_body}
+use Rattle.sd_ipc.proofs.item_bodies.found_body.Goals as goal
+
+pub returns : goal.returns
+returns c = found_body _ _ (next _ _ _ _ (first _ _ _ c.new-out.ensures.items c.in_ok-push.ensures.items) c.in_ok-put_name.ensures.bytes) c.in_ok-put_name.ensures.again

@@ -1,0 +1,5 @@
+pub mod Frames
+pub mod Parts
+pub mod Reading
+pub mod Taking
+pub mod Again
