@@ -2,9 +2,11 @@
 #![tactic(auto)]
 
 mod answers;
+mod laws;
 mod lists;
 mod questions;
 
 pub use answers::answers_of;
+pub use laws::{only_matching_records_matter, order_of_records_is_free};
 pub use lists::Answers;
 pub use questions::questions_of;
