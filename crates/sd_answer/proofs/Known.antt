@@ -1,11 +1,11 @@
 -- Data are known by their type and bytes, and answers by their bytes.
-use Rattle.std.proofs.Common.{◌≡◌, ℕ, ◌+◌, ◌-◌, ◌*◌, ◌/◌, ◌%◌, ◌^◌, ◌<◌, Bool, true, false, cond, not, ◌&&◌, ◌||◌, eqb, List, [], ◌∷◌, ◌++◌, length, take, drop, refl, ap, ◌∙◌, sym, arith, Option, Some, None, length-append}
+use Rattle.std.proofs.Common.{◌≡◌, ℕ, ◌-◌, ◌^◌, ◌<◌, Bool, true, false, cond, not, ◌&&◌, ◌||◌, eqb, List, [], ◌∷◌, ◌++◌, length, take, drop, refl, ap, ◌∙◌, sym, arith, Option, length-append}
 use Rattle.std.specs.Int.{to_be_bytes, from_be_bytes, w16, w32, w128}
 use Rattle.std.specs.Option.{unwrap_or}
 use Rattle.std.specs.List.{list_all}
 use Rattle.std.proofs.Math.Seq.{take-append_seam}
 use Rattle.std.proofs.lemmas.Nat.{from_be_bytes-to_be_bytes_2, from_be_bytes-to_be_bytes_4}
-use Rattle.dns_name.specs.Names.{wire_of, labels_of, is_label, is_name}
+use Rattle.dns_name.specs.Names.{wire_of, labels_of, is_name}
 use Rattle.dns_name.proofs.Wire.{labels_of-wire_of, name_each}
 use Rattle.dns_record.specs.declared.record.Rdata.{Rdata}
 use Rattle.dns_record.specs.declared.record.Rdata.TheVariants.{A, Aaaa, Ptr, Cname, Srv, Txt, Nsec, Raw}
@@ -36,7 +36,7 @@ rest_is name more h = ap (λ (o : Option (List ℕ)). unwrap_or o []) (after_nam
 front_is : (name : List (List ℕ)) (more : List ℕ) → is_name name ≡ true → front_name (wire_of name ++ more) ≡ name
 front_is name more h =
     let size : length (wire_of name ++ more) - length (rest_of (wire_of name ++ more)) ≡ length (wire_of name) =
-        ap (λ (l : List ℕ). length (wire_of name ++ more) - length l) (rest_is name more h) ∙ omega (arith, length-append (wire_of name) more) in
+    ap (λ (l : List ℕ). length (wire_of name ++ more) - length l) (rest_is name more h) ∙ omega (arith, length-append (wire_of name) more) in
     ap (λ (k : ℕ). labels_of (take k (wire_of name ++ more))) size ∙ ap labels_of (take-append_seam (wire_of name) more) ∙ labels_of-wire_of name (name_each name h)
 
 -- the data of a type and bytes

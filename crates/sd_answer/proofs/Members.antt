@@ -1,17 +1,15 @@
 -- Answers depend on which records there are.
-use Rattle.std.proofs.Common.{◌≡◌, ℕ, ◌<◌, Bool, true, false, cond, not, eqb, subst, ◌&&◌, ◌||◌, List, [], ◌∷◌, ◌++◌, length, refl, ap, ◌∙◌, sym, Option, Some, None}
-use Rattle.std.specs.Prelude.{filter, ◌↔◌}
+use Rattle.std.proofs.Common.{◌≡◌, ℕ, Bool, true, false, cond, not, eqb, subst, ◌&&◌, ◌||◌, List, [], ◌∷◌, ◌++◌, refl, ap, ◌∙◌, sym, Option, Some, None}
+use Rattle.std.specs.Prelude.{filter}
 use Rattle.std.specs.List.{list_any, list_all, flat_map, filter_map, cons_option, Any, Contains}
-use Rattle.std.specs.List.Sorted.{IsPermutation}
-use Rattle.std.specs.Ordering.{is_eq, nat_cmp}
+use Rattle.std.specs.Ordering.{is_eq}
 use Rattle.std.specs.Cmp.{both_ways}
-use Rattle.std.specs.Cmp.Lexicographic.{slice_cmp}
 use Rattle.std.proofs.lemmas.List.Folds.{Any-from_list_any, list_any-from_Any, list_any-append}
 use Rattle.std.proofs.lemmas.List.Sorted.{list_any-IsPermutation}
 use Rattle.dns_name.specs.Names.{folded_eq}
 use Rattle.dns_name.specs.Lists.{ordered}
 use Rattle.dns_record.specs.declared.record.Rdata.{Rdata}
-use Rattle.dns_record.specs.declared.record.Rdata.TheVariants.{A, Aaaa, Ptr, Cname, Srv, Txt, Nsec, Raw}
+use Rattle.dns_record.specs.declared.record.Rdata.TheVariants.{Ptr, Srv, Txt}
 use Rattle.dns_record.specs.declared.record.Rr.{Rr}
 use Rattle.dns_record.specs.declared.record.Key.{Key}
 use Rattle.dns_record.specs.Records.{matches, any_kind, kind_of}
@@ -24,7 +22,7 @@ use Rattle.sd_call.specs.Answers.{answer_bytes, answer_cmp}
 use Rattle.sd_call.proofs.AnswerLists.{eq_path}
 use Rattle.mdns_history.specs.Typed.{is_typed_answer}
 use Rattle.mdns_history.specs.Questions.{keys_of, key_of, address_keys, browse_keys, resolve_keys}
-use Rattle.mdns_history.specs.Answers.{matching, datum_of, found_in, resolved_with, resolved_pairs, answers_from, answers_over}
+use Rattle.mdns_history.specs.Answers.{matching, datum_of, found_in, resolved_with, answers_from, answers_over}
 use Rattle.mdns_history.proofs.RecordTexts.{four}
 use Rattle.sd_answer.specs.Laws.{have_data, IsOrderFree, IsCountFree, IsOfOneName, IsNothingUnasked}
 use Rattle.sd_answer.proofs.Ordered.{same-ordered}

@@ -1,8 +1,8 @@
 -- Answers put one by one are the answers in order, each once.
-use Rattle.std.proofs.Common.{◌≡◌, ℕ, suc, ◌+◌, ◌<◌, ◌≤◌, Bool, true, false, cond, not, List, [], ◌∷◌, ◌++◌, length, take, drop, get_or, ltb, refl, ap, ◌∙◌, sym, append_assoc, append-nil, arith, Option, Some, None}
+use Rattle.std.proofs.Common.{◌≡◌, ℕ, suc, ◌+◌, ◌<◌, ◌≤◌, Bool, true, false, cond, not, List, [], ◌∷◌, ◌++◌, length, take, get_or, ltb, refl, ap, ◌∙◌, sym, append_assoc, append-nil, arith, Option, Some, None}
 use Rattle.std.specs.Prelude.{filter}
-use Rattle.std.specs.List.{list_any, flat_map, filter_map, prefix_len, position, insert}
-use Rattle.std.specs.Ordering.{is_lt, nat_cmp}
+use Rattle.std.specs.List.{flat_map, filter_map, prefix_len, position, insert}
+use Rattle.std.specs.Ordering.{is_lt}
 use Rattle.std.specs.Cmp.{IsTotalOrder, on_total}
 use Rattle.std.specs.Cmp.Lexicographic.{nat_list_cmp_total}
 use Rattle.std.proofs.lemmas.List.{take_more}

@@ -10,3 +10,6 @@ pub use answers::answers_of;
 pub use laws::{only_matching_records_matter, order_of_records_is_free};
 pub use lists::Answers;
 pub use questions::questions_of;
+
+#[cfg(test)]
+mod tests;

@@ -1,5 +1,5 @@
 use Rattle.std.proofs.Common.{◌≡◌, take}
-use Rattle.std.specs.List.{filter_map, flat_map}
+use Rattle.std.specs.List.{filter_map}
 use Rattle.mdns_history.specs.Answers.{datum_of, matching}
 use Rattle.sd_answer.specs.Putting.{put_all}
 use Rattle.sd_answer.proofs.answers.put_data.Given as goal

@@ -1,8 +1,7 @@
-use Rattle.std.proofs.Common.{◌∙◌, ap, sym, List, [], ◌∷◌}
+use Rattle.std.proofs.Common.{◌∙◌, ap, sym, [], ◌∷◌}
 use Rattle.std.specs.List.{list_any, filter_map}
 use Rattle.dns_record.specs.declared.record.Rr.{Rr}
 use Rattle.dns_record.specs.Records.{matches}
-use Rattle.sd_call.specs.declared.answer.Answer.{Answer}
 use Rattle.mdns_history.specs.Answers.{matching, found_in}
 use Rattle.sd_answer.specs.Putting.{put_all}
 use Rattle.sd_answer.proofs.Puts.{put_more}
