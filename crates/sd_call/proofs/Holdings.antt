@@ -14,7 +14,7 @@ use Rattle.sd_call.specs.declared.replayed.Kept.{Kept}
 use Rattle.sd_call.specs.declared.item.Item.TheVariants.{Add, Remove}
 use Rattle.sd_call.specs.Answers.{answer_bytes, answer_eq}
 use Rattle.sd_call.specs.Replay.{AnswerSet, AnswerSets, replay_item, set_at, put_answer, take_answer}
-use Rattle.sd_call.specs.Holding.{has, answers_of, is_it, sets_in}
+use Rattle.sd_call.specs.Holding.{has, answers_of, is_it, are_once, sets_in}
 use Rattle.sd_call.proofs.AnswerLists.{eq, eq_symm, eq_path, any_of, answer_eq-is}
 use Rattle.sd_call.proofs.ReplayLaws.{set_of, contains-set_of}
 use Rattle.sd_call.proofs.ReplayRuns.{is_at, get-insert, same_sets}
@@ -382,3 +382,60 @@ pub past_end : (answers : List Kept) (place : ℕ) → length answers ≤ place 
 past_end [] place h = refl
 past_end (first ∷ answers) zero h = absurd (omega arith)
 past_end (first ∷ answers) (suc place) h = past_end answers place (omega arith)
+
+-- ---- no answer twice
+
+and_parts : (a b : Bool) → (a && b) ≡ true → (a ≡ true) × (b ≡ true)
+and_parts true b h = (refl, h)
+and_parts false b h = absurd (cc)
+
+not_true : (a : Bool) → not a ≡ true → a ≡ false
+not_true true h = absurd (cc)
+not_true false h = refl
+
+or_parts : (a b : Bool) → (a || b) ≡ false → (a ≡ false) × (b ≡ false)
+or_parts true b h = absurd (cc)
+or_parts false b h = (refl, h)
+
+any-kept : (t p : Kept → Bool) (kept : List Kept) → list_any t kept ≡ false → list_any t (filter p kept) ≡ false
+any-kept t p [] h = refl
+any-kept t p (one ∷ kept) h = at (p one) (or_parts (t one) (list_any t kept) h).0 (any-kept t p kept (or_parts (t one) (list_any t kept) h).1)
+  where
+    at : (b : Bool) → t one ≡ false → list_any t (filter p kept) ≡ false → list_any t (cond b (one ∷ filter p kept) (filter p kept)) ≡ false
+    at true e ih = ap (λ b. b || list_any t (filter p kept)) e ∙ ih
+    at false e ih = ih
+
+-- fewer answers are none of them twice
+pub once_kept : (p : Kept → Bool) (kept : List Kept) → are_once kept ≡ true → are_once (filter p kept) ≡ true
+once_kept p [] h = refl
+once_kept p (one ∷ kept) h = at (p one) (once_kept p kept parts.1)
+  where
+    parts : (not (list_any (is_it one.op one.answer) kept) ≡ true) × (are_once kept ≡ true)
+    parts = and_parts (not (list_any (is_it one.op one.answer) kept)) (are_once kept) h
+
+    at : (b : Bool) → are_once (filter p kept) ≡ true → are_once (cond b (one ∷ filter p kept) (filter p kept)) ≡ true
+    at true ih = ap (λ b. not b && are_once (filter p kept)) (any-kept (is_it one.op one.answer) p kept (not_true (list_any (is_it one.op one.answer) kept) parts.0)) ∙ ih
+    at false ih = ih
+
+is_it-turned : (one other : Kept) → is_it one.op one.answer other ≡ is_it other.op other.answer one
+is_it-turned one other =
+    is_it-holds one.op one.answer other
+    ∙ ap (λ b. b && eq (answer_bytes one.answer) (answer_bytes other.answer)) (turned other.op one.op)
+    ∙ ap (λ b. eqb one.op other.op && b) (eq_symm (answer_bytes one.answer) (answer_bytes other.answer))
+    ∙ sym (is_it-holds other.op other.answer one)
+
+-- an answer that isn't there is there once behind the others
+pub once_added : (kept : List Kept) (last : Kept) → list_any (is_it last.op last.answer) kept ≡ false → are_once kept ≡ true → are_once (kept ++ last ∷ []) ≡ true
+once_added [] last away h = refl
+once_added (one ∷ kept) last away h =
+    ap (λ b. not b && are_once (kept ++ last ∷ []))
+    (list_any-append (is_it one.op one.answer) kept (last ∷ [])
+    ∙ ap (λ b. b || (is_it one.op one.answer last || false)) (not_true (list_any (is_it one.op one.answer) kept) parts.0)
+    ∙ ap (λ b. b || false) (is_it-turned one last ∙ others.0))
+    ∙ once_added kept last others.1 parts.1
+  where
+    parts : (not (list_any (is_it one.op one.answer) kept) ≡ true) × (are_once kept ≡ true)
+    parts = and_parts (not (list_any (is_it one.op one.answer) kept)) (are_once kept) h
+
+    others : (is_it last.op last.answer one ≡ false) × (list_any (is_it last.op last.answer) kept ≡ false)
+    others = or_parts (is_it last.op last.answer one) (list_any (is_it last.op last.answer) kept) away

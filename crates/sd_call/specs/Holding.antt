@@ -1,5 +1,5 @@
 -- What a client holds that replays its items, as lists: the operations that were started and not stopped, and their answers.
-use Rattle.std.specs.Prelude.{◌≡◌, ℕ, ◌==◌, ◌&&◌, Bool, List, map, filter, slice_get, Option, None, if◌then◌else◌}
+use Rattle.std.specs.Prelude.{ℕ, ◌==◌, ◌&&◌, Bool, true, not, List, [], ◌∷◌, map, filter, slice_get, Option, None, if◌then◌else◌}
 use Rattle.std.specs.List.{list_any}
 use Rattle.std.specs.FinMap as fin
 use Rattle.std.specs.FinSet as set
@@ -25,6 +25,11 @@ answers_of op kept = map (λ one. one.answer) (filter (λ one. one.op == op) kep
 -- whether this is the answer of the operation
 abbrev pub is_it : ℕ → Answer → Kept → Bool
 is_it op answer one = (one.op == op) && answer_eq answer one.answer
+
+-- No operation has an answer twice.
+abbrev pub are_once : List Kept → Bool
+are_once [] = true
+are_once (one ∷ more) = not (list_any (is_it one.op one.answer) more) && are_once more
 
 -- the sets that lists of operations and of answers stand for
 unfoldable pub sets_in : List ℕ → List Kept → AnswerSets

@@ -6,7 +6,7 @@ ghost use Rattle.std.specs.Vec.{vec_len, vec_capacity};
 ghost use Rattle.std.specs.FinMap.{empty, insert, remove};
 ghost use Rattle.std.specs.FinSet as set;
 ghost use Rattle.sd_call.specs.Replay.{replay_item, replay_reply};
-ghost use Rattle.sd_call.specs.Holding.{has, is_it, answers_of, answer_at, held_sets};
+ghost use Rattle.sd_call.specs.Holding.{has, is_it, are_once, answers_of, answer_at, held_sets};
 
 use crate::{Answer, Item, Verb, answer_cmp};
 use std::alloc::{AllocError, Global};
@@ -28,9 +28,9 @@ pub struct Kept {
 }
 
 impl Model for Replayed {
-    ghost use Rattle.std.specs.Prelude.{◌-◌, min};
+    ghost use Rattle.std.specs.Prelude.{◌≡◌, ◌-◌, min, true};
     ghost use Rattle.std.specs.Vec.{vec_len, vec_capacity};
-    ghost use Rattle.sd_call.specs.Holding.{Holding};
+    ghost use Rattle.sd_call.specs.Holding.{Holding, are_once};
 
     ghost Value = { Holding };
 
@@ -39,6 +39,8 @@ impl Model for Replayed {
       kept = r.kept.items;
       spare = min (vec_capacity r.operations - vec_len r.operations) (vec_capacity r.kept - vec_len r.kept);
     } };
+
+    ghost invariant = { λ r. are_once r.kept.items ≡ true };
 }
 
 impl Replayed {
@@ -88,7 +90,8 @@ impl Replayed {
     /// The answer of an operation at a place, counted from 0. `None` exactly past its last answer, or where the operation
     /// isn't under way.
     pub fn answer(&self, op: u32, place: usize) -> Option<&Answer>
-        ensures { option_copied result ≡ answer_at op place self.now }
+        ensures value { option_copied result ≡ answer_at op place self.now }
+        ensures once { are_once self.now.kept ≡ true }
     {
         if !has_operation(&self.operations, op) {
             return None;
@@ -111,6 +114,7 @@ impl Replayed {
         }
     }
 
+    #[tactic(auto, using(crate::proofs::Holdings::once_kept))]
     fn start(&mut self, op: u32)
         requires { 1 ≤ self.old.spare }
         ensures sets { held_sets self.new ≡ insert (held_sets self.old) op set.empty }
@@ -123,6 +127,7 @@ impl Replayed {
         }
     }
 
+    #[tactic(auto, using(crate::proofs::Holdings::once_kept))]
     fn stop(&mut self, op: u32)
         ensures sets { held_sets self.new ≡ remove (held_sets self.old) op }
         ensures spare { self.old.spare ≤ self.new.spare }
@@ -131,7 +136,7 @@ impl Replayed {
         drop_operation(&mut self.operations, op);
     }
 
-    #[tactic(auto, using(crate::proofs::Holdings::add_away, crate::proofs::Holdings::add_there, crate::proofs::Holdings::added))]
+    #[tactic(auto, using(crate::proofs::Holdings::add_away, crate::proofs::Holdings::add_there, crate::proofs::Holdings::added, crate::proofs::Holdings::once_added))]
     fn add(&mut self, op: u32, answer: Answer) -> bool
         requires { 1 ≤ self.old.spare }
         ensures done { IsTrue result → replay_item (Item.Add op answer) (held_sets self.old) ≡ Some (held_sets self.new) }
@@ -146,7 +151,7 @@ impl Replayed {
         true
     }
 
-    #[tactic(auto, using(crate::proofs::Holdings::remove_away, crate::proofs::Holdings::remove_missing, crate::proofs::Holdings::removed))]
+    #[tactic(auto, using(crate::proofs::Holdings::remove_away, crate::proofs::Holdings::remove_missing, crate::proofs::Holdings::removed, crate::proofs::Holdings::once_kept))]
     fn remove(&mut self, op: u32, answer: &Answer) -> bool
         ensures done { IsTrue result → replay_item (Item.Remove op answer.now) (held_sets self.old) ≡ Some (held_sets self.new) }
         ensures refused { result ≡ false → (replay_item (Item.Remove op answer.now) (held_sets self.old) ≡ None) × (self.new ≡ self.old) }
