@@ -17,7 +17,7 @@ use Rattle.sd_call.specs.Replay.{AnswerSet, AnswerSets, replay_item, set_at, put
 use Rattle.sd_call.specs.Holding.{has, answers_of, is_it, are_once, sets_in}
 use Rattle.sd_call.proofs.AnswerLists.{eq, eq_symm, eq_path, any_of, answer_eq-is}
 use Rattle.sd_call.proofs.ReplayLaws.{set_of, contains-set_of}
-use Rattle.sd_call.proofs.ReplayRuns.{is_at, get-insert, same_sets}
+use Rattle.sd_call.proofs.ReplayRuns.{get-insert, same_sets}
 
 list_any-ext : {X : Type 0} (p q : X → Bool) → ((x : X) → p x ≡ q x) → (xs : List X) → list_any p xs ≡ list_any q xs
 list_any-ext p q same [] = refl

@@ -1,6 +1,5 @@
-use Rattle.std.proofs.Common.{ℕ, ◌==◌, ◌∙◌, ap, sym, filter, Option, ◌≡◌}
-use Rattle.std.specs.Prelude.{slice_get}
-use Rattle.std.specs.Option.{option_map, option_copied}
+use Rattle.std.proofs.Common.{◌==◌, ◌∙◌, ap, sym, filter}
+use Rattle.std.specs.Option.{option_map}
 use Rattle.std.proofs.lemmas.Option.{slice_get-map}
 use Rattle.sd_call.specs.declared.replayed.Kept.{Kept}
 use Rattle.sd_call.proofs.replayed.answer_in.Goals as goal

@@ -1,4 +1,4 @@
-use Rattle.std.proofs.Common.{◌≡◌, ◌≤◌, ◌==◌, ◌∙◌, ap, sym, take, length, filter, eq-eqb, List, arith}
+use Rattle.std.proofs.Common.{◌≡◌, ◌==◌, ◌∙◌, ap, sym, take, length, filter, eq-eqb, List, arith}
 use Rattle.std.proofs.lemmas.List.{take_all}
 use Rattle.sd_call.specs.declared.replayed.Kept.{Kept}
 use Rattle.sd_call.proofs.Holdings.{place_found, past_end}
