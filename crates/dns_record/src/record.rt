@@ -136,6 +136,16 @@ pub struct Key {
     pub kind: u16,
 }
 
+// The question for any records of the root. It stands in the places of a list that are not in use.
+impl Default for Key {
+    fn default() -> Key {
+        Key {
+            name: Name::root(),
+            kind: 255,
+        }
+    }
+}
+
 impl Key {
     /// An equal key.
     pub fn copy(&self) -> Key

@@ -3,7 +3,12 @@ pub mod LifetimeSteps
 mod LifetimeAll
 mod Steps
 mod Played
-mod Rows
+mod HeardRows
+mod AskedRows
+mod ClaimedRows
+mod RepliedRows
+mod AnnouncedRows
+mod SessionRows
 mod Transcripts
 mod SmallRows
 mod StageRows

@@ -3,3 +3,4 @@ pub mod AnswerOrder
 pub mod AnswerLists
 pub mod ReplayLaws
 pub mod ReplayRuns
+pub mod Holdings

@@ -1,0 +1,4 @@
+pub mod Ordered
+pub mod Puts
+pub mod Known
+pub mod Members

@@ -1,0 +1,219 @@
+// The answers of requests.
+ghost use Rattle.std.specs.Prelude.{◌≡◌, [], ◌∷◌, IsTrue, IfOk, OnOk};
+ghost use Rattle.std.specs.List.{list_any, filter_map, flat_map};
+ghost use Rattle.dns_record.specs.Records.{matches};
+ghost use Rattle.sd_call.specs.Requests.{well_formed};
+ghost use Rattle.mdns_history.specs.Answers.{matching, datum_of, found_in, resolved_with, resolved_pairs, answers_from, answers_over};
+ghost use Rattle.sd_answer.specs.Putting.{put_all};
+
+use crate::{Answers, questions_of};
+use dns_message::Rrs;
+use dns_record::{Bytes, Key, Rdata, Rr, matches};
+use sd_call::{Answer, Request};
+use std::alloc::{AllocError, Global};
+
+/// The answers that records give to a well formed request, each once and in the order of their bytes. Two answers are the same
+/// exactly where their bytes in a frame are. A Query and an Address are answered by the type and data of each record that
+/// matches, a Browse by the targets of the PTR records, a Resolve by all pairs of SRV data and TXT data. Records don't answer
+/// a Register, an Update or a Stop. Refused only for want of memory. (RFC 6763 sections 4, 5 and 6)
+#[tactic(auto, unfolding(mdns_history::specs::Answers::answers_over), using(crate::proofs::Puts::put_from_none))]
+pub fn answers_of(alloc: Global, request: &Request, rrs: &Rrs) -> Result<Answers, AllocError>
+    requires { IsTrue (well_formed request.now) }
+    ensures { IfOk result (λ answers. answers ≡ answers_over request.now rrs.now) }
+{
+    let mut answers = Answers::new(alloc);
+    let questions = questions_of(request);
+    put_answers(
+        alloc,
+        &mut answers,
+        request,
+        questions.as_slice(),
+        rrs.as_slice(),
+    )?;
+    Ok(answers)
+}
+
+/// The type SRV. (RFC 2782)
+const SRV: u16 = 33;
+
+// Puts the answers that the matching records give.
+fn put_answers(
+    alloc: Global,
+    answers: &mut Answers,
+    request: &Request,
+    questions: &[Key],
+    rrs: &[Rr],
+) -> Result<(), AllocError>
+    ensures { OnOk result (answers.new ≡ put_all (answers_from request.now (matching questions.now rrs.now)) answers.old) }
+{
+    match request {
+        Request::Query { .. } | Request::Address { .. } => put_data(alloc, answers, questions, rrs),
+        Request::Browse { .. } => put_instances(answers, questions, rrs),
+        Request::Resolve { .. } => put_places(alloc, answers, questions, rrs),
+        Request::Register { .. } | Request::Update { .. } | Request::Stop => Ok(()),
+    }
+}
+
+// Puts the data of the matching records.
+fn put_data(
+    alloc: Global,
+    answers: &mut Answers,
+    questions: &[Key],
+    rrs: &[Rr],
+) -> Result<(), AllocError>
+    ensures { OnOk result (answers.new ≡ put_all (filter_map datum_of (matching questions.now rrs.now)) answers.old) }
+{
+    for rr in rrs {
+        put_datum(alloc, answers, questions, rr)?;
+    }
+    Ok(())
+}
+
+// Puts a record's type and data, where it matches.
+fn put_datum(
+    alloc: Global,
+    answers: &mut Answers,
+    questions: &[Key],
+    rr: &Rr,
+) -> Result<(), AllocError>
+    ensures { OnOk result (answers.new ≡ put_all (filter_map datum_of (matching questions.now (rr.now ∷ []))) answers.old) }
+{
+    if !is_asked(questions, rr) {
+        return Ok(());
+    }
+    let rdata = rr.rdata.copy(alloc)?;
+    answers.put(Answer::Datum { rdata })?;
+    Ok(())
+}
+
+// Puts the targets of the matching PTR records.
+fn put_instances(answers: &mut Answers, questions: &[Key], rrs: &[Rr]) -> Result<(), AllocError>
+    ensures { OnOk result (answers.new ≡ put_all (filter_map (λ rr. found_in rr.rdata) (matching questions.now rrs.now)) answers.old) }
+{
+    for rr in rrs {
+        put_instance(answers, questions, rr)?;
+    }
+    Ok(())
+}
+
+// Puts the target of a PTR record, where it matches.
+fn put_instance(answers: &mut Answers, questions: &[Key], rr: &Rr) -> Result<(), AllocError>
+    ensures { OnOk result (answers.new ≡ put_all (filter_map (λ rr. found_in rr.rdata) (matching questions.now (rr.now ∷ []))) answers.old) }
+{
+    if !is_asked(questions, rr) {
+        return Ok(());
+    }
+    match &rr.rdata {
+        Rdata::Ptr(target) => {
+            answers.put(Answer::Found {
+                instance: target.copy(),
+            })?;
+            Ok(())
+        }
+        _ => Ok(()),
+    }
+}
+
+// Puts each pair of matching SRV and TXT data.
+fn put_places(
+    alloc: Global,
+    answers: &mut Answers,
+    questions: &[Key],
+    rrs: &[Rr],
+) -> Result<(), AllocError>
+    ensures { OnOk result (answers.new ≡ put_all (resolved_pairs (matching questions.now rrs.now)) answers.old) }
+{
+    for rr in rrs {
+        put_place(alloc, answers, questions, rrs, rr)?;
+    }
+    Ok(())
+}
+
+// Puts a record's pairs with the matching TXT data, where it matches.
+fn put_place(
+    alloc: Global,
+    answers: &mut Answers,
+    questions: &[Key],
+    rrs: &[Rr],
+    rr: &Rr,
+) -> Result<(), AllocError>
+    ensures { OnOk result (answers.new ≡ put_all (flat_map (λ srv. filter_map (λ txt. resolved_with srv.rdata txt.rdata) (matching questions.now rrs.now)) (matching questions.now (rr.now ∷ []))) answers.old) }
+{
+    if !is_asked(questions, rr) {
+        return Ok(());
+    }
+    put_pairs(alloc, answers, &rr.rdata, questions, rrs)?;
+    Ok(())
+}
+
+// Puts the pairs of SRV data with the matching TXT data; of other data there are none.
+fn put_pairs(
+    alloc: Global,
+    answers: &mut Answers,
+    place: &Rdata,
+    questions: &[Key],
+    rrs: &[Rr],
+) -> Result<(), AllocError>
+    ensures { OnOk result (answers.new ≡ put_all (filter_map (λ txt. resolved_with place.now txt.rdata) (matching questions.now rrs.now)) answers.old) }
+{
+    if place.kind() != SRV {
+        return Ok(());
+    }
+    for rr in rrs {
+        put_pair(alloc, answers, place, questions, rr)?;
+    }
+    Ok(())
+}
+
+// Puts the pair of SRV data with a record's TXT data, where it matches.
+fn put_pair(
+    alloc: Global,
+    answers: &mut Answers,
+    place: &Rdata,
+    questions: &[Key],
+    rr: &Rr,
+) -> Result<(), AllocError>
+    ensures { OnOk result (answers.new ≡ put_all (filter_map (λ txt. resolved_with place.now txt.rdata) (matching questions.now (rr.now ∷ []))) answers.old) }
+{
+    if !is_asked(questions, rr) {
+        return Ok(());
+    }
+    match pair(alloc, place, &rr.rdata)? {
+        Some(answer) => {
+            answers.put(answer)?;
+            Ok(())
+        }
+        None => Ok(()),
+    }
+}
+
+// The answer of SRV data with TXT data.
+fn pair(alloc: Global, place: &Rdata, txt: &Rdata) -> Result<Option<Answer>, AllocError>
+    ensures { IfOk result (λ found. found ≡ resolved_with place.now txt.now) }
+{
+    match (place, txt) {
+        (
+            Rdata::Srv {
+                priority,
+                weight,
+                port,
+                target,
+            },
+            Rdata::Txt(txt),
+        ) => Ok(Some(Answer::Resolved {
+            priority: *priority,
+            weight: *weight,
+            port: *port,
+            target: target.copy(),
+            txt: txt.copy(alloc)?,
+        })),
+        _ => Ok(None),
+    }
+}
+
+// Whether a record matches one of the questions.
+fn is_asked(questions: &[Key], rr: &Rr) -> bool
+    ensures { result ≡ list_any (λ key. matches key rr.now) questions.now }
+{
+    questions.iter().any(|question| matches(question, rr))
+}

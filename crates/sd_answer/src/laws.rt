@@ -1,0 +1,15 @@
+// Laws of the answers.
+ghost use Rattle.sd_answer.specs.Laws.{IsOrderFree, IsCountFree, IsOfOneName, IsNothingUnasked};
+
+/// The answers of a request depend on which records there are, and neither on their order nor on how often each is there.
+pub fn order_of_records_is_free()
+    ensures order { IsOrderFree }
+    ensures count { IsCountFree }
+{}
+
+/// All questions of a request have one name, and only records of that name matter: whoever collects these has the answers
+/// over all records. A request without questions has no answers.
+pub fn only_matching_records_matter()
+    ensures name { IsOfOneName }
+    ensures nothing { IsNothingUnasked }
+{}

@@ -1,0 +1,15 @@
+//! Which questions a request asks, and which answers records give to it. (RFC 6763 sections 4 to 7)
+#![tactic(auto)]
+
+mod answers;
+mod laws;
+mod lists;
+mod questions;
+
+pub use answers::answers_of;
+pub use laws::{only_matching_records_matter, order_of_records_is_free};
+pub use lists::Answers;
+pub use questions::questions_of;
+
+#[cfg(test)]
+mod tests;
