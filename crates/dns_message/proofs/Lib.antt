@@ -7,5 +7,3 @@ pub mod Bounded
 pub mod Sequences
 pub mod Chunks
 pub mod NameTurns
-pub mod Labels
-pub mod Spelled

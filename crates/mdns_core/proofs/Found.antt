@@ -1,13 +1,12 @@
 -- Steps of the loops over answers.
-use Rattle.std.proofs.Common.{◌≡◌, ℕ, suc, ◌+◌, ◌<◌, ◌++◌, ◌∙◌, ◌||◌, Bool, true, false, cond, not, map, length, take, drop, get_or, List, [], ◌∷◌, refl, sym, ap, arith}
+use Rattle.std.proofs.Common.{◌≡◌, ℕ, suc, ◌+◌, ◌<◌, ◌∙◌, ◌||◌, Bool, true, false, cond, map, length, take, get_or, List, [], ◌∷◌, refl, sym, ap, arith}
 use Rattle.std.specs.Prelude.{reverse}
 use Rattle.std.specs.List.{filter, filter_map}
-use Rattle.std.specs.Ordering.{is_lt, is_eq, nat_cmp}
 use Rattle.std.specs.Cmp.{IsTotalOrder}
 use Rattle.std.proofs.lemmas.Cmp.{on_total, nat_list_cmp_total}
 use Rattle.std.proofs.Math.Seq.{take-suc}
 use Rattle.std.proofs.lemmas.List.{reverse-append}
-use Rattle.dns_name.specs.Lists.{insert_by, ordered}
+use Rattle.dns_name.specs.Lists.{ordered}
 use Rattle.dns_record.specs.declared.record.Key.{Key}
 use Rattle.dns_record.specs.Records.{matches}
 use Rattle.sd_call.specs.declared.answer.Answer.{Answer}

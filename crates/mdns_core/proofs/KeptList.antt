@@ -1,5 +1,5 @@
 -- Steps of the loops over the records that are kept.
-use Rattle.std.proofs.Common.{◌≡◌, ◌&&◌, ◌||◌, Bool, true, false, cond, ℕ, zero, suc, ◌+◌, ◌*◌, append-nil, ltb, not, ◌<◌, ◌≤◌, ◌++◌, ◌∙◌, min, map, length, take, drop, set, get_or, List, [], ◌∷◌, Option, Some, None, refl, sym, ap, arith}
+use Rattle.std.proofs.Common.{◌≡◌, ◌&&◌, ◌||◌, Bool, true, false, cond, ℕ, zero, suc, ◌+◌, ◌*◌, append-nil, ltb, not, ◌<◌, ◌≤◌, ◌++◌, ◌∙◌, min, map, length, take, drop, set, get_or, List, [], ◌∷◌, Option, Some, refl, sym, ap, arith}
 use Rattle.std.specs.List.{filter}
 use Rattle.std.proofs.lemmas.Bool.Decides.{nat_tests}
 use Rattle.std.proofs.Math.Seq.{take-suc}

@@ -1,18 +1,18 @@
 -- The live records of a history, entry by entry.
-use Rattle.std.proofs.Common.{◌≡◌, ℕ, ◌+◌, ◌*◌, ◌<◌, ◌≤◌, ◌++◌, ◌∙◌, ◌&&◌, ◌||◌, Bool, true, false, cond, ltb, min, not, map, List, [], ◌∷◌, Option, Some, None, Result, Ok, Err, refl, sym, ap, arith, append_assoc, append-nil}
+use Rattle.std.proofs.Common.{◌≡◌, ℕ, ◌+◌, ◌*◌, ◌<◌, ◌≤◌, ◌++◌, ◌∙◌, ◌&&◌, Bool, true, false, cond, ltb, min, not, map, List, [], ◌∷◌, Option, None, Result, Ok, Err, refl, sym, ap, arith, append_assoc, append-nil}
 use Rattle.std.specs.Prelude.{reverse}
 use Rattle.std.specs.List.{filter, fold, list_any}
 use Rattle.std.specs.Option.{option_map_or}
-use Rattle.std.proofs.lemmas.Bool.{false≢true, ltb-true}
+use Rattle.std.proofs.lemmas.Bool.{ltb-true}
 use Rattle.std.proofs.lemmas.Bool.Decides.{nat_tests}
 use Rattle.std.proofs.lemmas.List.{reverse-append}
-use Rattle.dns_name.specs.Lists.{each_once, until, least_of}
+use Rattle.dns_name.specs.Lists.{each_once, least_of}
 use Rattle.dns_record.specs.declared.record.Rr.{Rr}
 use Rattle.dns_record.specs.Records.{identity_of, same}
 use Rattle.dns_record.proofs.Same.{is_same-Decides, same-identities}
 use Rattle.dns_message.specs.declared.message.Message.{Message}
 use Rattle.dns_message.specs.declared.message.MessageError.{MessageError}
-use Rattle.dns_message.specs.Reading.{spelled, fault_of, fault_number}
+use Rattle.dns_message.specs.Reading.{spelled, fault_of}
 use Rattle.mdns_base.specs.declared.host.Host.{Host}
 use Rattle.mdns_history.specs.declared.held.Held.{Held}
 use Rattle.mdns_history.specs.declared.event.Event.{Event}
@@ -21,9 +21,8 @@ use Rattle.mdns_history.specs.declared.mark.Mark.{Mark}
 use Rattle.mdns_history.specs.declared.mark.Mark.TheVariants as mark
 use Rattle.mdns_history.specs.declared.entry.Entry.{Entry}
 use Rattle.mdns_history.specs.History.{now}
-use Rattle.mdns_history.specs.Hearings.{Heard, Hearing, brought, heard_in, is_refusal, counted, counted_records, hearing_of, hearings_in, hearings}
+use Rattle.mdns_history.specs.Hearings.{Heard, Hearing, brought, heard_in, is_refusal, counted, counted_records, hearings}
 use Rattle.mdns_history.specs.Lifetimes.{renews, cuts, full_end, end_from, after_renewal, held_from, renewals, is_live_at, live_of, live_records}
-use Rattle.mdns_history.specs.Fitting.{bad_mark}
 use Rattle.mdns_core.specs.Received.{heard_of, marks_of}
 use Rattle.mdns_core.specs.Answers.{live}
 use Rattle.mdns_core.specs.State.{EndAfter, hearing, newly, cut_with, cut_by, hear_last, advance}

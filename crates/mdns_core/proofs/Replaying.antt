@@ -1,11 +1,10 @@
 -- Replaying the items of a legal history gives its answers.
-use Rattle.std.proofs.Common.{◌≡◌, ℕ, ◌++◌, ◌∙◌, ◌&&◌, Bool, true, false, cond, map, List, [], ◌∷◌, Option, Some, None, refl, sym, ap, subst, append-nil, inl, inr, ◌⊎◌}
-use Rattle.std.specs.List.{filter_map, flat_map}
+use Rattle.std.proofs.Common.{◌≡◌, ◌++◌, ◌∙◌, ◌&&◌, Bool, true, false, map, List, [], ◌∷◌, Option, Some, None, refl, sym, ap, subst, append-nil, inl, inr, ◌⊎◌}
+use Rattle.std.specs.List.{filter_map}
 use Rattle.std.specs.FinMap as fin
 use Rattle.std.proofs.lemmas.Bool.{false≢true}
 use Rattle.dns_name.specs.Lists.{without}
 use Rattle.sd_call.specs.Requests.{no_error}
-use Rattle.sd_call.specs.declared.request.Request.{Request}
 use Rattle.sd_call.specs.declared.request.Request.TheVariants as request
 use Rattle.sd_call.specs.declared.request.Verb.TheVariants as verb
 use Rattle.sd_call.specs.declared.answer.Answer.{Answer}
@@ -21,11 +20,10 @@ use Rattle.mdns_history.specs.declared.entry.Given.{Given}
 use Rattle.mdns_history.specs.declared.entry.Entry.{Entry}
 use Rattle.mdns_history.specs.Items.{item_for, session_items}
 use Rattle.mdns_core.specs.declared.operation.Operation.{Operation}
-use Rattle.mdns_core.specs.Received.{marks_of}
-use Rattle.mdns_core.specs.Operations.{is_attached, started_of, or_else, operation_of, is_asked, may}
+use Rattle.mdns_core.specs.Operations.{is_attached, started_of, or_else, operation_of, may}
 use Rattle.mdns_core.specs.Answers.{live, answers_of, answers}
-use Rattle.mdns_core.specs.Entries.{op_of, reply_of, added, removed, changes, to_session, given_items, next_entry, Fits, IsBoot, IsLegal}
-use Rattle.mdns_core.specs.Replay.{sets_for, answer_sets, Replays, ReplaysThroughout}
+use Rattle.mdns_core.specs.Entries.{op_of, reply_of, added, removed, changes, to_session, next_entry, Fits, IsBoot, IsLegal}
+use Rattle.mdns_core.specs.Replay.{sets_for, Replays, ReplaysThroughout}
 use Rattle.mdns_core.proofs.Found.{answers_of-different}
 use Rattle.mdns_core.proofs.Steps.{given_bare}
 

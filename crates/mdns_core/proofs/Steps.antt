@@ -1,5 +1,5 @@
 -- The daemon's step keeps what it stands for.
-use Rattle.std.proofs.Common.{◌≡◌, ℕ, ◌≤◌, ◌^◌, ◌∙◌, ◌||◌, Bool, true, false, map, List, [], ◌∷◌, Option, Some, None, refl, sym, ap, subst}
+use Rattle.std.proofs.Common.{◌≡◌, ℕ, ◌≤◌, ◌^◌, ◌∙◌, ◌||◌, Bool, true, false, map, List, [], ◌∷◌, Option, None, refl, sym, ap, subst}
 use Rattle.std.specs.Prelude.{reverse}
 use Rattle.sd_call.specs.declared.answer.Answer.{Answer}
 use Rattle.mdns_history.specs.declared.held.Held.{Held}

@@ -1,5 +1,5 @@
 -- The entry that fits a history, and which histories are legal. So far the one mark is that of a refused packet, and nothing is sent.
-use Rattle.std.specs.Prelude.{◌≡◌, ℕ, ◌^◌, ◌≤◌, true, List, [], ◌∷◌, ◌++◌, map, Option, Some, None}
+use Rattle.std.specs.Prelude.{◌≡◌, ℕ, ◌≤◌, true, List, [], ◌∷◌, ◌++◌, map, Option, Some, None}
 use Rattle.dns_name.specs.Lists.{without}
 use Rattle.sd_call.specs.Requests.{no_error}
 use Rattle.sd_call.specs.Answers.{answer_eq}
@@ -8,7 +8,6 @@ use Rattle.sd_call.specs.declared.request.Verb.TheVariants as verb
 use Rattle.sd_call.specs.declared.answer.Answer.{Answer}
 use Rattle.sd_call.specs.declared.item.Item.{Item}
 use Rattle.sd_call.specs.declared.Item.TheVariants.{Reply, Add, Remove}
-use Rattle.mdns_history.specs.declared.config.Config.{Config}
 use Rattle.mdns_history.specs.declared.event.Event.{Event}
 use Rattle.mdns_history.specs.declared.event.Event.TheVariants as event
 use Rattle.mdns_history.specs.declared.entry.Given.{Given}

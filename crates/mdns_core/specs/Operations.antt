@@ -1,5 +1,5 @@
 -- The session and its operation. So far there are one session and one query.
-use Rattle.std.specs.Prelude.{ℕ, ◌==◌, ◌&&◌, ◌||◌, not, Bool, true, false, List, [], ◌∷◌, Option, Some, None, is_none}
+use Rattle.std.specs.Prelude.{◌==◌, ◌&&◌, ◌||◌, not, Bool, true, false, List, [], ◌∷◌, Option, Some, None, is_none}
 use Rattle.dns_name.specs.Names.{is_under}
 use Rattle.sd_name.specs.ServiceTypes.{local_name}
 use Rattle.sd_call.specs.Requests.{well_formed}

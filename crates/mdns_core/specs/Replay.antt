@@ -1,5 +1,5 @@
 -- Replaying the items that the session was given gives its answers.
-use Rattle.std.specs.Prelude.{◌≡◌, ℕ, List, [], ◌∷◌, Option, Some, None}
+use Rattle.std.specs.Prelude.{◌≡◌, List, [], ◌∷◌, Option, Some, None}
 use Rattle.std.specs.FinMap as map
 use Rattle.sd_call.specs.declared.answer.Answer.{Answer}
 use Rattle.sd_call.specs.Replay.{AnswerSets, replay}

@@ -62,13 +62,7 @@ fn hear_all(
 }
 
 // A hearing cuts what is kept, and one with a TTL above 0 takes the place of what is kept of its record.
-fn hear(
-    alloc: Global,
-    kept: &mut Vec<Held>,
-    now: u64,
-    word: u32,
-    rr: &Rr,
-) -> Result<(), AllocError>
+fn hear(alloc: Global, kept: &mut Vec<Held>, now: u64, word: u32, rr: &Rr) -> Result<(), AllocError>
     requires { now ≤ 2 ^ 53 }
     ensures { OnOk result (kept.new.items ≡ hear_last now word kept.old.items rr.now) }
 {

@@ -108,7 +108,9 @@ pub fn may_happen(attached: bool, operation: &Option<Operation>, event: &Event) 
     match event {
         Event::Attach => !attached,
         Event::Call {
-            session, request, ..
+            session,
+            request,
+            ..
         } => (*session == 1 && is_asked(request)) && (attached && operation.is_none()),
         Event::Hear { .. } | Event::Tick => true,
         _ => false,

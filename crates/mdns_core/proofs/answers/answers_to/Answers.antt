@@ -1,4 +1,4 @@
-use Rattle.std.proofs.Common.{◌≡◌, ◌∙◌, sym, ap, List}
+use Rattle.std.proofs.Common.{◌∙◌, sym, ap, List}
 use Rattle.sd_call.specs.declared.answer.Answer.{Answer}
 use Rattle.mdns_core.specs.State.{with_answer}
 use Rattle.mdns_core.proofs.Found.{answers_to-none, answers_to-next}

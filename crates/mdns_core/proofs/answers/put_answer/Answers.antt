@@ -1,8 +1,7 @@
-use Rattle.std.proofs.Common.{◌≡◌, ◌∙◌, not, length, List}
+use Rattle.std.proofs.Common.{◌∙◌, not, length}
 use Rattle.std.specs.List.{insert}
 use Rattle.std.specs.Ordering.{is_lt}
 use Rattle.dns_name.specs.Lists.{until, insert_by}
-use Rattle.sd_call.specs.declared.answer.Answer.{Answer}
 use Rattle.sd_call.specs.Answers.{answer_cmp}
 use Rattle.mdns_core.proofs.Ordered.{insert_place}
 use Rattle.mdns_core.proofs.answers.put_answer.Goals as goal

@@ -1,4 +1,4 @@
-use Rattle.std.proofs.Common.{◌≡◌, ◌<◌, ◌++◌, ◌∙◌, List, map, take, drop, set, get_or, length, sym, ap, arith}
+use Rattle.std.proofs.Common.{◌≡◌, ◌<◌, ◌++◌, ◌∙◌, List, map, take, drop, set, get_or, length, ap, arith}
 use Rattle.mdns_history.specs.declared.held.Held.{Held}
 use Rattle.mdns_core.specs.State.{cut_by}
 use Rattle.mdns_core.proofs.KeptList.{change_more, unchanged}

@@ -1,4 +1,4 @@
-use Rattle.std.proofs.Common.{◌≡◌, ◌∙◌, ◌+◌, ◌*◌, ℕ, ap}
+use Rattle.std.proofs.Common.{◌∙◌, ◌+◌, ◌*◌, ℕ, ap}
 use Rattle.mdns_core.proofs.KeptList.{hear_yes, hear_no}
 use Rattle.mdns_core.proofs.kept.hear.Goals as goal
 

@@ -1,4 +1,4 @@
-use Rattle.std.proofs.Common.{◌≡◌, ◌∙◌, sym, ap, Option, Some, ℕ}
+use Rattle.std.proofs.Common.{◌∙◌, sym, ap, Option, Some, ℕ}
 use Rattle.mdns_core.specs.State.{lesser}
 use Rattle.mdns_core.proofs.KeptList.{least_end-next}
 use Rattle.mdns_core.proofs.kept.least_end.Goals as goal

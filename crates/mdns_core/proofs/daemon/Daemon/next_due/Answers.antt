@@ -1,6 +1,4 @@
-use Rattle.std.proofs.Common.{◌≡◌, ◌∙◌, List, sym, ap}
-use Rattle.std.specs.Prelude.{reverse}
-use Rattle.mdns_history.specs.declared.held.Held.{Held}
+use Rattle.std.proofs.Common.{◌∙◌, sym, ap}
 use Rattle.mdns_core.specs.State.{State, least_end_of}
 use Rattle.mdns_core.proofs.KeptList.{least_end-later, least_end-turned}
 use Rattle.mdns_core.proofs.daemon.Daemon.next_due.Goals as goal
