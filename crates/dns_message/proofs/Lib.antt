@@ -7,8 +7,6 @@ pub mod Bounded
 pub mod Sequences
 pub mod Chunks
 pub mod NameTurns
-pub mod Labels
-pub mod Spelled
 pub mod Standing
 pub mod LabelSteps
 pub mod Tables

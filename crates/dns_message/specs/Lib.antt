@@ -1,5 +1,4 @@
 pub mod Reading
 pub mod Writing
 pub mod Packing
-pub mod Plain
 pub mod Compressing

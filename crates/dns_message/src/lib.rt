@@ -8,7 +8,6 @@ mod law;
 mod lists;
 mod message;
 mod names;
-mod plain;
 mod reading;
 mod sections;
 mod writing;
@@ -16,7 +15,6 @@ mod writing;
 pub use law::{one_message_is_spelled, what_is_written_is_read_again};
 pub use lists::{Questions, Rrs};
 pub use message::{Message, MessageError, WriteError};
-pub use plain::{plain_record, read_plain};
 pub use reading::read;
 pub use writing::write;
 

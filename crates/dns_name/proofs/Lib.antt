@@ -1,6 +1,5 @@
 pub mod Wire
 pub mod Folding
-pub mod PlainParts
 pub mod WrittenText
 pub mod Spelling
 pub mod Spelled

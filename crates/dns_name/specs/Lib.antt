@@ -1,6 +1,5 @@
 pub mod Lists
 pub mod Names
 pub mod NameText
-pub mod PlainNames
 pub mod TextItems
 pub mod ReadName

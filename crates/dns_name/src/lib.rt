@@ -7,7 +7,6 @@ mod items;
 mod label;
 mod laws;
 mod name;
-mod plain;
 mod reading;
 mod text;
 
@@ -16,7 +15,6 @@ pub use items::{TextItem, TextItems, read_label};
 pub use label::Label;
 pub use laws::names_are_lawful;
 pub use name::{Labels, Name};
-pub use plain::{parse_plain, parse_plain_bytes};
 pub use text::{NameText, write_label_byte};
 
 #[cfg(test)]

@@ -1,7 +1,4 @@
-use crate::{
-    Label, Name, NameError, TextItem, TextItems, parse_plain, parse_plain_bytes, read_label,
-    write_label_byte,
-};
+use crate::{Label, Name, NameError, TextItem, TextItems, read_label, write_label_byte};
 use arrayvec::ArrayString;
 use std::cmp::Ordering;
 use std::process::Abort;
@@ -146,22 +143,6 @@ fn names_are_compared_in_any_case(rt: HostRuntime) -> Result<(), Fail> {
         assert_eq!(rt; name.under(&top), under);
     }
     Ok(())
-}
-
-#[test]
-fn plain_names_are_read(rt: HostRuntime) {
-    for (text, plain) in [
-        ("a.local", true),
-        ("Host-1.LOCAL.", true),
-        ("local", true),
-        ("a..local", false),
-        ("a_b.local", false),
-        ("a.example", false),
-        ("", false),
-    ] {
-        assert_eq!(rt; parse_plain(text).is_some(), plain, "{text}");
-    }
-    assert_eq!(rt; parse_plain_bytes(b"\xff.local").is_none(), true);
 }
 
 #[test]

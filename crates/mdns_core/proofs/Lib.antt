@@ -1,5 +1,6 @@
-pub mod HeldList
-pub mod Sets
-pub mod Heard
+pub mod Ordered
+pub mod Lives
+pub mod KeptList
+pub mod Found
 pub mod Steps
 pub mod Replaying

@@ -1,184 +1,63 @@
 -- Replaying the items of a legal history gives its answers.
-use Rattle.std.proofs.Common.{◌≡◌, ℕ, suc, ◌+◌, ◌<◌, ◌≤◌, ◌++◌, ◌∙◌, ◌||◌, ◌&&◌, Bool, true, false, cond, eqb, not, map, length, List, [], ◌∷◌, Option, Some, None, refl, sym, ap, subst, arith, rules, append-nil, inl, inr, ◌⊎◌}
-use Rattle.std.specs.List.{filter}
+use Rattle.std.proofs.Common.{◌≡◌, ◌++◌, ◌∙◌, ◌&&◌, Bool, true, false, map, List, [], ◌∷◌, Option, Some, None, refl, sym, ap, subst, append-nil, inl, inr, ◌⊎◌}
+use Rattle.std.specs.List.{filter_map}
+use Rattle.std.specs.FinMap as fin
 use Rattle.std.proofs.lemmas.Bool.{false≢true}
-use Rattle.std.proofs.lemmas.Bool.Decides.{Decides-eqb}
-use Rattle.std.proofs.lemmas.List.Kept.{IsStrictlyIncreasing-filter}
+use Rattle.dns_name.specs.Lists.{without}
 use Rattle.sd_call.specs.Requests.{no_error}
-use Rattle.sd_call.specs.declared.request.Request.{Request}
 use Rattle.sd_call.specs.declared.request.Request.TheVariants as request
 use Rattle.sd_call.specs.declared.request.Verb.TheVariants as verb
+use Rattle.sd_call.specs.declared.answer.Answer.{Answer}
 use Rattle.sd_call.specs.declared.item.Item.{Item}
-use Rattle.sd_call.specs.declared.item.Item.TheVariants.{Reply}
+use Rattle.sd_call.specs.declared.item.Item.TheVariants.{Reply, Add, Remove}
+use Rattle.sd_call.specs.Answers.{answer_eq}
+use Rattle.sd_call.specs.Replay.{AnswerSets, replay, replay_from}
+use Rattle.sd_call.proofs.AnswerLists.{AreDifferent}
+use Rattle.sd_call.proofs.ReplayRuns.{replay_from-append, replayed_changes}
 use Rattle.mdns_history.specs.declared.event.Event.{Event}
 use Rattle.mdns_history.specs.declared.event.Event.TheVariants as event
 use Rattle.mdns_history.specs.declared.entry.Given.{Given}
 use Rattle.mdns_history.specs.declared.entry.Entry.{Entry}
+use Rattle.mdns_history.specs.Items.{item_for, session_items}
 use Rattle.mdns_core.specs.declared.operation.Operation.{Operation}
 use Rattle.mdns_core.specs.Operations.{is_attached, started_of, or_else, operation_of, may}
-use Rattle.mdns_core.specs.Answers.{has, IsSetOf, is_address, is_answer, answers}
-use Rattle.mdns_core.specs.Entries.{op_of, reply_of, added, removed, changes, to_session, given_items, next_entry, Fits, IsBoot, IsLegal}
-use Rattle.mdns_core.specs.Replay.{Sets, without, put_in, taken_out, changed, replay_item, replay_items, replay, AreOf, Replays, ReplaysThroughout}
-use Rattle.mdns_core.proofs.Sets.{eqb-itself, eqb-turned, Distinct, distinct, has-filter}
-use Rattle.mdns_core.proofs.Heard.{answers_set}
+use Rattle.mdns_core.specs.Answers.{live, answers_of, answers}
+use Rattle.mdns_core.specs.Entries.{op_of, reply_of, added, removed, changes, to_session, next_entry, Fits, IsBoot, IsLegal}
+use Rattle.mdns_core.specs.Replay.{sets_for, Replays, ReplaysThroughout}
+use Rattle.mdns_core.proofs.Found.{answers_of-different}
 use Rattle.mdns_core.proofs.Steps.{given_bare}
 
-abbrev item_of : Given → Item
-item_of given = given.item
+-- all that an entry gives is the one session's
+items_one : (items : List Item) → filter_map (item_for 1) (map to_session items) ≡ items
+items_one [] = refl
+items_one (item ∷ items) = ap (λ (l : List Item). item ∷ l) (items_one items)
 
--- Items.
-
-replay_items-append : (sets : Option Sets) (xs ys : List Item) → replay_items sets (xs ++ ys) ≡ replay_items (replay_items sets xs) ys
-unfolding replay_items
-replay_items-append None xs ys = refl
-replay_items-append (Some sets) [] ys = refl
-replay_items-append (Some sets) (x ∷ xs) ys = replay_items-append (replay_item sets x) xs ys
-
--- an operation's set after adding
-pub record Outcome (sets : Option Sets) (op : ℕ) (test : ℕ → Bool) : Type 0 where
-  pub addresses : List ℕ
-  pub is : sets ≡ Some ((op, addresses) ∷ [])
-  pub members : (a : ℕ) → has addresses a ≡ test a
-
-one_add : (op n : ℕ) (xs : List ℕ) → has xs n ≡ false → replay_item ((op, xs) ∷ []) (added op n) ≡ Some ((op, n ∷ xs) ∷ [])
-unfolding replay_item changed
-one_add op n xs gone = rw (eqb-itself op, gone) refl
-
-one_remove : (op n : ℕ) (xs : List ℕ) → has xs n ≡ true → replay_item ((op, xs) ∷ []) (removed op n) ≡ Some ((op, without n xs) ∷ [])
-unfolding replay_item changed
-one_remove op n xs there = rw (eqb-itself op, there) refl
-
-adds : (op : ℕ) (new xs : List ℕ) → Distinct new → ((b : ℕ) → has new b ≡ true → has xs b ≡ false) → Outcome (replay_items (Some ((op, xs) ∷ [])) (map (added op) new)) op (λ a. has xs a || has new a)
-unfolding replay_items
-adds op [] xs dist absent = record { addresses = xs; is = refl; members = λ a. or_none (has xs a) }
-  where
-    or_none : (b : Bool) → b ≡ (b || false)
-    or_none true = refl
-    or_none false = refl
-adds op (n ∷ new) xs dist absent =
-    let gone : has xs n ≡ false = absent n (rw (eqb-itself n) refl) in
-    let rest = adds op new (n ∷ xs) dist.1 (λ b h. fresh b h (eqb n b) refl) in
-    record {
-      addresses = rest.addresses;
-      is = ap (λ (s : Option Sets). replay_items s (map (added op) new)) (one_add op n xs gone) ∙ rest.is;
-      members = λ a. rest.members a ∙ swap (eqb n a) (has xs a) (has new a);
-    }
-  where
-    swap : (p q r : Bool) → ((p || q) || r) ≡ (q || (p || r))
-    swap true true r = refl
-    swap true false r = refl
-    swap false q r = refl
-
-    fresh : (b : ℕ) → has new b ≡ true → (d : Bool) → eqb n b ≡ d → (d || has xs b) ≡ false
-    fresh b h true e = let same : n ≡ b = (Decides-eqb n b).0 e in absurd (false≢true (sym dist.0 ∙ ap (has new) same ∙ h))
-    fresh b h false e = absent b (rw (e, h) refl)
-
-removes : (op : ℕ) (old xs : List ℕ) → Distinct old → ((b : ℕ) → has old b ≡ true → has xs b ≡ true) → Outcome (replay_items (Some ((op, xs) ∷ [])) (map (removed op) old)) op (λ a. has xs a && not (has old a))
-unfolding replay_items
-removes op [] xs dist present = record { addresses = xs; is = refl; members = λ a. and_some (has xs a) }
-  where
-    and_some : (b : Bool) → b ≡ (b && true)
-    and_some true = refl
-    and_some false = refl
-removes op (n ∷ old) xs dist present =
-    let there : has xs n ≡ true = present n (rw (eqb-itself n) refl) in
-    let rest = removes op old (without n xs) dist.1 (λ b h. has-filter (λ a. not (eqb a n)) xs b ∙ still_there b h (eqb n b) refl) in
-    record {
-      addresses = rest.addresses;
-      is = ap (λ (s : Option Sets). replay_items s (map (removed op) old)) (one_remove op n xs there) ∙ rest.is;
-      members = λ a. rest.members a ∙ ap (λ (d : Bool). d && not (has old a)) (has-filter (λ b. not (eqb b n)) xs a) ∙ rw (eqb-turned a n) (regroup (has xs a) (eqb n a) (has old a));
-    }
-  where
-    regroup : (p q r : Bool) → ((p && not q) && not r) ≡ (p && not (q || r))
-    regroup true true r = refl
-    regroup true false r = refl
-    regroup false q r = refl
-
-    still_there : (b : ℕ) → has old b ≡ true → (d : Bool) → eqb n b ≡ d → (has xs b && not (eqb b n)) ≡ true
-    still_there b h true e = let same : n ≡ b = (Decides-eqb n b).0 e in absurd (false≢true (sym dist.0 ∙ ap (has old) same ∙ h))
-    still_there b h false e = rw (eqb-turned b n, e, present b (rw (e, h) refl)) refl
-
--- A whole entry.
-
--- a set of nothing has no element
-none_of : (test : ℕ → Bool) (xs : List ℕ) → IsSetOf test xs → ((a : ℕ) → test a ≡ false) → xs ≡ []
-none_of test [] set no_one = refl
-none_of test (x ∷ xs) set no_one = absurd (false≢true (sym (no_one x) ∙ sym (set.members x) ∙ rw (eqb-itself x) refl))
-
--- removing what went and adding what came leads from the answers before to those after
-pub brings : (op : ℕ) (before after xs : List ℕ) (was is : ℕ → Bool) → IsSetOf was before → IsSetOf is after → ((a : ℕ) → has xs a ≡ was a)
-    → Outcome (replay_items (Some ((op, xs) ∷ [])) (map (removed op) (filter (λ a. not (is a)) before) ++ map (added op) (filter (λ a. not (was a)) after))) op is
-brings op before after xs was is are_before are_after has_was =
-    let gone = filter (λ a. not (is a)) before in
-    let come = filter (λ a. not (was a)) after in
-    let first = removes op gone xs (distinct gone (IsStrictlyIncreasing-filter (λ a. not (is a)) before are_before.increasing)) (λ b h. was_there b h) in
-    let second = adds op come first.addresses (distinct come (IsStrictlyIncreasing-filter (λ a. not (was a)) after are_after.increasing)) (λ b h. first.members b ∙ not_there b h) in
-    record {
-      addresses = second.addresses;
-      is = replay_items-append (Some ((op, xs) ∷ [])) (map (removed op) gone) (map (added op) come)
-          ∙ ap (λ (s : Option Sets). replay_items s (map (added op) come)) first.is ∙ second.is;
-      members = λ a. second.members a ∙ ap (λ (d : Bool). d || has come a) (first.members a) ∙ told a;
-    }
-  where
-    and_first : (p q : Bool) → (p && q) ≡ true → (p ≡ true) × (q ≡ true)
-    and_first true q h = (refl, h)
-    and_first false q h = absurd (false≢true h)
-
-    was_there : (b : ℕ) → has (filter (λ a. not (is a)) before) b ≡ true → has xs b ≡ true
-    was_there b h = has_was b ∙ sym (are_before.members b) ∙ (and_first _ _ (sym (has-filter (λ a. not (is a)) before b) ∙ h)).0
-
-    gone_is : (b : ℕ) → has (filter (λ a. not (is a)) before) b ≡ (was b && not (is b))
-    gone_is b = has-filter (λ a. not (is a)) before b ∙ ap (λ (d : Bool). d && not (is b)) (are_before.members b)
-
-    come_is : (b : ℕ) → has (filter (λ a. not (was a)) after) b ≡ (is b && not (was b))
-    come_is b = has-filter (λ a. not (was a)) after b ∙ ap (λ (d : Bool). d && not (was b)) (are_after.members b)
-
-    not_was : (p q r : Bool) → (q && not p) ≡ true → (p && r) ≡ false
-    not_was true true r h = absurd (false≢true h)
-    not_was true false r h = absurd (false≢true h)
-    not_was false q r h = refl
-
-    not_there : (b : ℕ) → has (filter (λ a. not (was a)) after) b ≡ true → (has xs b && not (has (filter (λ a. not (is a)) before) b)) ≡ false
-    not_there b h = rw (has_was b) (not_was (was b) (is b) (not (has (filter (λ a. not (is a)) before) b)) (sym (come_is b) ∙ h))
-
-    algebra : (p q : Bool) → ((p && not (p && not q)) || (q && not p)) ≡ q
-    algebra true true = refl
-    algebra true false = refl
-    algebra false true = refl
-    algebra false false = refl
-
-    told : (a : ℕ) → ((has xs a && not (has (filter (λ a. not (is a)) before) a)) || has (filter (λ a. not (was a)) after) a) ≡ is a
-    told a = rw (has_was a, gone_is a, come_is a) (algebra (was a) (is a))
-
--- What an entry gives, told of the answers as sets.
-record Gives (history : List Entry) (entry : Entry) : Type 0 where
-  before : List ℕ
-  after : List ℕ
-  are_before : IsSetOf (is_answer history) before
-  are_after : IsSetOf (is_answer (entry ∷ history)) after
-  given : map item_of entry.given ≡ changes entry.event (op_of (operation_of (entry ∷ history))) before (is_answer history) after (is_answer (entry ∷ history))
-
-items_of_session : (items : List Item) → map item_of (map to_session items) ≡ items
-items_of_session [] = refl
-items_of_session (item ∷ items) = ap (λ (l : List Item). item ∷ l) (items_of_session items)
-
-gives : (history : List Entry) (entry : Entry) → Fits entry history → Gives history entry
+-- what an entry gives, told of the answers
+gives : (history : List Entry) (entry : Entry) → Fits entry history → entry.given ≡ map to_session (changes entry.event (op_of (operation_of (entry ∷ history))) (answers history) (answers (entry ∷ history)))
 unfolding next_entry
 gives history entry fits =
-    let given : entry.given ≡ given_items entry history = ap (λ (e : Entry). e.given) fits.determined ∙ sym (given_bare entry history) in
-    record {
-      before = answers history;
-      after = answers (entry ∷ history);
-      are_before = answers_set history;
-      are_after = answers_set (entry ∷ history);
-      given = ap (map item_of) given ∙ items_of_session _;
-    }
+    ap (λ (e : Entry). e.given) fits.determined ∙ sym (given_bare entry history (ap (λ (e : Entry). e.marks) fits.determined))
+
+items-more : (history : List Entry) (entry : Entry) → Fits entry history
+    → session_items 1 (entry ∷ history) ≡ session_items 1 history ++ changes entry.event (op_of (operation_of (entry ∷ history))) (answers history) (answers (entry ∷ history))
+unfolding session_items
+items-more history entry fits =
+    ap (λ (g : List Given). session_items 1 history ++ filter_map (item_for 1) g) (gives history entry fits)
+    ∙ ap (λ (l : List Item). session_items 1 history ++ l) (items_one (changes entry.event (op_of (operation_of (entry ∷ history))) (answers history) (answers (entry ∷ history))))
+
+-- the removes and adds of one operation lead from the answers before to those after
+one_replayed : (o : Operation) (before after : List Answer) → AreDifferent before → AreDifferent after
+    → replay_from (Some (sets_for (Some o) before)) (map (removed o.op) (without answer_eq before after) ++ map (added o.op) (without answer_eq after before)) ≡ Some (sets_for (Some o) after)
+one_replayed o before after d e =
+    (λ i. replay_from (Some (sets_for (Some o) before))
+    (sym (append-nil (map (λ a. Remove o.op a) (without answer_eq before after))) i ++ sym (append-nil (map (λ a. Add o.op a) (without answer_eq after before))) i))
+    ∙ replayed_changes (λ (p : Operation). p.op) (λ p. before) (λ p. after) (o ∷ []) (refl, tt) (d, tt) (e, tt)
 
 kind_of : (e : Event) → ((started_of e ≡ None) × (reply_of e ≡ [])) ⊎ ((o : Operation) × (started_of e ≡ Some o) × (reply_of e ≡ Reply o.op verb.Start no_error ∷ []))
 kind_of (event.Boot config) = inl (refl, refl)
 kind_of event.Attach = inl (refl, refl)
 kind_of (event.Detach session) = inl (refl, refl)
-kind_of (event.Call session op (request.Query kind name)) = inr (record { op = op; name = name }, refl, refl)
+kind_of (event.Call session op (request.Query kind name)) = inr (record { op = op; question = record { name = name; kind = kind } }, refl, refl)
 kind_of (event.Call session op (request.Browse regtype)) = inl (refl, refl)
 kind_of (event.Call session op (request.Resolve label regtype)) = inl (refl, refl)
 kind_of (event.Call session op (request.Address families name)) = inl (refl, refl)
@@ -189,10 +68,16 @@ kind_of (event.Hear from bytes) = inl (refl, refl)
 kind_of event.Tick = inl (refl, refl)
 kind_of (event.Take session max) = inl (refl, refl)
 
-and_none : (b c : Bool) → (b && (c && false)) ≡ true → ⊥
-and_none true true h = false≢true h
-and_none true false h = false≢true h
-and_none false c h = false≢true h
+and_none : (a b c : Bool) → (a && (b && (c && false))) ≡ true → ⊥
+and_none true true true h = false≢true h
+and_none true true false h = false≢true h
+and_none true false c h = false≢true h
+and_none false b c h = false≢true h
+
+and_last : (a b : Bool) → (a && (b && false)) ≡ true → ⊥
+and_last true true h = false≢true h
+and_last true false h = false≢true h
+and_last false b h = false≢true h
 
 -- no second operation is started
 starts_once : (attached : Bool) (o p : Operation) (e : Event) → may attached (Some o) e ≡ true → started_of e ≡ Some p → ⊥
@@ -200,71 +85,61 @@ unfolding may
 starts_once attached o p (event.Boot config) allowed s = false≢true allowed
 starts_once attached o p event.Attach allowed s = cc
 starts_once attached o p (event.Detach session) allowed s = false≢true allowed
-starts_once attached o p (event.Call session op (request.Query kind name)) allowed s = and_none (eqb session 1 && eqb kind 1) attached allowed
-starts_once attached o p (event.Call session op (request.Browse regtype)) allowed s = false≢true allowed
-starts_once attached o p (event.Call session op (request.Resolve label regtype)) allowed s = false≢true allowed
-starts_once attached o p (event.Call session op (request.Address families name)) allowed s = false≢true allowed
-starts_once attached o p (event.Call session op (request.Register label regtype port norename txt)) allowed s = false≢true allowed
-starts_once attached o p (event.Call session op (request.Update txt)) allowed s = false≢true allowed
-starts_once attached o p (event.Call session op request.Stop) allowed s = false≢true allowed
+starts_once attached o p (event.Call session op request) allowed s = and_last _ attached allowed
 starts_once attached o p (event.Hear from bytes) allowed s = cc
 starts_once attached o p event.Tick allowed s = cc
 starts_once attached o p (event.Take session max) allowed s = false≢true allowed
 
-replays-entry : (before : List Entry) (entry : Entry) → Fits entry before → Replays before → Replays (entry ∷ before)
-unfolding operation_of is_answer replay replay_items replay_item
-replays-entry before entry fits r = at_kind (operation_of before) refl r.answers (kind_of entry.event)
+-- the change of what is given, for each kind of entry
+replays-change : (o o' : Option Operation) (e : Event) (before after : List Answer) → o' ≡ or_else (started_of e) o
+    → (o ≡ None → before ≡ []) → (o' ≡ None → after ≡ []) → AreDifferent before → AreDifferent after
+    → ((p q : Operation) → o ≡ Some p → started_of e ≡ Some q → ⊥)
+    → replay_from (Some (sets_for o before)) (changes e (op_of o') before after) ≡ Some (sets_for o' after)
+replays-change o o' e before after is none_before none_after d f once = at_kind o refl (kind_of e)
   where
-    g : Gives before entry
-    g = gives before entry fits
+    at_kind : (k : Option Operation) → o ≡ k
+        → ((started_of e ≡ None) × (reply_of e ≡ [])) ⊎ ((p : Operation) × (started_of e ≡ Some p) × (reply_of e ≡ Reply p.op verb.Start no_error ∷ []))
+        → replay_from (Some (sets_for o before)) (changes e (op_of o') before after) ≡ Some (sets_for o' after)
+    at_kind (Some p) u (inl k) =
+        let now_is : o' ≡ Some p = is ∙ (λ i. or_else (k.0 i) (u i)) in
+        (λ i. replay_from (Some (sets_for (u i) before)) (k.1 i ++ map (removed (op_of (now_is i))) (without answer_eq before after) ++ map (added (op_of (now_is i))) (without answer_eq after before)))
+        ∙ one_replayed p before after d f
+        ∙ ap (λ (x : Option Operation). Some (sets_for x after)) (sym now_is)
+    at_kind (Some p) u (inr k) = absurd (once p k.0 u k.1)
+    at_kind None u (inl k) =
+        let now_is : o' ≡ None = is ∙ (λ i. or_else (k.0 i) (u i)) in
+        (λ i. replay_from (Some (sets_for (u i) before)) (k.1 i ++ map (removed (op_of o')) (without answer_eq (none_before u i) (none_after now_is i)) ++ map (added (op_of o')) (without answer_eq (none_after now_is i) (none_before u i))))
+        ∙ ap (λ (x : Option Operation). Some (sets_for x after)) (sym now_is)
+    at_kind None u (inr k) =
+        let now_is : o' ≡ Some k.0 = is ∙ (λ i. or_else (k.1 i) (u i)) in
+        (λ i. replay_from (Some (sets_for (u i) before)) (k.2 i ++ map (removed (op_of (now_is i))) (without answer_eq (none_before u i) after) ++ map (added (op_of (now_is i))) (without answer_eq after (none_before u i))))
+        ∙ one_replayed k.0 [] after tt f
+        ∙ ap (λ (x : Option Operation). Some (sets_for x after)) (sym now_is)
 
-    at_kind : (o : Option Operation) → operation_of before ≡ o → AreOf o (is_answer before) r.sets
-        → ((started_of entry.event ≡ None) × (reply_of entry.event ≡ [])) ⊎ ((p : Operation) × (started_of entry.event ≡ Some p) × (reply_of entry.event ≡ Reply p.op verb.Start no_error ∷ []))
-        → Replays (entry ∷ before)
-    at_kind (Some o) e ans (inl k) =
-        let operation : operation_of (entry ∷ before) ≡ Some o = λ i. or_else (k.0 i) (e i) in
-        let out = brings o.op g.before g.after ans.0 (is_answer before) (is_answer (entry ∷ before)) g.are_before g.are_after ans.2 in
-        record {
-          sets = (o.op, out.addresses) ∷ [];
-          defined = (λ i. replay_items (r.defined i) (map item_of entry.given))
-              ∙ (λ i. replay_items (Some (ans.1 i)) (map item_of entry.given))
-              ∙ ap (replay_items (Some ((o.op, ans.0) ∷ []))) (g.given ∙ (λ i. (k.1 i ++ map (removed (op_of (operation i))) (filter (λ a. not (is_answer (entry ∷ before) a)) g.before)) ++ map (added (op_of (operation i))) (filter (λ a. not (is_answer before a)) g.after)))
-              ∙ out.is;
-          answers = subst (λ (p : Option Operation). AreOf p (is_answer (entry ∷ before)) ((o.op, out.addresses) ∷ [])) (sym operation) (out.addresses, refl, out.members);
-        }
-    at_kind (Some o) e ans (inr k) = absurd (starts_once (is_attached before) o k.0 entry.event (subst (λ (p : Option Operation). may (is_attached before) p entry.event ≡ true) e fits.allowed) k.1)
-    at_kind None e ans (inl k) =
-        let operation : operation_of (entry ∷ before) ≡ None = λ i. or_else (k.0 i) (e i) in
-        let no_before : g.before ≡ [] = none_of (is_answer before) g.before g.are_before (λ a. ap (λ (p : Option Operation). is_address p before a) e) in
-        let no_after : g.after ≡ [] = none_of (is_answer (entry ∷ before)) g.after g.are_after (λ a. ap (λ (p : Option Operation). is_address p (entry ∷ before) a) operation) in
-        record {
-          sets = [];
-          defined = (λ i. replay_items (r.defined i) (map item_of entry.given))
-              ∙ (λ i. replay_items (Some (ans i)) (map item_of entry.given))
-              ∙ ap (replay_items (Some [])) (g.given ∙ (λ i. (k.1 i ++ map (removed (op_of (operation i))) (filter (λ a. not (is_answer (entry ∷ before) a)) (no_before i))) ++ map (added (op_of (operation i))) (filter (λ a. not (is_answer before a)) (no_after i))));
-          answers = subst (λ (p : Option Operation). AreOf p (is_answer (entry ∷ before)) []) (sym operation) refl;
-        }
-    at_kind None e ans (inr k) =
-        let o = k.0 in
-        let operation : operation_of (entry ∷ before) ≡ Some o = λ i. or_else (k.1 i) (e i) in
-        let was : (a : ℕ) → is_answer before a ≡ false = λ a. ap (λ (p : Option Operation). is_address p before a) e in
-        let out = brings o.op g.before g.after [] (is_answer before) (is_answer (entry ∷ before)) g.are_before g.are_after (λ a. sym (was a)) in
-        record {
-          sets = (o.op, out.addresses) ∷ [];
-          defined = (λ i. replay_items (r.defined i) (map item_of entry.given))
-              ∙ (λ i. replay_items (Some (ans i)) (map item_of entry.given))
-              ∙ ap (replay_items (Some [])) (g.given ∙ (λ i. (k.2 i ++ map (removed (op_of (operation i))) (filter (λ a. not (is_answer (entry ∷ before) a)) g.before)) ++ map (added (op_of (operation i))) (filter (λ a. not (is_answer before a)) g.after)))
-              ∙ out.is;
-          answers = subst (λ (p : Option Operation). AreOf p (is_answer (entry ∷ before)) ((o.op, out.addresses) ∷ [])) (sym operation) (out.addresses, refl, out.members);
-        }
+different : (history : List Entry) → AreDifferent (answers history)
+unfolding answers
+different history = answers_of-different (operation_of history) (live history)
+
+no_answers : (history : List Entry) → operation_of history ≡ None → answers history ≡ []
+unfolding answers
+no_answers history e = ap (λ (o : Option Operation). answers_of o (live history)) e
+
+replays-entry : (before : List Entry) (entry : Entry) → Fits entry before → Replays before → Replays (entry ∷ before)
+unfolding operation_of
+replays-entry before entry fits r =
+    let items = changes entry.event (op_of (operation_of (entry ∷ before))) (answers before) (answers (entry ∷ before)) in
+    ap replay (items-more before entry fits)
+    ∙ replay_from-append (Some fin.empty) (session_items 1 before) items
+    ∙ ap (λ (s : Option AnswerSets). replay_from s items) r
+    ∙ replays-change (operation_of before) (operation_of (entry ∷ before)) entry.event (answers before) (answers (entry ∷ before)) refl
+    (no_answers before) (no_answers (entry ∷ before)) (different before) (different (entry ∷ before))
+    (λ p q e s. starts_once (is_attached before) p q entry.event (subst (λ (o : Option Operation). may (is_attached before) o entry.event ≡ true) e fits.allowed) s)
 
 replays-boot : (entry : Entry) → IsBoot entry → Replays (entry ∷ [])
-unfolding operation_of is_answer replay replay_items replay_item
-replays-boot entry boot = record {
-  sets = [];
-  defined = ap (λ (e : Entry). replay_items (Some []) (map item_of e.given)) boot.begins;
-  answers = subst (λ (p : Option Operation). AreOf p (is_answer (entry ∷ [])) []) (λ i. or_else (started_of (sym boot.begins i).event) None) refl;
-}
+unfolding operation_of session_items
+replays-boot entry boot =
+    (λ i. replay (filter_map (item_for 1) (boot.begins i).given))
+    ∙ (λ i. Some (sets_for (or_else (started_of (sym boot.begins i).event) None) (answers (entry ∷ []))))
 
 -- THE LAW
 pub replays : (history : List Entry) → IsLegal history → ReplaysThroughout history

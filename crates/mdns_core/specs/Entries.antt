@@ -1,13 +1,13 @@
--- The entry that fits a history, and which histories are legal. So far nothing is noted and nothing is sent.
-use Rattle.std.specs.Prelude.{◌≡◌, ℕ, ◌^◌, ◌≤◌, not, Bool, true, List, [], ◌∷◌, ◌++◌, map, filter, Option, Some, None}
+-- The entry that fits a history, and which histories are legal. So far the one mark is that of a refused packet, and nothing is sent.
+use Rattle.std.specs.Prelude.{◌≡◌, ℕ, ◌≤◌, true, List, [], ◌∷◌, ◌++◌, map, Option, Some, None}
+use Rattle.dns_name.specs.Lists.{without}
 use Rattle.sd_call.specs.Requests.{no_error}
+use Rattle.sd_call.specs.Answers.{answer_eq}
 use Rattle.sd_call.specs.declared.request.Request.TheVariants as request
 use Rattle.sd_call.specs.declared.request.Verb.TheVariants as verb
-use Rattle.sd_call.specs.declared.Answer.TheVariants.{Datum}
+use Rattle.sd_call.specs.declared.answer.Answer.{Answer}
 use Rattle.sd_call.specs.declared.item.Item.{Item}
 use Rattle.sd_call.specs.declared.Item.TheVariants.{Reply, Add, Remove}
-use Rattle.dns_record.specs.declared.record.Rdata.TheVariants.{A}
-use Rattle.mdns_history.specs.declared.config.Config.{Config}
 use Rattle.mdns_history.specs.declared.event.Event.{Event}
 use Rattle.mdns_history.specs.declared.event.Event.TheVariants as event
 use Rattle.mdns_history.specs.declared.entry.Given.{Given}
@@ -15,9 +15,12 @@ use Rattle.mdns_history.specs.declared.entry.Outcome.{Outcome}
 use Rattle.mdns_history.specs.declared.entry.Outcome.TheVariants as outcome
 use Rattle.mdns_history.specs.declared.entry.Entry.{Entry}
 use Rattle.mdns_history.specs.History.{now}
+use Rattle.mdns_history.specs.Items.{given_to}
+use Rattle.mdns_history.specs.Fitting.{last_moment}
 use Rattle.mdns_core.specs.declared.operation.Operation.{Operation}
+use Rattle.mdns_core.specs.Received.{marks_of}
 use Rattle.mdns_core.specs.Operations.{is_attached, operation_of, may}
-use Rattle.mdns_core.specs.Answers.{is_answer, answers}
+use Rattle.mdns_core.specs.Answers.{answers}
 
 -- the number of an operation, if there is one
 abbrev pub op_of : Option Operation → ℕ
@@ -29,29 +32,26 @@ abbrev pub reply_of : Event → List Item
 reply_of (event.Call session op (request.Query kind name)) = Reply op verb.Start no_error ∷ []
 reply_of _ = []
 
--- an address as an item
-abbrev pub added : ℕ → ℕ → Item
-added op address = Add op (Datum (A address))
+-- an answer as an item
+abbrev pub added : ℕ → Answer → Item
+added op answer = Add op answer
 
--- an address that answers no more, as an item
-abbrev pub removed : ℕ → ℕ → Item
-removed op address = Remove op (Datum (A address))
+-- what is an answer no more, as an item
+abbrev pub removed : ℕ → Answer → Item
+removed op answer = Remove op answer
 
 -- The reply, then what was an answer and isn't, then what is one and wasn't.
-abbrev pub changes : Event → ℕ → List ℕ → (ℕ → Bool) → List ℕ → (ℕ → Bool) → List Item
-changes event op before was after is =
-    reply_of event
-    ++ map (removed op) (filter (λ a. not (is a)) before)
-    ++ map (added op) (filter (λ a. not (was a)) after)
+abbrev pub changes : Event → ℕ → List Answer → List Answer → List Item
+changes event op before after =
+    reply_of event ++ map (removed op) (without answer_eq before after) ++ map (added op) (without answer_eq after before)
 
 -- an item for the one session
 abbrev pub to_session : Item → Given
-to_session item = record { session = 1; item = item }
+to_session item = given_to 1 item
 
 -- what an entry gives: the change of the answers from the history before it to the history with it
 abbrev pub given_items : Entry → List Entry → List Given
-given_items entry past =
-    map to_session (changes entry.event (op_of (operation_of (entry ∷ past))) (answers past) (is_answer past) (answers (entry ∷ past)) (is_answer (entry ∷ past)))
+given_items entry past = map to_session (changes entry.event (op_of (operation_of (entry ∷ past))) (answers past) (answers (entry ∷ past)))
 
 -- the outcome of an event
 abbrev pub outcome_of : Event → Outcome
@@ -59,17 +59,13 @@ outcome_of event.Attach = outcome.Opened 1
 outcome_of (event.Call session op request) = outcome.Code no_error
 outcome_of _ = outcome.Done
 
--- an event with its outcome, and nothing else yet
+-- an event with its marks and its outcome, and nothing else yet
 abbrev pub bare_entry : ℕ → ℕ → Event → Entry
-bare_entry moment word event = record { moment = moment; word = word; event = event; marks = []; sent = []; given = []; outcome = outcome_of event }
+bare_entry moment word event = record { moment = moment; word = word; event = event; marks = marks_of event; sent = []; given = []; outcome = outcome_of event }
 
 -- The one entry that fits behind a history at a moment, with a word, for an event.
 unfoldable pub next_entry : List Entry → ℕ → ℕ → Event → Entry
 next_entry past moment word event = record (bare_entry moment word event) { given = given_items (bare_entry moment word event) past }
-
--- the last moment that there is, in milliseconds
-abbrev pub last_moment : ℕ
-last_moment = 2 ^ 53
 
 -- An entry fits a history: its moment isn't below the last one, its event may happen, and it is the one that follows.
 pub record Fits (entry : Entry) (past : List Entry) : Type 0 where

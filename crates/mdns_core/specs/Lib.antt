@@ -1,5 +1,4 @@
 pub mod Received
-pub mod Lifetimes
 pub mod Operations
 pub mod Answers
 pub mod Entries

@@ -1,106 +1,85 @@
 -- What a daemon keeps, and the histories that it stands for.
-use Rattle.std.specs.Prelude.{◌≡◌, ℕ, ◌+◌, ◌*◌, ◌<◌, ◌^◌, ◌&&◌, nat_lt, min, Bool, false, if◌then◌else◌, List, [], ◌∷◌, ◌++◌, map, filter, Option, Some, None, is_some}
-use Rattle.std.specs.List.{AllByRecursion, fold, filter_map}
-use Rattle.dns_name.specs.Names.{folded_eq}
+use Rattle.std.specs.Prelude.{◌≡◌, ℕ, ◌+◌, ◌<◌, nat_lt, min, not, Bool, if◌then◌else◌, List, [], ◌∷◌, ◌++◌, map, filter, reverse, Option, Some, None}
+use Rattle.std.specs.List.{AllByRecursion, fold}
+use Rattle.std.specs.Ordering.{is_eq}
+use Rattle.dns_name.specs.Lists.{least, insert_by}
+use Rattle.dns_record.specs.declared.record.Key.{Key}
+use Rattle.dns_record.specs.Records.{matches}
+use Rattle.sd_call.specs.Answers.{answer_cmp}
+use Rattle.sd_call.specs.declared.answer.Answer.{Answer}
+use Rattle.sd_call.specs.declared.answer.Answer.TheVariants.{Datum}
 use Rattle.dns_record.specs.declared.record.Rr.{Rr}
-use Rattle.dns_record.specs.declared.record.Rdata.TheVariants.{A}
-use Rattle.dns_record.specs.Records.{Identity, identity_of, is_same}
-use Rattle.sd_call.specs.declared.item.Item.{Item}
-use Rattle.mdns_history.specs.declared.event.Event.{Event}
-use Rattle.mdns_history.specs.declared.entry.Given.{Given}
 use Rattle.mdns_history.specs.declared.held.Held.{Held}
 use Rattle.mdns_history.specs.declared.entry.Entry.{Entry}
 use Rattle.mdns_history.specs.History.{now}
+use Rattle.mdns_history.specs.Hearings.{Hearing}
+use Rattle.mdns_history.specs.Lifetimes.{renews, cuts, full_end, is_live_at}
 use Rattle.mdns_core.specs.declared.operation.Operation.{Operation}
-use Rattle.mdns_core.specs.Lifetimes.{live_end}
 use Rattle.mdns_core.specs.Operations.{is_attached, operation_of}
-use Rattle.mdns_core.specs.Answers.{IsSetOf, address_record, address_in}
-use Rattle.mdns_core.specs.Entries.{IsLegal, changes, op_of, to_session}
+use Rattle.mdns_core.specs.Answers.{live}
+use Rattle.mdns_core.specs.Entries.{IsLegal}
 
--- what contracts see of a daemon
+-- what contracts see of a daemon; the record that was renewed last is the last of those held
 pub record State : Type 0 where
   pub last : ℕ
   pub attached : Bool
   pub operation : Option Operation
   pub held : List Held
 
--- the end that is kept for a record
-unfoldable pub end_in : Identity → List Held → Option ℕ
-end_in which [] = None
-end_in which (one ∷ held) = if is_same (identity_of one.rr) which then Some one.end else end_in which held
-
--- no two are of the same record
-abbrev pub AreApart : List Held → Type 0
-AreApart [] = Unit {0}
-AreApart (one ∷ held) = (end_in (identity_of one.rr) held ≡ None) × AreApart held
-
 -- each ends after a moment
 abbrev pub EndAfter : ℕ → List Held → Type 0
 EndAfter moment held = AllByRecursion (λ (one : Held). moment < one.end) held
 
--- a record has an address
-pub record HasAddress (rr : Rr) : Type 0 where
-  pub address : ℕ
-  pub is : rr.rdata ≡ A address
-  pub small : address < 2 ^ 32
+-- a record that is heard
+abbrev pub hearing : ℕ → ℕ → Rr → Hearing
+hearing moment word rr = record { rr = rr; moment = moment; word = word }
 
--- each has an address
-abbrev pub HaveAddresses : List Held → Type 0
-HaveAddresses held = AllByRecursion (λ (one : Held). HasAddress one.rr) held
+-- what is kept of a hearing with a TTL above 0
+abbrev pub newly : Hearing → List Held
+newly h = if nat_lt 0 h.rr.ttl then record { rr = h.rr; heard = h.moment; word = h.word; end = full_end h } ∷ [] else []
 
--- whether one is kept at a moment at which a record may be heard
-abbrev pub stays : ℕ → Option Rr → Held → Bool
-stays moment None one = nat_lt moment one.end
-stays moment (Some rr) one = if is_same (identity_of one.rr) (identity_of rr) then false else nat_lt moment one.end
+-- one that was kept with its end after a hearing
+abbrev pub end_by : Hearing → Held → ℕ
+end_by h one = if cuts one.rr one.heard h then min (h.moment + 1000) one.end else one.end
 
--- a record that is heard, with its end
-abbrev pub newly : ℕ → ℕ → Option Rr → List Held
-newly moment word None = []
-newly moment word (Some rr) = record { rr = rr; heard = moment; word = word; end = moment + 1000 * rr.ttl } ∷ []
+-- one that was kept, after a hearing
+abbrev pub cut_with : Hearing → Held → Held
+cut_with h one = record one { end = end_by h one }
 
--- what is kept after an event
-abbrev pub advance : List Held → ℕ → ℕ → Option Rr → List Held
-advance held moment word heard = filter (stays moment heard) held ++ newly moment word heard
+-- the same of a record heard at a moment
+abbrev pub cut_by : ℕ → Rr → Held → Held
+cut_by moment rr one = cut_with (hearing moment 0 rr) one
 
--- whether an address for the operation's name is kept
-unfoldable pub is_held : Option Operation → List Held → ℕ → Bool
-is_held None held address = false
-is_held (Some operation) held address = nat_lt address (2 ^ 32) && is_some (end_in (address_record operation.name address) held)
+-- what is kept after a record is heard: it takes the place of what was kept of it
+abbrev pub hear_last : ℕ → ℕ → List Held → Rr → List Held
+hear_last moment word held rr =
+    map (cut_by moment rr) (filter (λ one. not (renews one.rr (hearing moment word rr))) held) ++ newly (hearing moment word rr)
 
--- A daemon stands for a history: it keeps the last moment, the session and its operation, and the end of each live record.
+-- what is kept after an event that brings records
+abbrev pub advance : List Held → ℕ → ℕ → List Rr → List Held
+advance held moment word rrs = fold (hear_last moment word) (filter (is_live_at moment) held) rrs
+
+-- the least end, where there is one
+abbrev pub least_end_of : List Held → Option ℕ
+least_end_of held = least (map (λ one. one.end) held)
+
+-- the lesser of an end, if there is one, and another
+abbrev pub lesser : Option ℕ → ℕ → ℕ
+lesser None end = end
+lesser (Some least) end = min least end
+
+-- an answer put at its place, instead of an equal one
+abbrev pub put_at_place : Answer → List Answer → List Answer
+put_at_place answer answers = insert_by answer_cmp answer (filter (λ other. not (is_eq (answer_cmp answer other))) answers)
+
+-- answers with that of a record, where a question matches it
+abbrev pub with_answer : Key → Held → List Answer → List Answer
+with_answer question one answers = if matches question one.rr then put_at_place (Datum one.rr.rdata) answers else answers
+
+-- A daemon stands for a history: it keeps the last moment, the session and its operation, and the live records.
 pub record Stands (state : State) (history : List Entry) : Type 0 where
   pub legal : IsLegal history
   pub last : state.last ≡ now history
   pub attached : state.attached ≡ is_attached history
   pub operation : state.operation ≡ operation_of history
-  pub ends : (which : Identity) → end_in which state.held ≡ live_end which history
-
--- what an event gives, told of what is kept before and after
-pub record IsConsequence (running : Option Operation) (held : List Held) (operation : Option Operation) (kept : List Held) (event : Event) (given : List Given) : Type 0 where
-  pub before : List ℕ
-  pub after : List ℕ
-  pub are_before : IsSetOf (is_held running held) before
-  pub are_after : IsSetOf (is_held operation kept) after
-  pub given_is : given ≡ map to_session (changes event (op_of operation) before (is_held running held) after (is_held operation kept))
-
--- the address of one, where it is of a name
-abbrev pub address_for : List (List ℕ) → Held → Option ℕ
-address_for name one = if folded_eq one.rr.owner name then address_in one.rr.rdata else None
-
--- the addresses that are kept for a name
-abbrev pub addresses_for : List (List ℕ) → List Held → List ℕ
-addresses_for name held = filter_map (address_for name) held
-
--- the lesser of an end, if there is one, and that of another
-abbrev pub earlier : Option ℕ → Held → Option ℕ
-earlier None one = Some one.end
-earlier (Some end) one = Some (min end one.end)
-
--- the least end, where there is one
-abbrev pub least_end_of : List Held → Option ℕ
-least_end_of held = fold earlier None held
-
--- a record that is heard lives, and has an address
-abbrev pub IsLiving : Option Rr → Type 0
-IsLiving None = Unit {0}
-IsLiving (Some rr) = (0 < rr.ttl) × HasAddress rr
+  pub held : reverse state.held ≡ live history

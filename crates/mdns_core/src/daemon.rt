@@ -6,7 +6,8 @@ ghost use Rattle.mdns_core.specs.Entries.{Fits, boot_entry};
 ghost use Rattle.mdns_core.specs.Due.{IsNextDue};
 
 use crate::Operation;
-use crate::step::{Next, consequence, is_attached, least_end, may_happen, outcome_of};
+use crate::kept::least_end;
+use crate::step::{Next, consequence, is_attached, may_happen, outcome_of};
 use mdns_history::{Config, Entry, Event, Gifts, Held, Marks, Outcome, Sends};
 use std::alloc::{AllocError, Global};
 use std::marker::Model;
@@ -22,13 +23,13 @@ pub struct Daemon {
 }
 
 impl Model for Daemon {
-    ghost use Rattle.mdns_core.specs.State.{State, AreApart, EndAfter, HaveAddresses};
+    ghost use Rattle.mdns_core.specs.State.{State, EndAfter};
 
     ghost Value = { State };
 
     ghost view = { λ d. record { last = d.last; attached = d.attached; operation = d.operation; held = d.held.items } };
 
-    ghost invariant = { λ d. AreApart d.held.items × EndAfter d.last d.held.items × HaveAddresses d.held.items };
+    ghost invariant = { λ d. EndAfter d.last d.held.items };
 }
 
 impl Daemon {
@@ -113,6 +114,7 @@ impl Daemon {
         let Next {
             held,
             operation,
+            marks,
             given,
         } = next;
         self.last = now;
@@ -123,7 +125,7 @@ impl Daemon {
             moment: now,
             word,
             event,
-            marks: Marks::new(self.alloc),
+            marks,
             sent: Sends::new(self.alloc),
             given,
             outcome,

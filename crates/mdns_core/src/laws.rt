@@ -4,7 +4,8 @@ ghost use Rattle.mdns_history.specs.declared.entry.Entry.{Entry};
 ghost use Rattle.mdns_history.specs.declared.event.Event.{Event};
 ghost use Rattle.mdns_history.specs.History.{now};
 ghost use Rattle.mdns_core.specs.Operations.{may, is_attached, operation_of};
-ghost use Rattle.mdns_core.specs.Entries.{IsLegal, Fits, next_entry, last_moment};
+ghost use Rattle.mdns_history.specs.Fitting.{last_moment};
+ghost use Rattle.mdns_core.specs.Entries.{IsLegal, Fits, next_entry};
 ghost use Rattle.mdns_core.specs.Replay.{ReplaysThroughout};
 
 /// The items that the session of a legal history was given, replayed, are the answers of its operation, at each moment so far.

@@ -1,11 +1,14 @@
 //! The daemon: what it is told, what it keeps, and the entry of each event.
 //!
-//! So far a daemon has no host, one session and one query for the addresses of a name, and hears plain packets.
+//! So far a daemon has no host, and one session with one query. It hears any packet.
 #![tactic(auto)]
 
+mod answers;
 mod daemon;
+mod kept;
 mod laws;
 mod operation;
+mod packet;
 mod step;
 
 pub use daemon::Daemon;

@@ -1,14 +1,14 @@
 ghost use Rattle.std.specs.Prelude.{◌≡◌};
 
-use dns_name::Name;
+use dns_record::Key;
 
-/// A query for the addresses of a name that a session has running.
+/// A query that a session has running.
 #[derive(Drop)]
 pub struct Operation {
     /// Its number, which the client chose.
     pub op: u32,
-    /// The name that is asked for.
-    pub name: Name,
+    /// What it asks for: a name and a type.
+    pub question: Key,
 }
 
 impl Operation {
@@ -18,7 +18,7 @@ impl Operation {
     {
         Operation {
             op: self.op,
-            name: self.name.copy(),
+            question: self.question.copy(),
         }
     }
 }

@@ -11,9 +11,11 @@ use Rattle.mdns_history.specs.EntryText.{entry_text, history_text}
 use Rattle.mdns_script.specs.declared.command.Command.{Command}
 use Rattle.mdns_script.specs.declared.command.Command.TheVariants.{Pass, Daemon, At, Attach, Event as Happening}
 use Rattle.mdns_core.specs.declared.operation.Operation.{Operation}
-use Rattle.mdns_core.specs.Lifetimes.{end_of}
+use Rattle.mdns_history.specs.Hearings.{hearings}
+use Rattle.mdns_history.specs.Lifetimes.{live_of, live_records}
 use Rattle.mdns_core.specs.Operations.{may}
-use Rattle.mdns_core.specs.Entries.{Fits, bare_entry, boot_entry, last_moment}
+use Rattle.mdns_history.specs.Fitting.{last_moment}
+use Rattle.mdns_core.specs.Entries.{Fits, bare_entry, boot_entry}
 use Rattle.mdns_core.specs.Due.{IsNextDue}
 use Rattle.mdns_core.specs.State.{State, Stands}
 use Rattle.mdns_hub.specs.declared.hub.Hub.{Hub}
@@ -159,12 +161,16 @@ runs_to_part old new clock until number before played now numbered stands part =
       fronts_numbered old new played number (d.0 ++ played.history) numbered d.2,
     )
 
+-- nothing is due before the boot
+never_due : IsNextDue [] None
+unfolding live_records live_of hearings
+never_due = refl
+
 pub runs_to-none : (until : ℕ) (played : Played) → played.history ≡ [] → RunsTo until played (record { clock = until; number = played.number; history = played.history })
-unfolding end_of
 runs_to-none until played none = record {
   ticks = [];
   are = tt;
-  idle = record { due = None; next = subst (λ (h : List Entry). IsNextDue h None) (sym none) (λ r. refl); over = tt };
+  idle = record { due = None; next = subst (λ (h : List Entry). IsNextDue h None) (sym none) never_due; over = tt };
   after_is = refl;
 }
 

@@ -5,7 +5,8 @@ use Rattle.mdns_history.specs.declared.event.Event.{Event}
 use Rattle.mdns_history.specs.declared.event.Event.TheVariants as event
 use Rattle.mdns_history.specs.declared.entry.Entry.{Entry}
 use Rattle.mdns_history.specs.EntryText.{history_text}
-use Rattle.mdns_core.specs.Entries.{Fits, bare_entry, last_moment}
+use Rattle.mdns_history.specs.Fitting.{last_moment}
+use Rattle.mdns_core.specs.Entries.{Fits, bare_entry}
 use Rattle.mdns_core.specs.Due.{IsNextDue}
 
 -- the current moment, the daemon's number where one was booted, and its history

@@ -1,12 +1,16 @@
 -- What the lines of a script say: which are built so far, which aren't yet, and which are no lines.
-use Rattle.std.specs.Prelude.{ℕ, ◌==◌, ◌+◌, ◌^◌, nat_le, not, ◌&&◌, ◌||◌, Bool, false, if◌then◌else◌, List, [], ◌∷◌, Option, Some, None, option_and_then, codes, is_some}
+use Rattle.std.specs.Prelude.{ℕ, ◌==◌, ◌+◌, ◌^◌, nat_le, nat_lt, not, ◌&&◌, ◌||◌, Bool, false, if◌then◌else◌, List, [], ◌∷◌, Option, Some, None, option_and_then, codes}
 use Rattle.std.specs.Option.{option_map}
-use Rattle.std.specs.Str.{bytes_eq}
+use Rattle.std.specs.Result.{result_ok}
+use Rattle.std.specs.List.{list_all}
+use Rattle.std.specs.Str.{bytes_eq, is_utf8}
 use Rattle.mdns_base.specs.Cut.{cut_of}
-use Rattle.mdns_base.specs.Hosts.{mdns_port}
+use Rattle.mdns_base.specs.declared.host.Host.{Host}
 use Rattle.mdns_base.specs.Digits.{decimal_of, decimal_below, ipv4_of, hex_of}
-use Rattle.dns_name.specs.PlainNames.{plain_name_of}
-use Rattle.dns_message.specs.Plain.{plain_record_of}
+use Rattle.dns_name.specs.ReadName.{read_name}
+use Rattle.dns_record.specs.ReadRecord.{kind_read}
+use Rattle.dns_record.specs.declared.record.Rr.{Rr}
+use Rattle.mdns_history.specs.Hearings.{brought, counted_records}
 use Rattle.sd_call.specs.declared.request.Request.TheVariants as request
 use Rattle.mdns_history.specs.declared.event.Event.TheVariants as event
 use Rattle.mdns_script.specs.declared.command.Command.{Command}
@@ -32,36 +36,49 @@ daemon_of text = do
 abbrev pub daemon_command : List ℕ → Option Command
 daemon_command text = option_map (λ n. commands.Daemon n (record { address = 167772160 + n; host = None })) (daemon_of text)
 
--- bytes in hexadecimal that are a plain packet
-abbrev pub packet_of : List ℕ → Option (List ℕ)
-packet_of text = do
-  bytes ← hex_of text
-  when (is_some (plain_record_of bytes)) bytes
+-- whether a record has a TTL above 0 and no flush bit: only such hearings are built so far
+abbrev pub is_lasting : Rr → Bool
+is_lasting rr = not rr.flush && nat_lt 0 rr.ttl
 
--- after `hear `: a daemon, an address, the port of Multicast DNS, and the text of a packet
-unfoldable pub hear_words : List ℕ → Option (ℕ × ℕ × List ℕ)
+-- the records that a packet brings
+abbrev pub brought_records : Host → List ℕ → List Rr
+brought_records from bytes = counted_records (brought (event.Hear from bytes))
+
+-- bytes in hexadecimal, where each record that they bring lasts
+abbrev pub packet_of : Host → List ℕ → Option (List ℕ)
+packet_of from text = do
+  bytes ← hex_of text
+  when (list_all is_lasting (brought_records from bytes)) bytes
+
+-- after `hear `: a daemon, an address and a port, and the text of a packet
+unfoldable pub hear_words : List ℕ → Option (ℕ × Host × List ℕ)
 hear_words text = do
   daemon ← cut_of 32 text
   from ← cut_of 32 daemon.1
   port ← cut_of 32 from.1
   n ← daemon_of daemon.0
   ip ← ipv4_of from.0
-  when (bytes_eq port.0 (codes "5353")) (n, ip, port.1)
+  p ← decimal_below (2 ^ 16) port.0
+  Some (n, record { ip = ip; port = p }, port.1)
 
 -- a packet that a daemon hears
-abbrev pub hearing : ℕ × ℕ × List ℕ → Option (List ℕ) → Option Command
+abbrev pub hearing : ℕ × Host × List ℕ → Option (List ℕ) → Option Command
 hearing words None = None
-hearing words (Some bytes) = Some (commands.Event words.0 (event.Hear (record { ip = words.1; port = mdns_port }) bytes))
+hearing words (Some bytes) = Some (commands.Event words.0 (event.Hear words.1 bytes))
 
--- `hear K IPV4 5353 HEX`, where the packet is plain
+-- `hear K IPV4 PORT HEX`, where each record that the packet brings lasts
 abbrev pub hear_command : List ℕ → Option Command
-hear_command text = hear_words text >>= λ words. hearing words (packet_of words.2)
+hear_command text = hear_words text >>= λ words. hearing words (packet_of words.1 words.2)
 
--- the words `1`, `query` and `A`: the first session asks for addresses
-abbrev pub asks_addresses : List ℕ → List ℕ → List ℕ → Bool
-asks_addresses session query kind = (bytes_eq session (codes "1") && bytes_eq query (codes "query")) && bytes_eq kind (codes "A")
+-- the name that bytes spell, where they are text
+abbrev pub name_of : List ℕ → Option (List (List ℕ))
+name_of text = if is_utf8 text then result_ok (read_name text) else None
 
--- `call K 1 OP query A NAME`, where the name is plain
+-- the words `1` and `query`: the first session asks
+abbrev pub asks : List ℕ → List ℕ → Bool
+asks session query = bytes_eq session (codes "1") && bytes_eq query (codes "query")
+
+-- `call K 1 OP query KIND NAME`
 unfoldable pub call_command : List ℕ → Option Command
 call_command text = do
   daemon ← cut_of 32 text
@@ -71,8 +88,9 @@ call_command text = do
   kind ← cut_of 32 query.1
   n ← daemon_of daemon.0
   o ← decimal_below (2 ^ 32) op.0
-  name ← plain_name_of kind.1
-  when (asks_addresses session.0 query.0 kind.0) (commands.Event n (event.Call 1 o (request.Query 1 name)))
+  k ← kind_read kind.0
+  name ← name_of kind.1
+  when (asks session.0 query.0) (commands.Event n (event.Call 1 o (request.Query k name)))
 
 -- a first word and what follows it
 abbrev pub command_of_words : List ℕ → List ℕ → Option Command

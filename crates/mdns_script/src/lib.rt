@@ -1,7 +1,7 @@
 //! The lines of a script: what each asks for.
 //!
-//! So far these lines are built: `daemon K`, `at T`, `open K`, `call K 1 OP query A NAME` of a plain name, and
-//! `hear K IPV4 5353 HEX` of a plain packet. Lines of the other forms are told apart as not yet built.
+//! So far these lines are built: `daemon K`, `at T`, `open K`, `call K 1 OP query KIND NAME`, and `hear K IPV4 PORT HEX` where
+//! no record that the packet brings has the flush bit or TTL 0. Lines of the other forms are told apart as not yet built.
 #![tactic(auto)]
 
 mod command;
@@ -39,15 +39,21 @@ mod tests {
             ("call 1 1 4294967295 query A a.LOCAL.", '+'),
             ("call 1 1 4294967296 query A a.local", '~'),
             ("call 1 2 1 query A a.local", '~'),
-            ("call 1 1 1 query AAAA a.local", '~'),
-            ("call 1 1 1 query A a.example", '~'),
+            ("call 1 1 1 query AAAA a.local", '+'),
+            ("call 1 1 1 query TYPE1 a.local", '~'),
+            ("call 1 1 1 query ANY a\\.b\\9.local", '~'),
+            ("call 1 1 1 query ANY a\\.b\\009.local", '+'),
+            ("call 1 1 1 query A a..local", '~'),
+            ("hear 1 10.0.0.9 0 -", '+'),
+            ("hear 1 10.0.0.9 65536 -", '~'),
+            ("hear 1 10.0.0.9 5353 0", '~'),
             (
                 "hear 1 10.0.0.9 5353 0000840000000001000000000161056c6f63616c0000010001000000780004c0000201",
                 '+',
             ),
             (
-                "hear 1 10.0.0.9 5354 0000840000000001000000000161056c6f63616c0000010001000000780004c0000201",
-                '~',
+                "hear 1 10.0.0.9 5354 0000840000000001000000000161056c6f63616c0000018001000000780004c0000201",
+                '+',
             ),
             (
                 "hear 1 10.0.0.9 5353 0000840000000001000000000161056c6f63616c0000018001000000780004c0000201",

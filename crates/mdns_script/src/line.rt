@@ -1,13 +1,17 @@
-ghost use Rattle.std.specs.Prelude.{◌≡◌, IfOk};
+ghost use Rattle.std.specs.Prelude.{◌≡◌, Ok, IfOk};
 ghost use Rattle.std.specs.Option.{option_map};
+ghost use Rattle.std.specs.List.{list_all};
 ghost use Rattle.mdns_base.specs.Digits.{decimal_of};
-ghost use Rattle.mdns_script.specs.Lines.{line_of, is_read, first_of, is_known, command_of, command_of_words, daemon_command, call_command, hear_command, hear_words, packet_of, daemon_of};
+ghost use Rattle.mdns_history.specs.Hearings.{is_ignored, counted, counted_records};
+ghost use Rattle.mdns_script.specs.Lines.{line_of, is_read, first_of, is_known, command_of, command_of_words, daemon_command, call_command, name_of, hear_command, hear_words, packet_of, brought_records, is_lasting, daemon_of};
 
 use crate::{Command, Line};
-use dns_message::plain_record;
-use dns_name::parse_plain_bytes;
-use dns_record::Bytes;
-use mdns_base::{Host, cut_at, is_same, read_decimal, read_decimal_u32, read_hex, read_ipv4};
+use dns_message::{Message, MessageError, read};
+use dns_name::Name;
+use dns_record::{Bytes, Rr, read_kind};
+use mdns_base::{
+    Host, cut_at, is_same, read_decimal, read_decimal_u16, read_decimal_u32, read_hex, read_ipv4,
+};
 use mdns_history::{Config, Event};
 use sd_call::Request;
 use std::alloc::{AllocError, Global};
@@ -142,14 +146,15 @@ fn call_command(text: &[u8]) -> Option<Command>
     let (kind, name) = cut_at(rest, b' ')?;
     let daemon = daemon_number(daemon)?;
     let op = read_decimal_u32(op)?;
-    let name = parse_plain_bytes(name)?;
-    if is_same(session, b"1") && is_same(query, b"query") && is_same(kind, b"A") {
+    let kind = read_kind(kind)?;
+    let name = name_of(name)?;
+    if is_same(session, b"1") && is_same(query, b"query") {
         Some(Command::Event {
             daemon,
             event: Event::Call {
                 session: 1,
                 op,
-                request: Request::Query { kind: 1, name },
+                request: Request::Query { kind, name },
             },
         })
     } else {
@@ -157,56 +162,97 @@ fn call_command(text: &[u8]) -> Option<Command>
     }
 }
 
+// The name that a text spells.
+fn name_of(text: &[u8]) -> Option<Name>
+    ensures { result ≡ name_of text.now }
+{
+    match str::from_utf8(text) {
+        Ok(text) => Name::parse_text(text).ok(),
+        Err(_) => None,
+    }
+}
+
 fn hear_command(alloc: Global, text: &[u8]) -> Result<Option<Command>, AllocError>
     ensures { IfOk result (λ found. found ≡ hear_command text.now) }
 {
-    let Some((daemon, ip, hex)) = hear_words(text) else {
+    let Some((daemon, from, hex)) = hear_words(text) else {
         return Ok(None);
     };
-    let Some(bytes) = packet(alloc, hex)? else {
+    let Some(bytes) = packet(alloc, from, hex)? else {
         return Ok(None);
     };
     Ok(Some(Command::Event {
         daemon,
-        event: Event::Hear {
-            from: Host {
-                ip,
-                port: MDNS_PORT,
-            },
-            bytes,
-        },
+        event: Event::Hear { from, bytes },
     }))
 }
 
-// The daemon, the address and the text of the packet.
+// The daemon, the sender and the text of the packet.
 #[tactic(auto, unfolding(crate::specs::Lines::hear_words))]
-fn hear_words(text: &[u8]) -> Option<(u32, u32, &[u8])>
+fn hear_words(text: &[u8]) -> Option<(u32, Host, &[u8])>
     ensures { option_map (λ words. (words.0, words.1, words.2.now)) result ≡ hear_words text.now }
 {
     let (daemon, rest) = cut_at(text, b' ')?;
-    let (from, rest) = cut_at(rest, b' ')?;
+    let (ip, rest) = cut_at(rest, b' ')?;
     let (port, hex) = cut_at(rest, b' ')?;
     let daemon = daemon_number(daemon)?;
-    let ip = read_ipv4(from)?;
-    if is_same(port, b"5353") {
-        Some((daemon, ip, hex))
-    } else {
-        None
-    }
+    let ip = read_ipv4(ip)?;
+    let port = read_decimal_u16(port)?;
+    Some((daemon, Host { ip, port }, hex))
 }
 
-// Bytes in hexadecimal that are a plain packet.
-fn packet(alloc: Global, text: &[u8]) -> Result<Option<Bytes>, AllocError>
-    ensures { IfOk result (λ found. found ≡ packet_of text.now) }
+// Bytes in hexadecimal that bring no record that cuts a life.
+fn packet(alloc: Global, from: Host, text: &[u8]) -> Result<Option<Bytes>, AllocError>
+    ensures { IfOk result (λ found. found ≡ packet_of from text.now) }
 {
     let Some(bytes) = read_hex(alloc, text)? else {
         return Ok(None);
     };
-    if plain_record(bytes.as_slice()).is_some() {
-        Ok(Some(Bytes::from_vec(bytes)))
+    let bytes = Bytes::from_vec(bytes);
+    if brings_lasting(alloc, from, bytes.as_slice())? {
+        Ok(Some(bytes))
     } else {
         Ok(None)
     }
+}
+
+// Whether each record that a packet brings lasts.
+fn brings_lasting(alloc: Global, from: Host, bytes: &[u8]) -> Result<bool, AllocError>
+    ensures { IfOk result (λ told. told ≡ list_all is_lasting (brought_records from bytes.now)) }
+{
+    match read(alloc, bytes) {
+        Ok(message) => Ok(is_lasting_message(from, &message)),
+        Err(MessageError::NoMemory) => Err(AllocError),
+        Err(_) => Ok(true),
+    }
+}
+
+// Whether each record of a message lasts, as far as they count: those of a response that isn't ignored do.
+fn is_lasting_message(from: Host, message: &Message) -> bool
+    ensures { result ≡ list_all is_lasting (counted_records (counted from (Ok message.now))) }
+{
+    is_ignored(from, message)
+        || !message.response
+        || (are_lasting(message.answers.as_slice()) && are_lasting(message.additional.as_slice()))
+}
+
+fn is_ignored(from: Host, message: &Message) -> bool
+    ensures { result ≡ is_ignored from message.now }
+{
+    message.opcode != 0 || message.rcode != 0 || (message.response && from.port != MDNS_PORT)
+}
+
+fn are_lasting(rrs: &[Rr]) -> bool
+    ensures { result ≡ list_all is_lasting rrs.now }
+{
+    rrs.iter().all(is_lasting)
+}
+
+// Whether a record has a TTL above 0 and no flush bit.
+fn is_lasting(rr: &Rr) -> bool
+    ensures { result ≡ is_lasting rr.now }
+{
+    !rr.flush && rr.ttl > 0
 }
 
 // The number of a daemon, 1 to 16.

@@ -51,6 +51,91 @@ fn scripts(rt: HostRuntime) -> Result<(), Fail> {
     Ok(())
 }
 
+// A session that asks for the addresses of a name, and what that prints.
+const ASKED: &str = "daemon 1\nopen 1\ncall 1 1 1 query A a.local\nat 1000\n";
+
+const ASKED_OUTPUT: &str = "@0 d1 w0 boot 10.0.0.1
+@0 d1 w0 open
+ = opened 1
+@0 d1 w0 call 1 1 query A a.local.
+ < 1 reply 1 start 0
+ = code 0
+";
+
+#[test]
+fn packets(rt: HostRuntime) -> Result<(), Fail> {
+    let alloc = rt.alloc();
+    for (port, packet, effect) in [
+        // Four records, the last named by three pointers one behind the other.
+        (
+            "5353",
+            "0000840000000004000000000141054c4f43414c0000010001000000780004c0000201c00c00010001000000780004c0000202c02300010001000000780004c0000203c03300010001000000780004c0000204",
+            " < 1 add 1 A 192.0.2.1\n < 1 add 1 A 192.0.2.2\n < 1 add 1 A 192.0.2.3\n < 1 add 1 A 192.0.2.4\n",
+        ),
+        // A pointer forward, and one to itself.
+        (
+            "5353",
+            "000084000000000100000000c00e00010001000000780004c0000201",
+            " ! bad 2\n",
+        ),
+        (
+            "5353",
+            "000084000000000100000000c00c00010001000000780004c0000201",
+            " ! bad 2\n",
+        ),
+        // An OPT record as additional one.
+        (
+            "5353",
+            "0000840000000001000000010161056c6f63616c0000010001000000780004c000020100002905a0000000000000",
+            " < 1 add 1 A 192.0.2.1\n",
+        ),
+        // A response from another port.
+        (
+            "5354",
+            "0000840000000001000000000161056c6f63616c0000018001000000780004c0000201",
+            "",
+        ),
+    ] {
+        let script = format!(in alloc; "{ASKED}hear 1 10.0.0.9 {port} {packet}\n")?;
+        let output = format!(in alloc;
+            "{ASKED_OUTPUT}@1000 d1 w0 hear 10.0.0.9 {port} {packet}\n{effect}"
+        )?;
+        let mut source = MemSource::new(
+            Vec::from_slice(alloc, script.as_bytes())?,
+            Vec::new(alloc),
+        );
+        let mut sink = MemSink::new(alloc, Vec::new(alloc));
+        assert_eq!(rt; run_script(alloc, &mut source, &mut sink), 0, "{packet}");
+        assert_eq!(rt; sink.bytes(), output.as_bytes(), "{packet}");
+    }
+    Ok(())
+}
+
+#[test]
+fn prefixes_are_bad(rt: HostRuntime) -> Result<(), Fail> {
+    let alloc = rt.alloc();
+    let whole = "0000840000000001000000000161056c6f63616c0000018001000000780004c0000201";
+    for length in 0..35usize {
+        let packet = if length == 0 {
+            "-"
+        } else {
+            &whole[..2 * length]
+        };
+        let script = format!(in alloc; "daemon 1\nhear 1 10.0.0.9 5353 {packet}\n")?;
+        let output = format!(in alloc;
+            "@0 d1 w0 boot 10.0.0.1\n@0 d1 w0 hear 10.0.0.9 5353 {packet}\n ! bad 1\n"
+        )?;
+        let mut source = MemSource::new(
+            Vec::from_slice(alloc, script.as_bytes())?,
+            Vec::new(alloc),
+        );
+        let mut sink = MemSink::new(alloc, Vec::new(alloc));
+        assert_eq!(rt; run_script(alloc, &mut source, &mut sink), 0, "{packet}");
+        assert_eq!(rt; sink.bytes(), output.as_bytes(), "{packet}");
+    }
+    Ok(())
+}
+
 #[test]
 fn words(rt: HostRuntime) -> Result<(), Fail> {
     let alloc = rt.alloc();

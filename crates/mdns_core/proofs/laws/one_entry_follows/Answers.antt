@@ -1,4 +1,4 @@
-use Rattle.std.proofs.Common.{◌≡◌, ℕ, ◌∙◌, sym, refl}
+use Rattle.std.proofs.Common.{◌∙◌, sym, refl}
 use Rattle.mdns_core.specs.Entries.{next_entry}
 use Rattle.mdns_core.proofs.laws.one_entry_follows.Goals as goal
 

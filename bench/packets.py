@@ -1,0 +1,87 @@
+#!/usr/bin/env python3
+"""Hears recorded packets in scripts, and compares what the built program reads or refuses with another reader's account.
+
+    python3 bench/packets.py PACKETS DECODED [PROGRAM]
+
+PACKETS and DECODED are lines of JSON, one a packet and in one order: `hex`, `src_ip` and `src_port` of a UDP payload, and
+its sections as a dissector reads them. PROGRAM is crates/mdnsd/out/mdnsd where none is given. Nothing here is part of the
+gate.
+
+Of each packet the account tells what our reader makes of it: records of type OPT or of another class than IN are passed
+over; a response from port 5353 without opcode and response code is heard. Where a record that is heard has the flush bit or
+TTL 0 the line is not built yet, so the packet is heard a second time from port 5354, where a response counts as ignored:
+there the program reads or refuses every packet. What is heard is asked for by ANY at the name of its first record.
+"""
+import json
+import os
+import subprocess
+import sys
+
+HERE = os.path.dirname(os.path.abspath(__file__))
+PROGRAM = sys.argv[3] if len(sys.argv) > 3 else os.path.join(HERE, "..", "crates", "mdnsd", "out", "mdnsd")
+OPT, IN = 41, 1
+
+
+def run(lines):
+    script = ("\n".join(lines) + "\n").encode()
+    done = subprocess.run([PROGRAM, "script"], input=script, capture_output=True, timeout=60)
+    return done.returncode, done.stdout.decode("latin-1")
+
+
+def wire_of(text):
+    """The folded labels of a dissector's name: its labels have no dots of their own but before the service type."""
+    return text.rstrip(".").lower()
+
+
+def heard(decoded):
+    """The records that a decoded packet brings, or None where it brings none."""
+    flags = decoded["flags"]
+    if not flags & 0x8000 or flags >> 11 & 15 or flags & 15:
+        return None
+    records = decoded["answers"] + decoded["additional"]
+    return [r for r in records if r["type"] != OPT and r.get("class", IN) == IN]
+
+
+def main():
+    packets = [json.loads(line) for line in open(sys.argv[1])]
+    accounts = [json.loads(line) for line in open(sys.argv[2])]
+    counts = {"read": 0, "heard": 0, "not built": 0, "records": 0, "wrong": 0}
+    for packet, account in zip(packets, accounts):
+        hear = f"hear 1 {packet['src_ip']} {{}} {packet['hex']}"
+        status, text = run(["daemon 1", hear.format(5354)])
+        refused = status != 0 or " ! " in text
+        counts["read"] += not refused
+        wrong = refused
+        records = heard(account) if packet["src_port"] == 5353 else None
+        status, text = run(["daemon 1", hear.format(packet["src_port"])])
+        if records and any(r["flush"] or r["ttl"] == 0 for r in records):
+            counts["not built"] += 1
+            wrong |= status != 7 or not text.endswith("not yet line 2\n")
+        else:
+            wrong |= status != 0 or " ! " in text
+        if records and not any(r["flush"] or r["ttl"] == 0 for r in records):
+            counts["heard"] += 1
+            wrong |= not answers_agree(hear.format(packet["src_port"]), records, counts)
+        if wrong:
+            counts["wrong"] += 1
+            print("wrong:", account.get("scenario"), account.get("n"), status, text[-200:])
+    print(f"{len(packets)} packets: " + ", ".join(f"{count} {what}" for what, count in counts.items()))
+    return 1 if counts["wrong"] else 0
+
+
+def answers_agree(hear, records, counts):
+    """Whether each name's records answer ANY, as many as the account lists, and end when the account says."""
+    for name in {wire_of(r["name"]) for r in records}:
+        own = [r for r in records if wire_of(r["name"]) == name]
+        status, text = run(["daemon 1", "open 1", f"call 1 1 1 query ANY {name.replace(' ', chr(92) + '032')}", hear])
+        added = [line for line in text.splitlines() if line.startswith(" < 1 add 1 ")]
+        counts["records"] += len(added)
+        last = max(r["ttl"] for r in own) * 1000
+        end, tail = run(["daemon 1", "open 1", f"call 1 1 1 query ANY {name.replace(' ', chr(92) + '032')}", hear, f"at {last}"])
+        removed = [line for line in tail.splitlines() if line.startswith(" < 1 rem 1 ")]
+        if status != 0 or end != 0 or len(added) != len(own) or len(removed) != len(own):
+            return False
+    return True
+
+
+sys.exit(main())
