@@ -17,7 +17,7 @@ use Rattle.mdns_history.specs.Items.{queue}
 use Rattle.mdns_history.specs.Outcomes.{most_sessions, most_over_life, call_code, call_outcome, take_outcome, items_or_empty, early_outcome, late_outcome}
 
 -- the outcome of a take opens nothing
-opened-take : (session max : ℕ) (history : List Entry) → opened (take_outcome session max history) ≡ None
+pub opened-take : (session max : ℕ) (history : List Entry) → opened (take_outcome session max history) ≡ None
 opened-take session max history = of (not (is_attached session history)) (is_cut session history) (take max (queue session history))
   where
     of : (a b : Bool) (items : List Item) → opened (cond a outcome.Closed (cond b outcome.Cut (items_or_empty items))) ≡ None
@@ -37,7 +37,7 @@ opened-late event.Tick past history = refl
 opened-late (event.Take session max) past history = opened-take session max history
 
 -- a call opens nothing
-opened-call : (session op : ℕ) (r : Request) (past : List Entry) → opened (call_outcome session op r past) ≡ None
+pub opened-call : (session op : ℕ) (r : Request) (past : List Entry) → opened (call_outcome session op r past) ≡ None
 opened-call session op r past = of (not (is_attached session past)) (is_cut session past)
   where
     of : (a b : Bool) → opened (cond a outcome.Closed (cond b outcome.Cut (outcome.Code (call_code session op r past)))) ≡ None
@@ -81,7 +81,7 @@ coded_attached session op r past code e = of (is_attached session past) (is_cut 
     of true b f h = f
     of false b f h = cc
 
-coded_with : (session op : ℕ) (r : Request) (past : List Entry) (code : ℤ) → call_outcome session op r past ≡ outcome.Code code → call_code session op r past ≡ code
+pub coded_with : (session op : ℕ) (r : Request) (past : List Entry) (code : ℤ) → call_outcome session op r past ≡ outcome.Code code → call_code session op r past ≡ code
 unfolding code_in is_code
 coded_with session op r past code e = of (not (is_attached session past)) (is_cut session past) (ap is_code e) (ap code_in e)
   where

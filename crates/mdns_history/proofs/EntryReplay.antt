@@ -22,7 +22,7 @@ use Rattle.mdns_history.specs.Items.{reply_of, earlier_answers, removes, adds, c
 use Rattle.mdns_history.specs.Replays.{answer_sets}
 use Rattle.mdns_history.proofs.ReplySteps.{number, answers_at, had, kept_for, replied}
 
-answers_over-different : (request : Request) (history : List Entry) → AreDifferent (answers_over request (known_records history))
+pub answers_over-different : (request : Request) (history : List Entry) → AreDifferent (answers_over request (known_records history))
 unfolding answers_over
 answers_over-different request history = AreDifferent-ordered _
 
@@ -58,7 +58,7 @@ each_of P all [] = tt
 each_of P all (o ∷ os) = (all o, each_of P all os)
 
 -- the operations after an entry that doesn't detach the session
-operations_of-kept : (session : ℕ) (entry : Entry) (past : List Entry) → is_number session (detached entry.event entry.outcome) ≡ false →
+pub operations_of-kept : (session : ℕ) (entry : Entry) (past : List Entry) → is_number session (detached entry.event entry.outcome) ≡ false →
     operations_of session (entry ∷ past) ≡ after_call session (accepted_call entry.event entry.outcome) (operations_of session past)
 unfolding operations_of
 operations_of-kept session entry past kept = rw kept refl

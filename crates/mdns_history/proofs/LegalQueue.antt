@@ -17,16 +17,16 @@ use Rattle.mdns_history.specs.Fitting.{next_entry, bare_entry, noted, with_cuts,
 use Rattle.mdns_history.specs.Replays.{IsQueued}
 
 -- xs begins with ys
-abbrev Begins : List Item → List Item → Type 0
+abbrev pub Begins : List Item → List Item → Type 0
 Begins xs ys = xs ≡ ys ++ drop (length ys) xs
 
-begins_more : (ys rest : List Item) (k : ℕ) → Begins (ys ++ rest) (ys ++ take k rest)
+pub begins_more : (ys rest : List Item) (k : ℕ) → Begins (ys ++ rest) (ys ++ take k rest)
 begins_more ys rest k =
     let whole : ys ++ rest ≡ (ys ++ take k rest) ++ drop k rest = ap (λ zs. ys ++ zs) (sym (take-append-drop k rest)) ∙ sym (append_assoc ys (take k rest) (drop k rest)) in
     whole ∙ ap (λ zs. (ys ++ take k rest) ++ zs) (sym (ap (λ zs. drop (length (ys ++ take k rest)) zs) whole ∙ drop-append_seam (ys ++ take k rest) (drop k rest)))
 
 -- a take hands over nothing to another session, and its items to its own
-handed_other : (session s max : ℕ) → (s == session) ≡ false → (o : Outcome) → handed_over session (event.Take s max) o ≡ []
+pub handed_other : (session s max : ℕ) → (s == session) ≡ false → (o : Outcome) → handed_over session (event.Take s max) o ≡ []
 handed_other session s max e outcome.Done = refl
 handed_other session s max e (outcome.Opened n) = refl
 handed_other session s max e outcome.Full = refl
@@ -37,28 +37,28 @@ handed_other session s max e (outcome.Code code) = refl
 handed_other session s max e (outcome.Items items) = rw e refl
 handed_other session s max e outcome.Empty = refl
 
-handed_own : (session s max : ℕ) → (s == session) ≡ true → (items : List Item) → handed_over session (event.Take s max) (items_or_empty items) ≡ items
+pub handed_own : (session s max : ℕ) → (s == session) ≡ true → (items : List Item) → handed_over session (event.Take s max) (items_or_empty items) ≡ items
 handed_own session s max e [] = refl
 handed_own session s max e (item ∷ items) = rw e refl
 
 -- the entry of a take took nothing yet
-taken-early : (s max : ℕ) (past : List Entry) (other : Entry) → other.event ≡ event.Take s max → other.outcome ≡ outcome.Done → taken_items s (other ∷ past) ≡ taken_items s past
+pub taken-early : (s max : ℕ) (past : List Entry) (other : Entry) → other.event ≡ event.Take s max → other.outcome ≡ outcome.Done → taken_items s (other ∷ past) ≡ taken_items s past
 unfolding taken_items
 taken-early s max past other a b =
     ap (λ e. taken_items s past ++ handed_over s e other.outcome) a ∙ ap (λ o. taken_items s past ++ handed_over s (event.Take s max) o) b ∙ append-nil (taken_items s past)
 
 -- what is left of a session's items after an entry that takes
-abbrev left : ℕ → List Entry → Entry → List Item
+abbrev pub left : ℕ → List Entry → Entry → List Item
 left session past other = drop (length (taken_items session past)) (session_items session (other ∷ past))
 
-queue-left : (s max : ℕ) (past : List Entry) (other : Entry) → other.event ≡ event.Take s max → other.outcome ≡ outcome.Done → is_cut s (other ∷ past) ≡ false → queue s (other ∷ past) ≡ left s past other
+pub queue-left : (s max : ℕ) (past : List Entry) (other : Entry) → other.event ≡ event.Take s max → other.outcome ≡ outcome.Done → is_cut s (other ∷ past) ≡ false → queue s (other ∷ past) ≡ left s past other
 unfolding queue
 queue-left s max past other a b uncut =
     ap (λ c. cond c [] (drop (length (taken_items s (other ∷ past))) (session_items s (other ∷ past)))) uncut
     ∙ ap (λ zs. drop (length zs) (session_items s (other ∷ past))) (taken-early s max past other a b)
 
 -- what a take hands over is a front of what is left
-handed : (session : ℕ) (e : Event) (past : List Entry) (other : Entry) → other.event ≡ e → other.outcome ≡ early_outcome e past →
+pub handed : (session : ℕ) (e : Event) (past : List Entry) (other : Entry) → other.event ≡ e → other.outcome ≡ early_outcome e past →
     (k : ℕ) × (handed_over session e (late_outcome e (early_outcome e past) (other ∷ past)) ≡ take k (left session past other))
 unfolding early_outcome
 handed session (event.Boot config) past other a b = (0, refl)
@@ -98,7 +98,7 @@ module _ (duties : Duties) (past : List Entry) (moment word : ℕ) (ev : Event) 
       subst (λ xs. P xs (handed_over session ev (late_outcome ev (early_outcome ev past) (last_stage ∷ past)))) (sym whole)
       (subst (λ hs. P (taken ++ rest) hs) (sym (front.1 ∙ ap (take front.0) is_rest)) (begins_more taken rest front.0))
 
-begins_from : (duties : Duties) (session : ℕ) (entry : Entry) (past : List Entry) → IsLegalFrom duties entry past → Begins (session_items session (entry ∷ past)) (taken_items session (entry ∷ past))
+pub begins_from : (duties : Duties) (session : ℕ) (entry : Entry) (past : List Entry) → IsLegalFrom duties entry past → Begins (session_items session (entry ∷ past)) (taken_items session (entry ∷ past))
 unfolding session_items taken_items
 begins_from duties session entry [] legal = subst (λ e. Begins (session_items session (e ∷ [])) (taken_items session (e ∷ []))) (sym legal.3) refl
 begins_from duties session entry (before ∷ past) legal =

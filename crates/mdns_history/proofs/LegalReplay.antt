@@ -31,13 +31,13 @@ use Rattle.mdns_history.proofs.EntryReplay.{entry_replayed}
 use Rattle.mdns_history.proofs.ReplySteps.{number}
 
 -- what holds of sessions in a legal history
-record Holds (history : List Entry) : Type 0 where
-  numbered : (session : ℕ) → is_attached session history ≡ true → (1 ≤ session) × (session ≤ opened_count history)
-  unopened : (session : ℕ) → opened_count history < session → (session_items session history ≡ []) × (operations_of session history ≡ [])
-  apart : (session : ℕ) → AreApart number (operations_of session history)
-  replayed : (session : ℕ) → is_attached session history ≡ true → is_cut session history ≡ false → replay (session_items session history) ≡ Some (answer_sets session history)
+pub record Holds (history : List Entry) : Type 0 where
+  pub numbered : (session : ℕ) → is_attached session history ≡ true → (1 ≤ session) × (session ≤ opened_count history)
+  pub unopened : (session : ℕ) → opened_count history < session → (session_items session history ≡ []) × (operations_of session history ≡ [])
+  pub apart : (session : ℕ) → AreApart number (operations_of session history)
+  pub replayed : (session : ℕ) → is_attached session history ≡ true → is_cut session history ≡ false → replay (session_items session history) ≡ Some (answer_sets session history)
 
-detached-late : (e : Event) (early : Outcome) (history : List Entry) → detached e (late_outcome e early history) ≡ detached e early
+pub detached-late : (e : Event) (early : Outcome) (history : List Entry) → detached e (late_outcome e early history) ≡ detached e early
 detached-late (event.Boot config) early history = refl
 detached-late event.Attach early history = refl
 detached-late (event.Detach session) early history = refl
@@ -46,7 +46,7 @@ detached-late (event.Hear from bytes) early history = refl
 detached-late event.Tick early history = refl
 detached-late (event.Take session max) early history = refl
 
-opened_undetached : (e : Event) (past : List Entry) (session : ℕ) → is_number session (opened (early_outcome e past)) ≡ true → is_number session (detached e (early_outcome e past)) ≡ false
+pub opened_undetached : (e : Event) (past : List Entry) (session : ℕ) → is_number session (opened (early_outcome e past)) ≡ true → is_number session (detached e (early_outcome e past)) ≡ false
 unfolding early_outcome
 opened_undetached (event.Boot config) past session h = refl
 opened_undetached event.Attach past session h = refl
@@ -60,32 +60,32 @@ opened_undetached (event.Hear from bytes) past session h = refl
 opened_undetached event.Tick past session h = refl
 opened_undetached (event.Take other max) past session h = refl
 
-some_of_number : (session : ℕ) (o : Option ℕ) → is_number session o ≡ true → is_some o ≡ true
+pub some_of_number : (session : ℕ) (o : Option ℕ) → is_number session o ≡ true → is_some o ≡ true
 some_of_number session None h = h
 some_of_number session (Some n) h = refl
 
 module _ (duties : Duties) (past : List Entry) (moment word : ℕ) (ev : Event) where
-  abbrev staged : Entry
+  abbrev pub staged : Entry
   staged = with_cuts (noted duties (bare_entry moment word ev past) past) past
 
-  abbrev early : Outcome
+  abbrev pub early : Outcome
   early = early_outcome ev past
 
-  count-late : opened_count (next_entry duties past moment word ev ∷ past) ≡ opened_count (staged ∷ past)
+  pub count-late : opened_count (next_entry duties past moment word ev ∷ past) ≡ opened_count (staged ∷ past)
   unfolding next_entry
   count-late = ap (λ o. cond (is_some o) (suc (count_where (λ entry. is_some (opened entry.outcome)) past)) (count_where (λ entry. is_some (opened entry.outcome)) past)) (opened-late ev past (with_items staged past ∷ past))
 
-  count_grown : (opened_count (staged ∷ past) ≡ opened_count past) ⊎ (opened_count (staged ∷ past) ≡ suc (opened_count past))
+  pub count_grown : (opened_count (staged ∷ past) ≡ opened_count past) ⊎ (opened_count (staged ∷ past) ≡ suc (opened_count past))
   count_grown = of (is_some (opened early))
     where
       of : (b : Bool) → (cond b (suc (opened_count past)) (opened_count past) ≡ opened_count past) ⊎ (cond b (suc (opened_count past)) (opened_count past) ≡ suc (opened_count past))
       of true = inr refl
       of false = inl refl
 
-  count_opened : (session : ℕ) → is_number session (opened early) ≡ true → opened_count (staged ∷ past) ≡ suc (opened_count past)
+  pub count_opened : (session : ℕ) → is_number session (opened early) ≡ true → opened_count (staged ∷ past) ≡ suc (opened_count past)
   count_opened session h = ap (λ b. cond b (suc (opened_count past)) (opened_count past)) (some_of_number session (opened early) h)
 
-  attached-late : (session : ℕ) → is_attached session (next_entry duties past moment word ev ∷ past) ≡ is_attached session (staged ∷ past)
+  pub attached-late : (session : ℕ) → is_attached session (next_entry duties past moment word ev ∷ past) ≡ is_attached session (staged ∷ past)
   unfolding is_attached next_entry
   attached-late session =
       let before : Option Bool = latest (attaching session) past in
@@ -95,7 +95,7 @@ module _ (duties : Duties) (past : List Entry) (moment word : ℕ) (ev : Event) 
       (detached-late ev early (with_items staged past ∷ past))
 
   -- a session that is attached was opened just now, or was attached before and isn't detached
-  attached_cases : (session : ℕ) → is_attached session (staged ∷ past) ≡ true →
+  pub attached_cases : (session : ℕ) → is_attached session (staged ∷ past) ≡ true →
       ((is_number session (opened early) ≡ true) × (is_number session (detached ev early) ≡ false)) ⊎ ((is_number session (detached ev early) ≡ false) × (is_attached session past ≡ true))
   unfolding is_attached
   attached_cases session h = of (is_number session (opened early)) refl (is_number session (detached ev early)) refl h
@@ -107,19 +107,19 @@ module _ (duties : Duties) (past : List Entry) (moment word : ℕ) (ev : Event) 
       of false e true f g = cc
       of false e false f g = inr (f, g)
 
-  cut-late : (session : ℕ) → is_cut session (next_entry duties past moment word ev ∷ past) ≡ is_cut session (staged ∷ past)
+  pub cut-late : (session : ℕ) → is_cut session (next_entry duties past moment word ev ∷ past) ≡ is_cut session (staged ∷ past)
   unfolding is_cut next_entry
   cut-late session = refl
 
-  not_cut_before : (session : ℕ) → is_cut session (staged ∷ past) ≡ false → is_cut session past ≡ false
+  pub not_cut_before : (session : ℕ) → is_cut session (staged ∷ past) ≡ false → is_cut session past ≡ false
   unfolding is_cut
   not_cut_before session h = or_second (has_mark (is_cut_of session) staged) (list_any (has_mark (is_cut_of session)) past) h
 
-  items-late : (session : ℕ) → session_items session (next_entry duties past moment word ev ∷ past) ≡ session_items session past ++ filter_map (item_for session) (given_items staged past)
+  pub items-late : (session : ℕ) → session_items session (next_entry duties past moment word ev ∷ past) ≡ session_items session past ++ filter_map (item_for session) (given_items staged past)
   unfolding session_items next_entry
   items-late session = refl
 
-  operations-late : (session : ℕ) → operations_of session (next_entry duties past moment word ev ∷ past) ≡ operations_of session (staged ∷ past)
+  pub operations-late : (session : ℕ) → operations_of session (next_entry duties past moment word ev ∷ past) ≡ operations_of session (staged ∷ past)
   unfolding next_entry
   operations-late session = operations_of-late session moment word staged.marks staged.sent (given_items staged past) ev early (with_items staged past ∷ past) past
 
@@ -128,7 +128,7 @@ module _ (duties : Duties) (past : List Entry) (moment word : ℕ) (ev : Event) 
   sets-late session = answer_sets-late session moment word staged.marks staged.sent (given_items staged past) ev early (with_items staged past ∷ past) past
 
   -- the items given to a session that is served, and to one that was never opened
-  served_items : (session : ℕ) → 1 ≤ session → session ≤ opened_count (staged ∷ past) → is_attached session (staged ∷ past) ≡ true → is_cut session (staged ∷ past) ≡ false →
+  pub served_items : (session : ℕ) → 1 ≤ session → session ≤ opened_count (staged ∷ past) → is_attached session (staged ∷ past) ≡ true → is_cut session (staged ∷ past) ≡ false →
       filter_map (item_for session) (given_items staged past) ≡ change_items session staged past
   unfolding given_items served_sessions attached_sessions
   served_items session low high attached uncut =
@@ -140,7 +140,7 @@ module _ (duties : Duties) (past : List Entry) (moment word : ℕ) (ev : Event) 
       picked-below session (λ s. change_items s staged past) (λ s. not (is_cut s (staged ∷ past))) (λ s. is_attached s (staged ∷ past)) (opened_count (staged ∷ past)) 1 (omega arith)
 
   -- a start that was accepted has a new number
-  new_number : (session op : ℕ) (r : Request) (code : ℤ) → ev ≡ event.Call session op r → early ≡ outcome.Code code → int_eq code no_error ≡ true → is_start r ≡ true → find (has_op op) (operations_of session past) ≡ None
+  pub new_number : (session op : ℕ) (r : Request) (code : ℤ) → ev ≡ event.Call session op r → early ≡ outcome.Code code → int_eq code no_error ≡ true → is_start r ≡ true → find (has_op op) (operations_of session past) ≡ None
   unfolding early_outcome
   new_number session op r code e o ok start = started_new session op r past code (ap (λ x. early_outcome x past) (sym e) ∙ o) ok start
 
@@ -162,7 +162,7 @@ module _ (duties : Duties) (past : List Entry) (moment word : ℕ) (ev : Event) 
             grown (inl e) l = omega (arith, e, l)
             grown (inr e) l = omega (arith, e, l)
 
-    below_past : (session : ℕ) → opened_count (staged ∷ past) < session → opened_count past < session
+    pub below_past : (session : ℕ) → opened_count (staged ∷ past) < session → opened_count past < session
     below_past session l = of count_grown
       where
         of : (opened_count (staged ∷ past) ≡ opened_count past) ⊎ (opened_count (staged ∷ past) ≡ suc (opened_count past)) → opened_count past < session
@@ -240,7 +240,7 @@ holds_boot moment word config = record {
   replayed = λ session attached uncut. cc;
 }
 
-holds_from : (duties : Duties) (entry : Entry) (past : List Entry) → IsLegalFrom duties entry past → Holds (entry ∷ past)
+pub holds_from : (duties : Duties) (entry : Entry) (past : List Entry) → IsLegalFrom duties entry past → Holds (entry ∷ past)
 holds_from duties entry [] legal = subst (λ e. Holds (e ∷ [])) (sym legal.3) (holds_boot entry.moment entry.word legal.0)
 holds_from duties entry (before ∷ past) legal =
     subst (λ e. Holds (e ∷ before ∷ past)) (sym (legal.0).determined) (holds_next duties (before ∷ past) entry.moment entry.word entry.event (holds_from duties before past legal.1))

@@ -1,7 +1,7 @@
 pub mod AllOpen
 pub mod LifetimeSteps
 mod LifetimeAll
-mod Steps
+pub mod Steps
 mod Played
 mod HeardRows
 mod AskedRows
@@ -19,13 +19,13 @@ pub mod CallTexts
 pub mod EventTexts
 pub mod SentTexts
 pub mod EntryTexts
-mod Determined
+pub mod Determined
 mod GoodCalls
-mod Stages
-mod SessionLists
-mod ReplySteps
-mod EntryReplay
-mod CallFacts
-mod Apart
-mod LegalReplay
-mod LegalQueue
+pub mod Stages
+pub mod SessionLists
+pub mod ReplySteps
+pub mod EntryReplay
+pub mod CallFacts
+pub mod Apart
+pub mod LegalReplay
+pub mod LegalQueue

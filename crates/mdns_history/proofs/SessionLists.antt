@@ -6,7 +6,7 @@ use Rattle.dns_name.specs.Lists.{count_up}
 use Rattle.sd_call.specs.declared.item.Item.{Item}
 use Rattle.mdns_history.specs.Items.{item_for, given_to}
 
-filter_map-append : {X Y : Type 0} (f : X → Option Y) (xs ys : List X) → filter_map f (xs ++ ys) ≡ filter_map f xs ++ filter_map f ys
+pub filter_map-append : {X Y : Type 0} (f : X → Option Y) (xs ys : List X) → filter_map f (xs ++ ys) ≡ filter_map f xs ++ filter_map f ys
 filter_map-append f [] ys = refl
 filter_map-append {Y = Y} f (x ∷ xs) ys = pushed (f x) (filter_map-append f xs ys)
   where
@@ -15,7 +15,7 @@ filter_map-append {Y = Y} f (x ∷ xs) ys = pushed (f x) (filter_map-append f xs
     pushed (Some y) e = ap (λ zs. y ∷ zs) e
 
 -- the items that are given to a session are all for it, or none
-items_for : (session other : ℕ) (items : List Item) → filter_map (item_for session) (map (given_to other) items) ≡ cond (other == session) items []
+pub items_for : (session other : ℕ) (items : List Item) → filter_map (item_for session) (map (given_to other) items) ≡ cond (other == session) items []
 items_for session other [] = none (other == session)
   where
     none : (b : Bool) → ◌≡◌ {A = List Item} [] (cond b [] [])

@@ -15,6 +15,7 @@ use Rattle.mdns_history.specs.declared.mark.Mark.TheVariants as mark
 use Rattle.mdns_history.specs.declared.entry.Outcome.{Outcome}
 use Rattle.mdns_history.specs.declared.entry.Outcome.TheVariants as outcome
 use Rattle.mdns_history.specs.declared.entry.Entry.{Entry}
+pub use Rattle.mdns_history.specs.declared.operation.Operation.{Operation}
 use Rattle.mdns_history.specs.History.{latest, has_mark}
 
 -- the session that an outcome opened
@@ -83,12 +84,6 @@ accepted_call _ outcome = None
 -- the call that an entry accepted
 abbrev pub accepted_in : Entry → Option Accepted
 accepted_in entry = accepted_call entry.event entry.outcome
-
--- an operation that is live
-pub record Operation : Type 0 where
-  pub session : ℕ
-  pub op : ℕ
-  pub request : Request
 
 -- the order of a session's operations
 abbrev pub by_op : Operation → Operation → Ordering

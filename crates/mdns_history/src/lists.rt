@@ -1,7 +1,7 @@
 // The lists that entries hold.
-ghost use Rattle.std.specs.Prelude.{◌≡◌, [], ◌∷◌, ◌++◌, OnOk, OnErr};
+ghost use Rattle.std.specs.Prelude.{◌≡◌, [], ◌∷◌, ◌++◌, length, vec_len, OnOk, OnErr};
 
-use crate::{Given, Mark, Sent};
+use crate::{Given, Mark, Operation, Sent};
 use sd_call::Item;
 use std::alloc::{AllocError, Global};
 use std::marker::Model;
@@ -42,6 +42,69 @@ impl Items {
 
     /// The items, in their order.
     pub fn as_slice(&self) -> &[Item]
+        ensures { result.now ≡ self.now }
+    {
+        self.vec.as_slice()
+    }
+
+    /// Puts other items behind these. Where memory is refused, the list stays as it was.
+    pub fn append(&mut self, mut other: Items) -> Result<(), AllocError>
+        ensures ok { OnOk result (self.new ≡ self.old ++ other) }
+        ensures err { OnErr result (self.new ≡ self.old) }
+    {
+        self.vec.append(&mut other.vec)
+    }
+
+    /// The list of what a `Vec` holds. It takes no memory.
+    pub fn from_vec(vec: Vec<Item>) -> Self
+        ensures { result ≡ vec.items }
+    {
+        Items { vec }
+    }
+
+    /// The items as a `Vec`. It takes no memory.
+    pub fn into_vec(self) -> Vec<Item>
+        ensures items { result.items ≡ self }
+        ensures len { vec_len result ≡ length self }
+    {
+        self.vec
+    }
+}
+
+/// A list of operations.
+#[derive(Drop)]
+pub struct Operations {
+    vec: Vec<Operation>,
+}
+
+impl Model for Operations {
+    ghost use Rattle.std.specs.Prelude.{List};
+    ghost use Rattle.mdns_history.specs.declared.operation.Operation.{Operation};
+
+    ghost Value = { List Operation };
+
+    ghost view = { λ a. a.vec.items };
+}
+
+impl Operations {
+    /// No operations.
+    pub fn new(alloc: Global) -> Self
+        ensures { result ≡ [] }
+    {
+        Operations {
+            vec: Vec::new(alloc),
+        }
+    }
+
+    /// The list of what a `Vec` holds. It takes no memory.
+    pub fn from_vec(vec: Vec<Operation>) -> Self
+        ensures { result ≡ vec.items }
+    {
+        Operations { vec }
+    }
+
+    /// The operations, in their order.
+    pub fn as_slice(&self) -> &[Operation]
         ensures { result.now ≡ self.now }
     {
         self.vec.as_slice()
