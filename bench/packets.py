@@ -10,7 +10,7 @@ gate.
 Of each packet the account tells what our reader makes of it: records of type OPT or of another class than IN are passed
 over; a response from port 5353 without opcode and response code is heard. Where a record that is heard has the flush bit or
 TTL 0 the line is not built yet, so the packet is heard a second time from port 5354, where a response counts as ignored:
-there the program reads or refuses every packet. What is heard is asked for by ANY at the name of its first record.
+there the program reads or refuses every packet. What is heard is asked for by ANY at each of its names.
 """
 import json
 import os
@@ -28,8 +28,8 @@ def run(lines):
     return done.returncode, done.stdout.decode("latin-1")
 
 
-def wire_of(text):
-    """The folded labels of a dissector's name: its labels have no dots of their own but before the service type."""
+def folded(text):
+    """A dissector's name in lower case, without a final dot."""
     return text.rstrip(".").lower()
 
 
@@ -71,13 +71,14 @@ def main():
 
 def answers_agree(hear, records, counts):
     """Whether each name's records answer ANY, as many as the account lists, and end when the account says."""
-    for name in {wire_of(r["name"]) for r in records}:
-        own = [r for r in records if wire_of(r["name"]) == name]
-        status, text = run(["daemon 1", "open 1", f"call 1 1 1 query ANY {name.replace(' ', chr(92) + '032')}", hear])
+    for name in {folded(r["name"]) for r in records}:
+        own = [r for r in records if folded(r["name"]) == name]
+        asked = ["daemon 1", "open 1", "call 1 1 1 query ANY " + name.replace(" ", "\\032"), hear]
+        status, text = run(asked)
         added = [line for line in text.splitlines() if line.startswith(" < 1 add 1 ")]
         counts["records"] += len(added)
         last = max(r["ttl"] for r in own) * 1000
-        end, tail = run(["daemon 1", "open 1", f"call 1 1 1 query ANY {name.replace(' ', chr(92) + '032')}", hear, f"at {last}"])
+        end, tail = run(asked + [f"at {last}"])
         removed = [line for line in tail.splitlines() if line.startswith(" < 1 rem 1 ")]
         if status != 0 or end != 0 or len(added) != len(own) or len(removed) != len(own):
             return False
