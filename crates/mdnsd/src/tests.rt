@@ -116,11 +116,13 @@ fn prefixes_are_bad(rt: HostRuntime) -> Result<(), Fail> {
     let alloc = rt.alloc();
     let whole = "0000840000000001000000000161056c6f63616c0000018001000000780004c0000201";
     for length in 0..35usize {
-        let packet = if length == 0 {
-            "-"
-        } else {
-            &whole[..2 * length]
-        };
+        let mut packet = String::new(alloc);
+        for digit in whole.chars().take(2 * length) {
+            packet.push(digit)?;
+        }
+        if packet.is_empty() {
+            packet.push('-')?;
+        }
         let script = format!(in alloc; "daemon 1\nhear 1 10.0.0.9 5353 {packet}\n")?;
         let output = format!(in alloc;
             "@0 d1 w0 boot 10.0.0.1\n@0 d1 w0 hear 10.0.0.9 5353 {packet}\n ! bad 1\n"
