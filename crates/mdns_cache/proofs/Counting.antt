@@ -9,9 +9,9 @@ use Rattle.dns_record.specs.Records.{same}
 use Rattle.mdns_history.specs.declared.held.Held.{Held}
 use Rattle.mdns_history.specs.Hearings.{Hearing}
 use Rattle.mdns_history.specs.Lifetimes.{live_of, is_live_at}
-use Rattle.mdns_cache.specs.Lifetimes.{Stands, hearing_at, hearings_at, renewed, shortened, is_other, is_renewed_by, count_renewed, after_hearing, after_hearings}
+use Rattle.mdns_cache.specs.Lifetimes.{Stands, AllLive, hearing_at, hearings_at, renewed, shortened, is_other, is_renewed_by, count_renewed, after_hearing, after_hearings}
 use Rattle.mdns_cache.proofs.ListLemmas.{filter-filter, length-filter-map}
-use Rattle.mdns_cache.proofs.Hearing.{AllLive-filter_live, Holds-after_hearings}
+use Rattle.mdns_cache.proofs.Hearing.{filter_live, AllLive-filter_live, Holds-after_hearings}
 
 -- a held record that none of several renews
 abbrev pub is_left : List Rr → Held → Bool
@@ -80,6 +80,13 @@ length-live_of moment word rrs held past stands =
     length_permutation _ _ (Holds-after_hearings moment word rrs (filter (is_live_at moment) held) past (AllLive-filter_live moment held) stands)
     ∙ length-after_hearings moment word rrs (filter (is_live_at moment) held)
     ∙ ap (λ n. n + count_renewed rrs) (ap length (filter-filter (is_left rrs) (is_live_at moment) held) ∙ length-filter (λ one. is_live_at moment one && is_left rrs one) held)
+
+-- how many records would be held, where all that is held is live
+pub length-after : (moment word : ℕ) (rrs : List Rr) (held : List Held) → AllLive moment held →
+    length (after_hearings held (map (hearing_at moment word) rrs)) ≡ count_by (λ one. is_live_at moment one && is_left rrs one) held + count_renewed rrs
+length-after moment word rrs held live =
+    length-after_hearings moment word rrs held
+    ∙ ap (λ n. n + count_renewed rrs) (ap (λ (hs : List Held). length (filter (is_left rrs) hs)) (sym (filter_live moment held live)) ∙ ap length (filter-filter (is_left rrs) (is_live_at moment) held) ∙ length-filter (λ one. is_live_at moment one && is_left rrs one) held)
 
 -- the test of what fits, where as many are left as the limit allows
 pub fits_left : (all left anew limit : ℕ) → all ≡ left + anew → left ≤ limit → (leb anew (limit - left) ≡ true) ↔ (all ≤ limit)

@@ -1,10 +1,10 @@
 // The cache: the heard records that are live.
-ghost use Rattle.std.specs.Prelude.{◌≡◌, ◌↔◌, ℕ, ◌+◌, ◌-◌, ◌<◌, ◌≤◌, ◌^◌, List, [], ◌∷◌, ◌++◌, length, slice_get, IsTrue, IsOk, IfOk, OnOk, OnErr, IfErr, IfNone, IfSome, MatchOption};
+ghost use Rattle.std.specs.Prelude.{◌≡◌, ◌↔◌, ℕ, ◌+◌, ◌-◌, ◌<◌, ◌≤◌, ◌^◌, List, [], ◌∷◌, ◌++◌, map, length, slice_get, IsTrue, IsOk, IfOk, OnOk, OnErr, IfErr, IfNone, IfSome, MatchOption};
 ghost use Rattle.std.specs.Option.{option_copied};
 ghost use Rattle.std.specs.List.Sorted.{IsPermutation};
 ghost use Rattle.mdns_history.specs.Hearings.{Hearing};
 ghost use Rattle.mdns_history.specs.Lifetimes.{live_of};
-ghost use Rattle.mdns_cache.specs.Lifetimes.{hearings_at, Holds, Stands, AllLive, IsFirstEnded, held_of, next_end_of};
+ghost use Rattle.mdns_cache.specs.Lifetimes.{hearing_at, hearings_at, after_hearings, Holds, Stands, AllLive, IsFirstEnded, held_of, next_end_of};
 
 use crate::count::{count_left, count_renewed};
 use crate::hear::hear_all;
@@ -93,8 +93,11 @@ impl Cache {
 
     /// Whether as many records may be live as would be after `hear` of these at `now`.
     pub fn fits(&self, now: u64, heard: &[Rr]) -> bool
-        ensures { (past : List Hearing) (word : ℕ) → Stands self.now.held past now
+        ensures live { (past : List Hearing) (word : ℕ) → Stands self.now.held past now
             → IsTrue result ↔ (length (live_of (hearings_at now word heard.now ++ past) now) ≤ self.now.limit) }
+        // The same, told of what is then held.
+        ensures held { (word : ℕ) → AllLive now self.now.held
+            → IsTrue result ↔ (length (after_hearings self.now.held (map (hearing_at now word) heard.now)) ≤ self.now.limit) }
     {
         let left = count_left(&self.held, now, heard);
         left <= self.limit && count_renewed(heard) <= self.limit - left
@@ -111,6 +114,7 @@ impl Cache {
         ensures holds { OnOk result ((past : List Hearing) → Holds self.old.held past now
             → Holds self.new.held (hearings_at now word heard ++ past) now) }
         ensures live { OnOk result (AllLive now self.new.held) }
+        ensures within { OnOk result (length self.new.held ≤ self.new.limit) }
 
         ensures full { (past : List Hearing) → Holds self.old.held past now
             → (result ≡ Err HearError.Full) ↔ (self.old.limit < length (live_of (hearings_at now word heard ++ past) now)) }

@@ -11,7 +11,7 @@ pub returns-then-not-fits-clause-full : goal.returns-then-not-fits-clause-full
 returns-then-not-fits-clause-full c = λ past holds.
     let stands = Stands-from_holds c.args.now c.args.self.now.held past c.requires.live holds in
     let heard : c.as_slice.result.now ≡ c.args.heard = c.as_slice.ensures in
-    let full = past_limit c.fits.result _ _ (rw (← heard) (c.fits.ensures past c.args.word stands)) c.if-not-fits.true in
+    let full = past_limit c.fits.result _ _ (rw (← heard) (c.fits.ensures.live past c.args.word stands)) c.if-not-fits.true in
     (λ e. full, λ h. cc)
 
 -- want of memory isn't `Full`
@@ -24,7 +24,7 @@ returns-in_err-reserve-clause-full c = λ past holds.
     let stands = Stands-from_holds c.args.now c.args.self.now.held past c.requires.live holds in
     let heard : c.as_slice.result.now ≡ c.args.heard = c.as_slice.ensures in
     let fits : length (live_of (hearings_at c.args.now c.args.word c.args.heard ++ past) c.args.now) ≤ c.args.self.now.limit =
-    rw (← heard) ((c.fits.ensures past c.args.word stands).0 c.if-not-fits.false) in
+    rw (← heard) ((c.fits.ensures.live past c.args.word stands).0 c.if-not-fits.false) in
     (λ e. absurd (not_full c.from_residual.result c.from_residual.ensures.1 e), λ h. absurd (omega (arith, h, fits)))
 
 -- what is held is what the hearings leave
@@ -46,5 +46,13 @@ returns-clause-full c = λ past holds.
     let stands = Stands-from_holds c.args.now c.args.self.now.held past c.requires.live holds in
     let heard : c.as_slice.result.now ≡ c.args.heard = c.as_slice.ensures in
     let fits : length (live_of (hearings_at c.args.now c.args.word c.args.heard ++ past) c.args.now) ≤ c.args.self.now.limit =
-    rw (← heard) ((c.fits.ensures past c.args.word stands).0 c.if-not-fits.false) in
+    rw (← heard) ((c.fits.ensures.live past c.args.word stands).0 c.if-not-fits.false) in
     (λ e. cc, λ h. absurd (omega (arith, h, fits)))
+
+pub returns-clause-within : goal.returns-clause-within
+returns-clause-within c =
+    let heard : c.as_slice.result.now ≡ c.args.heard = c.as_slice.ensures in
+    let fits : length (after_hearings c.args.self.now.held (map (hearing_at c.args.now c.args.word) c.args.heard)) ≤ c.args.self.now.limit =
+    rw (← heard) ((c.fits.ensures.held c.args.word c.requires.live).0 c.if-not-fits.false) in
+    let limit : c.self.inside.limit ≡ c.args.self.now.limit = ap (λ v. v.limit) c.self.view_is in
+    rw (held_is c) (omega (arith, fits, limit))

@@ -1,0 +1,63 @@
+-- The entry that follows a history, by its stages, where no duty is in force: nothing is sent, and the marks are those of refusals and cuts.
+use Rattle.std.proofs.Common.{◌≡◌, ℕ, ◌≤◌, false, List, [], ◌∷◌, refl, ap, ◌∙◌, append-nil}
+use Rattle.dns_message.specs.Packing.{pack_reply}
+use Rattle.mdns_history.specs.declared.event.Event.{Event}
+use Rattle.mdns_history.specs.declared.event.Event.TheVariants as event
+use Rattle.mdns_history.specs.declared.mark.Mark.{Mark}
+use Rattle.mdns_history.specs.declared.entry.Sent.{Sent}
+use Rattle.mdns_history.specs.declared.entry.Entry.{Entry}
+use Rattle.mdns_history.specs.History.{now}
+use Rattle.mdns_history.specs.InForce.{in_force}
+use Rattle.mdns_history.specs.Sending.{tick_sends}
+use Rattle.mdns_history.specs.Fitting.{bare_entry, refusal_marks, event_sends, noted, with_cuts, with_items, with_outcome, next_entry, last_moment, is_boot, Fits, IsLegal}
+use Rattle.mdns_history.proofs.Determined.{next_entry-fits}
+
+-- nothing is sent
+unsent : (entry : Entry) (past : List Entry) (ev : Event) → event_sends in_force entry past ev ≡ []
+unfolding in_force tick_sends pack_reply
+unsent entry past (event.Boot config) = refl
+unsent entry past event.Attach = refl
+unsent entry past (event.Detach session) = refl
+unsent entry past (event.Call session op request) = refl
+unsent entry past (event.Hear from bytes) = refl
+unsent entry past event.Tick = refl
+unsent entry past (event.Take session max) = refl
+
+module _ (past : List Entry) (moment word : ℕ) (ev : Event) where
+  abbrev pub bare : Entry
+  bare = bare_entry moment word ev past
+
+  -- the entry with the mark of a refusal
+  abbrev pub marked : Entry
+  marked = record bare { marks = refusal_marks bare past ev }
+
+  -- the same with the marks of the sessions that are cut
+  abbrev pub cutting : Entry
+  cutting = with_cuts marked past
+
+  -- the same with what it gives
+  abbrev pub giving : Entry
+  giving = with_items cutting past
+
+  -- the whole entry
+  abbrev pub entry_after : Entry
+  entry_after = next_entry in_force past moment word ev
+
+  noted_is : noted in_force bare past ≡ marked
+  unfolding in_force
+  noted_is =
+      ap (λ (m : List Mark). let e : Entry = record bare { marks = m; sent = event_sends in_force bare past ev } in e) (append-nil (refusal_marks bare past ev))
+      ∙ ap (λ (s : List Sent). let e : Entry = record bare { marks = refusal_marks bare past ev; sent = s } in e) (unsent bare past ev)
+
+  -- the entry, by its stages
+  pub entry_is : entry_after ≡ with_outcome giving past
+  unfolding next_entry
+  entry_is = ap (λ e. with_outcome (with_items (with_cuts e past) past) past) noted_is
+
+  -- the longer history is legal
+  pub IsLegal-next : IsLegal in_force past → now past ≤ moment → moment ≤ last_moment → is_boot ev ≡ false → IsLegal in_force (entry_after ∷ past)
+  IsLegal-next legal later in_time no_boot = of past legal (next_entry-fits in_force past moment word ev later in_time no_boot)
+    where
+      of : (h : List Entry) → IsLegal in_force h → Fits in_force entry_after h → IsLegal in_force (entry_after ∷ h)
+      of [] l fits = absurd l
+      of (before ∷ rest) l fits = (fits, l)

@@ -1,0 +1,49 @@
+-- What a daemon keeps, and the histories that it stands for.
+use Rattle.std.specs.Prelude.{◌≡◌, ℕ, Bool, true, List, map, Option, None}
+use Rattle.std.specs.List.Sorted.{IsPermutation}
+use Rattle.sd_call.specs.declared.item.Item.{Item}
+use Rattle.mdns_history.specs.declared.config.HostConfig.{HostConfig}
+use Rattle.mdns_history.specs.declared.held.Held.{Held}
+use Rattle.mdns_history.specs.declared.entry.Entry.{Entry}
+use Rattle.mdns_history.specs.History.{now}
+use Rattle.mdns_history.specs.InForce.{in_force}
+use Rattle.mdns_history.specs.Lifetimes.{live_records}
+use Rattle.mdns_history.specs.declared.operation.Operation.{Operation}
+use Rattle.mdns_history.specs.Sessions.{opened_count, attached_sessions, operations_of, is_cut}
+use Rattle.mdns_history.specs.Groups.{host_of}
+use Rattle.mdns_history.specs.Items.{queue}
+use Rattle.mdns_history.specs.Fitting.{IsLegal}
+use Rattle.sd_answer.specs.Laws.{have_data}
+
+-- an attached session: its live operations by number, whether it was cut, and the items that are queued for it
+pub record Session : Type 0 where
+  pub number : ℕ
+  pub operations : List Operation
+  pub cut : Bool
+  pub queue : List Item
+
+-- what contracts see of a daemon
+pub record State : Type 0 where
+  pub last : ℕ
+  pub opened : ℕ
+  pub sessions : List Session
+  pub held : List Held
+
+-- a session as a history has it
+abbrev pub session_in : List Entry → ℕ → Session
+session_in history number = record { number = number; operations = operations_of number history; cut = is_cut number history; queue = queue number history }
+
+-- the attached sessions as a history has them, by number
+abbrev pub sessions_in : List Entry → List Session
+sessions_in history = map (session_in history) (attached_sessions history)
+
+-- A daemon stands for a history: the history is legal and of a daemon without a host, what the daemon keeps is what the history says, and
+-- the data of the records that it holds are as their types allow.
+pub record Stands (state : State) (history : List Entry) : Type 0 where
+  pub legal : IsLegal in_force history
+  pub hostless : ◌≡◌ {A = Option HostConfig} (host_of history) None
+  pub last : state.last ≡ now history
+  pub opened : state.opened ≡ opened_count history
+  pub sessions : state.sessions ≡ sessions_in history
+  pub records : IsPermutation state.held (live_records history (now history))
+  pub typed : have_data (map (λ (held : Held). held.rr) state.held) ≡ true

@@ -1,0 +1,15 @@
+//! The daemon: what it is told, what it keeps, and the entry of each event.
+#![tactic(auto)]
+
+mod change;
+mod codes;
+mod daemon;
+mod hear;
+mod items;
+mod outcomes;
+mod plan;
+mod running;
+mod session;
+mod settle;
+
+pub use daemon::Daemon;
