@@ -1,0 +1,215 @@
+#!/usr/bin/env python3
+"""Measures names, records and messages in instructions, which are repeatable, and prints one table.
+
+    python3 bench/messages.py
+
+It builds a small program in a temporary folder, over a copy of the crates that it stands on, and needs valgrind. The first
+run takes some minutes, where those crates weren't built yet. Nothing here is part of the gate.
+"""
+import os
+import re
+import shutil
+import subprocess
+import sys
+import tempfile
+
+TOP = os.path.join(os.path.dirname(os.path.abspath(__file__)), "..")
+BELOW = ("mdns_base", "dns_name", "dns_record", "dns_message")
+PROGRAM = r"""//! Does one thing so many times: compares names or records, writes a text, or reads or writes a message.
+#![tactic(auto)]
+
+use dns_message::{Message, Questions, Rrs, read, write};
+use dns_name::Name;
+use dns_record::{Rdata, Rr, record_cmp};
+use std::alloc::{AllocError, Global};
+use std::env;
+use std::io::{self, Read};
+use std::process::ExitCode;
+
+fn name(text: &str) -> Name {
+    Name::parse_text(text).unwrap_or(Name::root())
+}
+
+fn record(owner: &Name, address: u32) -> Rr {
+    Rr {
+        owner: owner.copy(),
+        flush: true,
+        ttl: 120,
+        rdata: Rdata::A(address),
+    }
+}
+
+fn reply(alloc: Global, count: u32) -> Result<Message, AllocError> {
+    let mut answers = Rrs::new(alloc);
+    for number in 0..count {
+        let owner = format!(in alloc; "host{number}.local")?;
+        answers.push(record(&name(owner.as_str()), number))?;
+    }
+    Ok(Message {
+        id: 0,
+        response: true,
+        authoritative: true,
+        truncated: false,
+        opcode: 0,
+        rcode: 0,
+        questions: Questions::new(alloc),
+        answers,
+        authority: Rrs::new(alloc),
+        additional: Rrs::new(alloc),
+    })
+}
+
+fn compares_names(times: u32) -> bool {
+    let (left, right) = (name("a-longer-host.b.c.local"), name("A-longer-host.B.c.local"));
+    let mut same = true;
+    for _ in 0..times {
+        same = same && left.folded_eq(&right);
+    }
+    same
+}
+
+fn compares_records(times: u32) -> bool {
+    let owner = name("printer.local");
+    let (left, right) = (record(&owner, 1), record(&owner, 2));
+    let mut less = true;
+    for _ in 0..times {
+        less = less && record_cmp(&left, &right).is_lt();
+    }
+    less
+}
+
+fn writes_texts(times: u32) -> bool {
+    let owner = name("a-longer-host.b.c.local");
+    let mut some = true;
+    for _ in 0..times {
+        some = some && !owner.write_text().as_str().is_empty();
+    }
+    some
+}
+
+fn writes(alloc: Global, count: u32, times: u32) -> Result<bool, AllocError> {
+    let message = reply(alloc, count)?;
+    let mut good = true;
+    for _ in 0..times {
+        good = good && write(alloc, &message, 8972).is_ok();
+    }
+    Ok(good)
+}
+
+fn reads(alloc: Global, bytes: &[u8], times: u32) -> bool {
+    let mut good = true;
+    for _ in 0..times {
+        good = good && read(alloc, bytes).is_ok();
+    }
+    good
+}
+
+fn input<R: Read + Drop>(alloc: Global, mut source: R) -> io::Result<Vec<u8>> {
+    let mut bytes = Vec::new(alloc);
+    source.read_to_end(&mut bytes)?;
+    Ok(bytes)
+}
+
+fn main(rt: HostRuntime) -> ExitCode {
+    let alloc = rt.alloc();
+    let mut numbers = [0u32; 3];
+    if let Ok(args) = env::args(&rt) {
+        for (number, word) in numbers.iter_mut().zip(args) {
+            *number = word.parse::<u32>().unwrap_or(0);
+        }
+    }
+    let [_, what, times] = numbers;
+    let done = match what {
+        0 => compares_names(times),
+        1 => compares_records(times),
+        2 => writes_texts(times),
+        3 => writes(alloc, 10, times).unwrap_or(false),
+        4 => writes(alloc, 100, times).unwrap_or(false),
+        _ => match input(alloc, rt.stdin()) {
+            Ok(bytes) => reads(alloc, bytes.as_slice(), times),
+            Err(_) => false,
+        },
+    };
+    if done { ExitCode::SUCCESS } else { ExitCode::FAILURE }
+}
+"""
+
+
+def header(answers):
+    return bytes([0, 0, 0x84, 0, 0, 0]) + answers.to_bytes(2, "big") + bytes(4)
+
+
+def a_record(owner, number):
+    return owner + bytes([0, 1, 0, 1, 0, 0, 0, 120, 0, 4, 192, 0, 2, number])
+
+
+def plain():
+    return header(10) + b"".join(a_record(b"\4ho%02d\5local\0" % n, n) for n in range(10))
+
+
+def compressed():
+    first = a_record(b"\4ho00\5local\0", 0)
+    return header(10) + first + b"".join(a_record(b"\4ho%02d\xc0\x11" % n, n) for n in range(1, 10))
+
+
+def hostile():
+    """Questions whose names are each a pointer to the name of the one before, as many as fit: the last takes a chain of as many."""
+    questions = [b"\0\0\1\0\1"]
+    at, last = 12 + 5, 12
+    while at + 6 <= 8972:
+        questions.append((0xC000 | last).to_bytes(2, "big") + b"\0\1\0\1")
+        last, at = at, at + 6
+    return bytes(4) + len(questions).to_bytes(2, "big") + bytes(6) + b"".join(questions)
+
+
+ROWS = (
+    ("two equal names of 24 bytes compared, case aside", 0, None, 250),
+    ("two address records of one owner ordered", 1, None, 600),
+    ("the text of a name of 24 bytes written", 2, None, 30 * 24),
+    ("a reply of 10 records of 10 owners written", 3, None, 25_000),
+    ("a reply of 100 records of 100 owners written", 4, None, 2_000_000),
+    ("a response of 10 records with plain owners of 12 bytes read", 5, plain(), 12_000),
+    ("the same compressed", 5, compressed(), 14_000),
+    ("8,972 bytes of a hostile chain of pointers read", 5, hostile(), 3_000_000),
+)
+
+
+def built(folder):
+    """Builds the program below the folder, and returns its path."""
+    with open(os.path.join(TOP, "crates.txt"), encoding="utf-8") as listed:
+        lines = [line for line in listed if line.split(":")[0] in BELOW]
+    with open(f"{folder}/crates.txt", "w", encoding="utf-8") as out:
+        out.write("".join(lines) + "measured: dns_message dns_record dns_name mdns_base\n")
+    shutil.copy(os.path.join(TOP, "HANDLES"), folder)
+    for name in BELOW:
+        shutil.copytree(os.path.join(TOP, "crates", name), f"{folder}/crates/{name}", symlinks=True)
+    os.makedirs(f"{folder}/crates/measured/src")
+    with open(f"{folder}/crates/measured/src/main.rt", "w", encoding="utf-8") as out:
+        out.write(PROGRAM)
+    ran = subprocess.run(["rt", "run", "--", "0", "1"], cwd=f"{folder}/crates/measured", capture_output=True, text=True)
+    program = f"{folder}/crates/measured/out/measured"
+    if not os.path.isfile(program):
+        sys.exit(ran.stdout + ran.stderr)
+    return program
+
+
+def instructions(program, what, bytes_in, times):
+    with tempfile.TemporaryDirectory() as folder:
+        run = subprocess.run(
+            ["valgrind", "--tool=callgrind", f"--callgrind-out-file={folder}/out", program, str(what), str(times)],
+            input=bytes_in or b"", stdout=subprocess.DEVNULL, stderr=subprocess.PIPE)
+    if run.returncode:
+        sys.exit(f"{what}: status {run.returncode}")
+    return int(re.search(rb"Collected\s*:\s*(\d+)", run.stderr).group(1))
+
+
+def main():
+    with tempfile.TemporaryDirectory() as folder:
+        program = built(folder)
+        print("| What | Instructions | Wanted |\n|---|---|---|")
+        for label, what, bytes_in, most in ROWS:
+            each = (instructions(program, what, bytes_in, 11) - instructions(program, what, bytes_in, 1)) // 10
+            print(f"| {label} | {each:,} | at most {most:,} |", flush=True)
+
+
+main()
