@@ -30,6 +30,14 @@ fn lower(byte: u8) -> u8
     LOWER[usize::from(byte)]
 }
 
+// Whether two bytes are the same with ASCII letters in lower case. Most are the same as they stand.
+#[inline]
+fn is_same_letter(left: u8, right: u8) -> bool
+    ensures { IsTrue result ↔ (to_ascii_lowercase left ≡ to_ascii_lowercase right) }
+{
+    left == right || lower(left) == lower(right)
+}
+
 // Whether bytes are the same with ASCII letters in lower case.
 pub(crate) fn is_same_folded(left: &[u8], right: &[u8]) -> bool
     ensures { IsTrue result ↔ (str_to_ascii_lowercase left.now ≡ str_to_ascii_lowercase right.now) }
@@ -38,7 +46,7 @@ pub(crate) fn is_same_folded(left: &[u8], right: &[u8]) -> bool
         return false;
     }
     for (i, byte) in left.iter().enumerate() {
-        if lower(*byte) != lower(right[i]) {
+        if !is_same_letter(*byte, right[i]) {
             return false;
         }
     }

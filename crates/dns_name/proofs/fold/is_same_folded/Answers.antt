@@ -3,16 +3,16 @@ use Rattle.std.proofs.lemmas.Bool.{false≢true}
 use Rattle.dns_name.proofs.FoldedBytes.{alike, alike_at}
 use Rattle.dns_name.proofs.fold.is_same_folded.Goals as goal
 
-pub returns-then-lower : goal.returns-then-lower
-returns-then-lower c = (
+pub returns-then-not-is_same_letter : goal.returns-then-not-is_same_letter
+returns-then-not-is_same_letter c = (
   λ yes. absurd (false≢true yes),
-  λ same. absurd (c.if-lower.true (c.lower.ensures ∙ alike_at c.args.left.now c.args.right.now c.loop-i.i same ∙ sym c.lower-in-loop-i.ensures)),
+  λ same. absurd (false≢true (sym c.if-not-is_same_letter.true ∙ c.is_same_letter.ensures.1 (alike_at c.args.left.now c.args.right.now c.loop-i.i same))),
 )
 
 pub loop-i-preserved : goal.loop-i-preserved
 loop-i-preserved c = record {
   as_long = c.loop-i.invariant.as_long;
-  alike = below_more _ _ c.loop-i.invariant.alike (sym c.lower.ensures ∙ c.if-lower.false ∙ c.lower-in-loop-i.ensures);
+  alike = below_more _ _ c.loop-i.invariant.alike (c.is_same_letter.ensures.0 c.if-not-is_same_letter.false);
 }
 
 pub returns : goal.returns
