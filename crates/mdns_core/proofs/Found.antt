@@ -1,62 +1,67 @@
--- Steps of the loops over answers.
-use Rattle.std.proofs.Common.{◌≡◌, ℕ, suc, ◌+◌, ◌<◌, ◌∙◌, ◌||◌, Bool, true, false, cond, map, length, take, get_or, List, [], ◌∷◌, refl, sym, ap, arith}
-use Rattle.std.specs.Prelude.{reverse}
-use Rattle.std.specs.List.{filter, filter_map}
-use Rattle.std.specs.Cmp.{IsTotalOrder}
-use Rattle.std.proofs.lemmas.Cmp.{on_total, nat_list_cmp_total}
-use Rattle.std.proofs.Math.Seq.{take-suc}
-use Rattle.std.proofs.lemmas.List.{reverse-append}
-use Rattle.dns_name.specs.Lists.{ordered}
-use Rattle.dns_record.specs.declared.record.Key.{Key}
-use Rattle.dns_record.specs.Records.{matches}
-use Rattle.sd_call.specs.declared.answer.Answer.{Answer}
-use Rattle.sd_call.specs.declared.answer.Answer.TheVariants.{Datum}
-use Rattle.sd_call.specs.Answers.{answer_bytes, answer_cmp}
-use Rattle.sd_call.proofs.AnswerLists.{AreDifferent, AreDifferent-ordered}
-use Rattle.mdns_history.specs.declared.held.Held.{Held}
-use Rattle.mdns_history.specs.Answers.{answers_over, datum_of}
-use Rattle.mdns_history.specs.Questions.{keys_of}
-use Rattle.mdns_core.specs.declared.operation.Operation.{Operation}
-use Rattle.std.proofs.Common.{Option, Some, None}
-use Rattle.mdns_core.specs.Answers.{answers_to, answers_of}
-use Rattle.mdns_core.specs.State.{put_at_place, with_answer}
-use Rattle.mdns_core.proofs.Ordered.{ordered-next}
+-- The session of a number among those that are kept, at its place.
+use Rattle.std.proofs.Common.{◌≡◌, ℕ, zero, suc, ◌<◌, ◌≤◌, Bool, true, false, cond, List, [], ◌∷◌, map, drop, length, get_or, set, Option, Some, None, nat_eq, nat_lt, refl, ap, ◌∙◌, sym, arith}
+use Rattle.std.specs.List.{find, position, position_or_len}
+use Rattle.std.proofs.lemmas.Bool.{ltb-false}
+use Rattle.std.proofs.lemmas.List.Sums.{fails_before_first}
+use Rattle.std.proofs.lemmas.List.Quantifiers.{position-Some}
+use Rattle.mdns_core.specs.declared.session.SessionState.{SessionState}
+use Rattle.mdns_core.specs.State.{Session}
+use Rattle.mdns_core.specs.Codes.{has_number}
+use Rattle.mdns_core.specs.Next.{taken_from}
+use Rattle.mdns_core.specs.Kept.{queued, session_of, sessions_of}
 
-pub answer_cmp-total : IsTotalOrder answer_cmp
-unfolding answer_cmp
-answer_cmp-total = on_total answer_bytes nat_list_cmp_total
+-- whether a session has a number
+abbrev pub is_of : ℕ → SessionState → Bool
+is_of number state = nat_eq state.number number
 
--- one record more
-pub answers_to-more : (question : Key) (one : Held) (held : List Held)
-    → answers_to question (one ∷ held) ≡ with_answer question one (answers_to question held)
-unfolding answers_over keys_of
-answers_to-more question one held = at_match (matches question one.rr)
+cond-true : {X : Type 0} (b : Bool) (x y : X) → b ≡ true → cond b x y ≡ x
+cond-true true x y e = refl
+cond-true false x y e = cc
+
+cond-false : {X : Type 0} (b : Bool) (x y : X) → b ≡ false → cond b x y ≡ y
+cond-false true x y e = cc
+cond-false false x y e = refl
+
+-- a session without the first items of its queue
+abbrev pub without_first : ℕ → SessionState → Session
+without_first max state = record (session_of state) { queue = drop max (queued state.outbox.items) }
+
+found : (number max : ℕ) (states : List SessionState) (i : ℕ) (now d : SessionState) → i < length states → is_of number (get_or states i d) ≡ true →
+    ((k : ℕ) → k < i → is_of number (get_or states k d) ≡ false) → session_of now ≡ without_first max (get_or states i d) →
+    (find (has_number number) (sessions_of states) ≡ Some (session_of (get_or states i d))) × (sessions_of (set states i now) ≡ taken_from number max (sessions_of states))
+found number max [] i now d h hit miss e = absurd (omega arith)
+found number max (state ∷ states) zero now d h hit miss e =
+    (cond-true (is_of number state) _ _ hit, ap (λ y. y ∷ sessions_of states) e ∙ sym (cond-true (is_of number state) _ _ hit))
+found number max (state ∷ states) (suc i) now d h hit miss e =
+    let rest = found number max states i now d (omega arith) hit (λ k below. miss (suc k) (omega arith)) e in
+    let other : is_of number state ≡ false = miss zero (omega arith) in
+    (cond-false (is_of number state) _ _ other ∙ rest.0, ap (λ ys. session_of state ∷ ys) rest.1 ∙ sym (cond-false (is_of number state) _ _ other))
+
+-- the session at the place of a number
+pub found-at : (number max : ℕ) (states : List SessionState) (i : ℕ) (now d : SessionState) → Some i ≡ position (is_of number) states → session_of now ≡ without_first max (get_or states i d) →
+    (find (has_number number) (sessions_of states) ≡ Some (session_of (get_or states i d))) × (sessions_of (set states i now) ≡ taken_from number max (sessions_of states))
+found-at number max states i now d at e =
+    let place = position-Some (is_of number) states i d (sym at) in found number max states i now d place.0 place.1 place.2 e
+
+missed : (number max : ℕ) (states : List SessionState) (d : SessionState) → ((k : ℕ) → k < length states → is_of number (get_or states k d) ≡ false) →
+    (find (has_number number) (sessions_of states) ≡ None) × (sessions_of states ≡ taken_from number max (sessions_of states))
+missed number max [] d miss = (refl, refl)
+missed number max (state ∷ states) d miss =
+    let rest = missed number max states d (λ k below. miss (suc k) (omega arith)) in
+    let other : is_of number state ≡ false = miss zero (omega arith) in
+    (cond-false (is_of number state) _ _ other ∙ rest.0, ap (λ ys. session_of state ∷ ys) rest.1 ∙ sym (cond-false (is_of number state) _ _ other))
+
+none-passes : (p : SessionState → Bool) (states : List SessionState) → None ≡ position p states → length states ≤ position_or_len p states
+none-passes p states e = of (nat_lt (position_or_len p states) (length states)) refl e
   where
-    rest : List Answer
-    rest = filter_map datum_of (filter (λ rr. matches question rr || false) (map (λ (x : Held). x.rr) held))
+    of : (b : Bool) → nat_lt (position_or_len p states) (length states) ≡ b → None ≡ cond b (Some (position_or_len p states)) None → length states ≤ position_or_len p states
+    of true t e = cc
+    of false t e = ltb-false (position_or_len p states) (length states) t
 
-    at_match : (b : Bool) → ordered answer_cmp (filter_map datum_of (cond (b || false) (one.rr ∷ filter (λ rr. matches question rr || false) (map (λ (x : Held). x.rr) held)) (filter (λ rr. matches question rr || false) (map (λ (x : Held). x.rr) held))))
-        ≡ cond b (put_at_place (Datum one.rr.rdata) (ordered answer_cmp (filter_map datum_of (filter (λ rr. matches question rr || false) (map (λ (x : Held). x.rr) held))))) (ordered answer_cmp (filter_map datum_of (filter (λ rr. matches question rr || false) (map (λ (x : Held). x.rr) held))))
-    at_match true = ordered-next answer_cmp answer_cmp-total (Datum one.rr.rdata) rest
-    at_match false = refl
-
-pub answers_to-none : (question : Key) → answers_to question [] ≡ []
-unfolding answers_over
-answers_to-none question = refl
-
-pub answers_to-next : (question : Key) (held : List Held) (i : ℕ) (one : Held) → i < length held → one ≡ get_or held i one
-    → answers_to question (reverse (take (i + 1) held))
-    ≡ with_answer question one (answers_to question (reverse (take i held)))
-answers_to-next question held i one h is =
-    let next : i + 1 ≡ suc i = omega arith in
-    ap (λ (n : ℕ). answers_to question (reverse (take n held))) next
-    ∙ ap (λ (ys : List Held). answers_to question (reverse ys)) (take-suc held i one h)
-    ∙ ap (answers_to question) (reverse-append (take i held) (get_or held i one ∷ []))
-    ∙ ap (λ (x : Held). answers_to question (x ∷ reverse (take i held))) (sym is)
-    ∙ answers_to-more question one (reverse (take i held))
-
--- no answer stands twice
-pub answers_of-different : (operation : Option Operation) (held : List Held) → AreDifferent (answers_of operation held)
-unfolding answers_over
-answers_of-different None held = tt
-answers_of-different (Some operation) held = AreDifferent-ordered _
+-- no session of a number has a place
+pub missed-at : (number max : ℕ) (states : List SessionState) → None ≡ position (is_of number) states →
+    (find (has_number number) (sessions_of states) ≡ None) × (sessions_of states ≡ taken_from number max (sessions_of states))
+missed-at number max [] none = (refl, refl)
+missed-at number max (state ∷ states) none =
+    let past : length (state ∷ states) ≤ position_or_len (is_of number) (state ∷ states) = none-passes (is_of number) (state ∷ states) none in
+    missed number max (state ∷ states) state (λ k below. fails_before_first (is_of number) (state ∷ states) k state (omega arith))

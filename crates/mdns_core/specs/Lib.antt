@@ -1,7 +1,7 @@
-pub mod Received
-pub mod Operations
-pub mod Answers
-pub mod Entries
-pub mod Due
-pub mod Replay
 pub mod State
+pub mod Changes
+pub mod Codes
+pub mod Kept
+pub mod Settling
+pub mod Next
+pub mod Planned

@@ -1,69 +1,94 @@
-// The daemon: it keeps the records that live, and gives its one operation what changes.
-ghost use Rattle.std.specs.Prelude.{◌≡◌, ◌<◌, ◌≤◌, ◌^◌, ◌∷◌, [], List, IfOk, OnOk, OnErr, IfSome, true};
+// The daemon: it keeps the records that are live and the sessions that are attached, and gives these what changes.
+ghost use Rattle.std.specs.Prelude.{◌≡◌, ◌<◌, ◌≤◌, ◌^◌, ◌∷◌, [], ℕ, List, length, vec_len, vec_capacity, IfOk, OnOk, OnErr, Option, Some, None, true, false};
+ghost use Rattle.std.specs.Option.{is_some, unwrap_or};
+ghost use Rattle.std.specs.List.{find};
+ghost use Rattle.sd_call.specs.Replay.{replay};
+ghost use Rattle.mdns_history.specs.declared.config.HostConfig.{HostConfig};
 ghost use Rattle.mdns_history.specs.declared.entry.Entry.{Entry};
-ghost use Rattle.mdns_core.specs.Operations.{may};
-ghost use Rattle.mdns_core.specs.Entries.{Fits, boot_entry};
-ghost use Rattle.mdns_core.specs.Due.{IsNextDue};
+ghost use Rattle.mdns_history.specs.Sessions.{opened, is_attached, is_cut};
+ghost use Rattle.mdns_history.specs.Items.{session_items};
+ghost use Rattle.mdns_history.specs.Replays.{answer_sets};
+ghost use Rattle.mdns_history.specs.InForce.{in_force};
+ghost use Rattle.mdns_history.specs.Fitting.{Fits, boot_entry, is_boot};
+ghost use Rattle.mdns_history.specs.Due.{NextDue};
+ghost use Rattle.mdns_core.specs.Codes.{has_number};
+ghost use Rattle.mdns_core.specs.Settling.{shifted};
+ghost use Rattle.mdns_core.specs.Next.{outcome_then, sessions_after, most_taken};
+ghost use Rattle.mdns_core.specs.Kept.{sessions_of, HaveRoom, AreFit};
 
-use crate::Operation;
-use crate::kept::least_end;
-use crate::step::{Next, consequence, is_attached, may_happen, outcome_of};
-use mdns_history::{Config, Entry, Event, Gifts, Held, Marks, Outcome, Sends};
+use crate::change::SessionChange;
+use crate::outcomes::find;
+use crate::plan::{Plan, make_plan};
+use crate::session::SessionState;
+use crate::settle::{finish, make_room, settle};
+use mdns_cache::{Cache, Steps};
+use mdns_history::{Config, Entry, Event, Gifts, Marks, Outcome, Sends};
+use sd_call::Item;
 use std::alloc::{AllocError, Global};
 use std::marker::Model;
+use std::sync::ledger::Ledger;
+
+/// The most records that are live at a time.
+const ROOM_FOR_RECORDS: usize = 32_768;
 
 /// A daemon without a host.
 #[derive(Drop)]
 pub struct Daemon {
     alloc: Global,
     last: u64,
-    attached: bool,
-    operation: Option<Operation>,
-    held: Vec<Held>,
+    opened: u64,
+    sessions: Vec<SessionState>,
+    cache: Cache,
 }
 
 impl Model for Daemon {
-    ghost use Rattle.mdns_core.specs.State.{State, EndAfter};
+    ghost use Rattle.std.specs.Prelude.{◌≡◌, ◌≤◌, length};
+    ghost use Rattle.mdns_history.specs.Lifetimes.{room_for_records};
+    ghost use Rattle.mdns_core.specs.State.{State};
 
     ghost Value = { State };
 
-    ghost view = { λ d. record { last = d.last; attached = d.attached; operation = d.operation; held = d.held.items } };
+    ghost use Rattle.mdns_core.specs.Kept.{sessions_of, HaveWellFormed};
 
-    ghost invariant = { λ d. EndAfter d.last d.held.items };
+    ghost view = { λ d. record { last = d.last; opened = d.opened; sessions = sessions_of d.sessions.items; held = d.cache.held } };
+
+    ghost invariant = { λ d. HaveWellFormed (sessions_of d.sessions.items) × (d.cache.limit ≡ room_for_records) × (length d.cache.held ≤ room_for_records) };
 }
 
 impl Daemon {
     ghost use Rattle.mdns_core.specs.State.{Stands};
 
-    /// A daemon at its first moment `now`, in milliseconds, with an IPv4 address, and the entry of its boot. It takes no memory.
-    pub fn new(alloc: Global, address: u32, now: u64, word: u32) -> (Daemon, Entry)
-        requires { now ≤ 2 ^ 53 }
-        ensures entry { result.1 ≡ boot_entry now word address }
-        ensures stands { Stands result.0 (result.1 ∷ []) }
-        ensures last { result.0.last ≡ now }
+    /// A daemon at its first moment `now`, in milliseconds, with an IPv4 address and no host, and the entry of its boot.
+    /// Refused only for want of memory.
+    pub fn new(
+        alloc: Global,
+        config: Config,
+        now: u64,
+        word: u32,
+    ) -> Result<(Daemon, Entry), AllocError>
+        requires bound { now ≤ 2 ^ 53 }
+        requires hostless { ◌≡◌ {A = Option HostConfig} config.host None }
+        ensures entry { IfOk result (λ made. made.1 ≡ boot_entry now word config) }
+        ensures stands { IfOk result (λ made. Stands made.0 (made.1 ∷ [])) }
+        ensures last { IfOk result (λ made. made.0.last ≡ now) }
     {
         let daemon = Daemon {
             alloc,
             last: now,
-            attached: false,
-            operation: None,
-            held: Vec::new(alloc),
+            opened: 0,
+            sessions: Vec::new(alloc),
+            cache: Cache::new(alloc, ROOM_FOR_RECORDS)?,
         };
         let entry = Entry {
             moment: now,
             word,
-            event: Event::Boot {
-                config: Config {
-                    address,
-                    host: None,
-                },
-            },
+            event: Event::Boot { config },
             marks: Marks::new(alloc),
             sent: Sends::new(alloc),
             given: Gifts::new(alloc),
             outcome: Outcome::Done,
         };
-        (daemon, entry)
+        Ok((daemon, entry))
     }
 
     /// The moment of the last entry, in milliseconds.
@@ -73,54 +98,75 @@ impl Daemon {
         self.last
     }
 
-    /// Whether the session is attached.
-    pub fn attached(&self) -> bool
-        ensures { result ≡ self.now.attached }
+    /// Whether a session is attached.
+    pub fn attached(&self, session: u64) -> bool
+        ensures value { result ≡ is_some (find (has_number session) self.now.sessions) }
+        ensures attached { (history : List Entry) → Stands self.now history → result ≡ is_attached session history }
     {
-        self.attached
+        find(&self.sessions, session).is_some()
     }
 
-    /// Whether the event may happen now: the test of what `step` requires.
-    pub fn may(&self, event: &Event) -> bool
-        ensures { result ≡ may self.now.attached self.now.operation event.now }
-    {
-        may_happen(self.attached, &self.operation, event)
-    }
-
-    /// The next moment at which something is due: when the first of the live records ends. `None` where no record is live.
+    /// The next moment at which something is due: when the first of the live records ends. `None` where nothing ever is.
     pub fn next_due(&self) -> Option<u64>
-        ensures due { (history : List Entry) → Stands self.now history → IsNextDue history result }
-        ensures later { IfSome result (λ due. self.now.last < due) }
+        ensures due { (history : List Entry) → Stands self.now history → NextDue in_force history result }
     {
-        least_end(&self.held)
+        self.cache.next_end()
     }
 
     /// Does one event at `now`, in milliseconds, and answers its entry: for every history that the daemon stands for it is
-    /// the one that fits, and the daemon then stands for the history with it. After an `Err` the daemon is as before.
-    pub fn step(&mut self, now: u64, word: u32, event: Event) -> Result<Entry, AllocError>
+    /// the one that fits, and the daemon then stands for the history with it. After an `Err`, which comes only for want of
+    /// memory, the daemon is as before.
+    pub fn step<L: Ledger>(
+        &mut self,
+        now: u64,
+        word: u32,
+        event: Event,
+        steps: &mut Steps<L>,
+    ) -> Result<Entry, AllocError>
         requires later { self.old.last ≤ now }
         requires bound { now ≤ 2 ^ 53 }
-        requires allowed { may self.old.attached self.old.operation event ≡ true }
+        requires no_boot { is_boot event ≡ false }
 
         ensures asked { IfOk result (λ entry. (entry.moment ≡ now) × (entry.word ≡ word) × (entry.event ≡ event)) }
         ensures fits { IfOk result (λ entry. (history : List Entry) → Stands self.old history
-            → Fits entry history × Stands self.new (entry ∷ history)) }
+            → Fits in_force entry history × Stands self.new (entry ∷ history)) }
+        // Replaying the items of a session that is attached and not cut gives exactly the answers of its operations.
+        ensures replayed { IfOk result (λ entry. (history : List Entry) (session : ℕ) → Stands self.old history
+            → is_attached session (entry ∷ history) ≡ true → is_cut session (entry ∷ history) ≡ false
+            → replay (session_items session (entry ∷ history)) ≡ Some (answer_sets session (entry ∷ history))) }
         ensures last { OnOk result (self.new.last ≡ now) }
         ensures err { OnErr result (self.new ≡ self.old) }
     {
-        let next = consequence(self.alloc, &self.operation, &self.held, now, word, &event)?;
-        let outcome = outcome_of(&event);
-        let attached = is_attached(self.attached, &event);
-        let Next {
-            held,
-            operation,
+        let plan = make_plan(
+            self.alloc,
+            self.opened,
+            &self.sessions,
+            &self.cache,
+            now,
+            word,
+            &event,
+            steps,
+        )?;
+        prepare(&mut self.sessions, &plan.changes, &plan.outcome)?;
+        let Plan {
+            cache,
             marks,
             given,
-        } = next;
+            changes,
+            taken,
+            outcome,
+        } = plan;
+        self.opened = opened_then(self.opened, &outcome);
+        let outcome = carry_out(
+            self.alloc,
+            &mut self.sessions,
+            &event,
+            outcome,
+            changes,
+            taken,
+        );
         self.last = now;
-        self.attached = attached;
-        self.operation = operation;
-        self.held = held;
+        self.cache = cache;
         Ok(Entry {
             moment: now,
             word,
@@ -130,5 +176,66 @@ impl Daemon {
             given,
             outcome,
         })
+    }
+}
+
+// Takes all the room that the changes of the sessions need. Nothing else changes. Refused only for want of memory.
+fn prepare(
+    sessions: &mut Vec<SessionState>,
+    changes: &[SessionChange],
+    outcome: &Outcome,
+) -> Result<(), AllocError>
+    requires { vec_len sessions.old ≡ length changes.now }
+    ensures same { sessions_of sessions.new.items ≡ sessions_of sessions.old.items }
+    ensures len { vec_len sessions.new ≡ vec_len sessions.old }
+    ensures room { OnOk result (HaveRoom sessions.new.items changes.now) }
+    ensures place { OnOk result (is_some (opened outcome.now) ≡ true → vec_len sessions.new < vec_capacity sessions.new) }
+{
+    make_room(sessions, changes)?;
+    make_place(sessions, outcome)?;
+    Ok(())
+}
+
+// Makes the changes of the sessions, and what the event itself ends, opens or takes. It takes no memory.
+fn carry_out(
+    alloc: Global,
+    sessions: &mut Vec<SessionState>,
+    event: &Event,
+    outcome: Outcome,
+    changes: Vec<SessionChange>,
+    taken: Vec<Item>,
+) -> Outcome
+    requires length { vec_len sessions.old ≡ vec_len changes }
+    requires room { HaveRoom sessions.old.items changes.items }
+    requires fit { AreFit (sessions_of sessions.old.items) changes.items }
+    requires empty { taken.items ≡ [] }
+    requires taking { most_taken event.now ≤ vec_capacity taken }
+    requires opening { is_some (opened outcome) ≡ true → vec_len sessions.old < vec_capacity sessions.old }
+    ensures outcome { result ≡ outcome_then event.now outcome (shifted event.now outcome (sessions_of sessions.old.items) changes.items) }
+    ensures sessions { sessions_of sessions.new.items ≡ sessions_after event.now (shifted event.now outcome (sessions_of sessions.old.items) changes.items) }
+{
+    settle(sessions, changes);
+    finish(alloc, sessions, event, outcome, taken)
+}
+
+// Takes room for the session that an outcome opens. Refused only for want of memory.
+fn make_place(sessions: &mut Vec<SessionState>, outcome: &Outcome) -> Result<(), AllocError>
+    ensures items { sessions.new.items ≡ sessions.old.items }
+    ensures len { vec_len sessions.new ≡ vec_len sessions.old }
+    ensures place { OnOk result (is_some (opened outcome.now) ≡ true → vec_len sessions.new < vec_capacity sessions.new) }
+{
+    if let Outcome::Opened { .. } = outcome {
+        sessions.reserve(1)?;
+    }
+    Ok(())
+}
+
+// How many sessions were opened, with the one that an outcome opens: it has the next number.
+fn opened_then(before: u64, outcome: &Outcome) -> u64
+    ensures { result ≡ unwrap_or (opened outcome.now) before }
+{
+    match outcome {
+        Outcome::Opened { session } => *session,
+        _ => before,
     }
 }

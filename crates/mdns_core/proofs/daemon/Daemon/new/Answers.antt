@@ -1,14 +1,26 @@
-use Rattle.std.proofs.Common.{◌≡◌, None}
-use Rattle.mdns_history.specs.declared.event.Event.TheVariants.{Boot}
-use Rattle.mdns_history.specs.declared.entry.Outcome.TheVariants.{Done}
-use Rattle.mdns_core.specs.Entries.{boot_entry}
-use Rattle.mdns_history.specs.declared.entry.Entry.{Entry}
-use Rattle.mdns_core.proofs.Steps.{stands-boot}
+use Rattle.std.proofs.Common.{◌≡◌, [], ◌∷◌, ◌∙◌, List, ap, subst, sym}
+use Rattle.mdns_history.specs.declared.held.Held.{Held}
+use Rattle.mdns_history.specs.declared.mark.Mark.{Mark}
+use Rattle.mdns_history.specs.declared.entry.Sent.{Sent}
+use Rattle.mdns_history.specs.declared.entry.Given.{Given}
+use Rattle.mdns_history.specs.declared.entry.Outcome.TheVariants as outcome
+use Rattle.mdns_history.specs.declared.event.Event.TheVariants as event
+use Rattle.mdns_core.specs.declared.session.SessionState.{SessionState}
+use Rattle.mdns_core.specs.State.{Session, State, Stands}
+use Rattle.mdns_core.specs.Kept.{sessions_of}
+use Rattle.mdns_core.proofs.Standing.{stands-boot}
+use Rattle.mdns_core.proofs.Carried.{told, kept}
 use Rattle.mdns_core.proofs.daemon.Daemon.new.Goals as goal
 
 pub returns-clause-stands : goal.returns-clause-stands
 returns-clause-stands c =
-    let entry : Entry = record { moment = c.args.now; word = c.args.word; event = Boot (record { address = c.args.address; host = None }); marks = c.new-2.result; sent = c.new-3.result; given = c.new-4.result; outcome = Done } in
-    let is : entry ≡ boot_entry c.args.now c.args.word c.args.address =
-    (λ i. record { moment = c.args.now; word = c.args.word; event = Boot (record { address = c.args.address; host = None }); marks = c.new-2.ensures i; sent = c.new-3.ensures i; given = c.new-4.ensures i; outcome = Done }) in
-    stands-boot c.args.now c.args.word c.args.address entry c.new.result.items c.requires is c.new.ensures.items
+    let at_marks : (marks : List Mark) (sent : List Sent) (given : List Given) (states : List SessionState) (held : List Held) → marks ≡ [] → sent ≡ [] → given ≡ [] → states ≡ [] → held ≡ []
+    → Stands (kept c.args.now 0 (sessions_of states) held) (told c.args.now c.args.word (event.Boot c.args.config) marks sent given outcome.Done ∷ []) =
+    λ marks sent given states held m n g s h.
+    subst (λ (l : List Mark). Stands (kept c.args.now 0 (sessions_of states) held) (told c.args.now c.args.word (event.Boot c.args.config) l sent given outcome.Done ∷ [])) (sym m)
+    (subst (λ (l : List Sent). Stands (kept c.args.now 0 (sessions_of states) held) (told c.args.now c.args.word (event.Boot c.args.config) [] l given outcome.Done ∷ [])) (sym n)
+    (subst (λ (l : List Given). Stands (kept c.args.now 0 (sessions_of states) held) (told c.args.now c.args.word (event.Boot c.args.config) [] [] l outcome.Done ∷ [])) (sym g)
+    (subst (λ (l : List SessionState). Stands (kept c.args.now 0 (sessions_of l) held) (told c.args.now c.args.word (event.Boot c.args.config) [] [] [] outcome.Done ∷ [])) (sym s)
+    (subst (λ (l : List Held). Stands (kept c.args.now 0 [] l) (told c.args.now c.args.word (event.Boot c.args.config) [] [] [] outcome.Done ∷ [])) (sym h)
+    (stands-boot c.args.now c.args.word c.args.config c.requires.bound c.requires.hostless))))) in
+    at_marks c.new-3.result c.new-4.result c.new-5.result c.new.result.items c.in_ok-new.field-0.held c.new-3.ensures c.new-4.ensures c.new-5.ensures c.new.ensures.items c.in_ok-new.ensures.held

@@ -1,12 +1,14 @@
-use Rattle.std.proofs.Common.{◌∙◌, sym, ap}
-use Rattle.mdns_core.specs.State.{State, least_end_of}
-use Rattle.mdns_core.proofs.KeptList.{least_end-later, least_end-turned}
+use Rattle.std.proofs.Common.{◌≡◌, ◌∙◌, ap, subst, sym}
+use Rattle.std.specs.Prelude.{ℕ, Option}
+use Rattle.mdns_history.specs.InForce.{in_force}
+use Rattle.mdns_history.specs.Due.{NextDue}
+use Rattle.mdns_cache.specs.Lifetimes.{next_end_of}
+use Rattle.mdns_core.specs.State.{State}
+use Rattle.mdns_core.proofs.Standing.{due-stands}
 use Rattle.mdns_core.proofs.daemon.Daemon.next_due.Goals as goal
 
-pub returns-clause-due : goal.returns-clause-due
-returns-clause-due c = λ history stands.
-    c.least_end.ensures ∙ ap least_end_of (c.deref.ensures.value ∙ ap (λ (s : State). s.held) c.self.view_is) ∙ sym (least_end-turned c.args.self.now.held) ∙ ap least_end_of stands.held
-
-pub returns-clause-later : goal.returns-clause-later
-returns-clause-later c =
-    rw (c.least_end.ensures, c.deref.ensures.value, ← c.self.view_is) (least_end-later c.self.inside.held.items c.self.inside.last c.self.invariant)
+pub returns : goal.returns
+returns c = record {
+  due = λ history stands.
+      subst (λ (o : Option ℕ). NextDue in_force history o) (sym (c.next_end.ensures.least ∙ ap (λ (s : State). next_end_of s.held) c.self.view_is)) (due-stands c.args.self.now history stands);
+}

@@ -1,35 +1,66 @@
-use Rattle.std.proofs.Common.{◌≡◌, ◌≤◌, ◌∷◌, ◌∙◌, sym, ap, subst, map, List, true}
-use Rattle.std.specs.Prelude.{reverse}
-use Rattle.mdns_history.specs.declared.held.Held.{Held}
-use Rattle.mdns_history.specs.declared.entry.Entry.{Entry}
-use Rattle.mdns_core.specs.Received.{heard_of}
-use Rattle.mdns_core.specs.Operations.{may}
-use Rattle.mdns_core.specs.Answers.{answers_of}
-use Rattle.mdns_core.specs.Entries.{Fits, changes, op_of, to_session}
-use Rattle.mdns_core.specs.State.{State, Stands, advance}
-use Rattle.mdns_core.proofs.Lives.{ends-advance}
-use Rattle.mdns_core.proofs.Steps.{fits-entry, with_lists}
+use Rattle.std.proofs.Common.{◌≡◌, ◌∙◌, ◌≤◌, ap, subst, sym, map, List}
+use Rattle.mdns_core.specs.declared.session.SessionState.{SessionState}
+use Rattle.mdns_core.specs.declared.change.SessionChange.{SessionChange}
+use Rattle.mdns_core.specs.State.{Session, State, Stands}
+use Rattle.mdns_core.specs.Codes.{kept_outcome}
+use Rattle.mdns_core.specs.Settling.{change_for, shifted}
+use Rattle.mdns_core.specs.Next.{rrs_of, outcome_then, sessions_after}
+use Rattle.mdns_core.specs.Kept.{sessions_of, AreFit, HaveWellFormed}
+use Rattle.mdns_core.proofs.Settled.{planned-fit}
+use Rattle.mdns_core.proofs.Standing.{replayed-stands}
+use Rattle.mdns_core.proofs.Carried.{IsCarriedOut, carried, formed-left, kept}
 use Rattle.mdns_core.proofs.daemon.Daemon.step.Goals as goal
 
-pub invariant_of-self : goal.invariant_of-self
-invariant_of-self c = rw c.in_ok-next.ensures.kept (ends-advance c.args.now c.args.word (heard_of c.args.event) _)
+pub carry_out-outcome-requires-clause-fit : goal.carry_out-outcome-requires-clause-fit
+carry_out-outcome-requires-clause-fit g c =
+    let changed : c.in_ok-plan.plan.changes.items ≡ map (change_for c.args.event c.in_ok-plan.plan.outcome (rrs_of c.self.inside.cache.held) (rrs_of c.in_ok-plan.plan.cache.held)) (sessions_of c.self.inside.sessions.items) =
+    c.in_ok-plan.ensures.changes
+    ∙ ap (λ (ss : List SessionState). map (change_for c.args.event c.in_ok-plan.plan.outcome (rrs_of c.self.inside.cache.held) (rrs_of c.in_ok-plan.plan.cache.held)) (sessions_of ss)) c.deref.ensures.value in
+    subst (λ (ss : List Session). AreFit ss c.in_ok-plan.plan.changes.items) (sym c.prepare.ensures.same)
+    (planned-fit c.args.event c.in_ok-plan.plan.outcome (rrs_of c.self.inside.cache.held) (rrs_of c.in_ok-plan.plan.cache.held) (sessions_of c.self.inside.sessions.items) c.in_ok-plan.plan.changes.items changed)
 
 pub returns-clause-fits : goal.returns-clause-fits
-returns-clause-fits c = λ history stands.
-    let kept : c.in_ok-next.next.held.items ≡ advance c.self.inside.held.items c.args.now c.args.word (heard_of c.args.event) =
-    c.in_ok-next.ensures.kept ∙ ap (λ (h : List Held). advance h c.args.now c.args.word (heard_of c.args.event)) c.deref.ensures.value in
-    let state : State = record { last = c.self.inside.last; attached = c.self.inside.attached; operation = c.self.inside.operation; held = c.self.inside.held.items } in
-    let one = fits-entry state history c.args.now c.args.word c.args.event c.in_ok-next.next.given c.outcome_of-outcome.result
-    c.is_attached-attached.result c.in_ok-next.next.operation c.in_ok-next.next.held.items
-    (subst (λ (s : State). Stands s history) (sym c.self.view_is) stands)
-    (subst (λ (s : State). s.last ≤ c.args.now) (sym c.self.view_is) c.requires.later)
-    c.requires.bound
-    (subst (λ (s : State). may s.attached s.operation c.args.event ≡ true) (sym c.self.view_is) c.requires.allowed)
-    c.is_attached-attached.ensures
-    c.in_ok-next.ensures.operation
-    kept
-    (c.in_ok-next.ensures.given ∙ ap (λ (h : List Held). map to_session (changes c.args.event (op_of c.in_ok-next.next.operation) (answers_of c.self.inside.operation (reverse h)) (answers_of c.in_ok-next.next.operation (reverse c.in_ok-next.next.held.items)))) c.deref.ensures.value)
-    c.outcome_of-outcome.ensures in
-    with_lists c.args.now c.args.word c.args.event c.in_ok-next.next.given c.outcome_of-outcome.result c.in_ok-next.next.marks c.new.result
-    (λ (e : Entry). Fits e history × Stands (record { last = c.args.now; attached = c.is_attached-attached.result; operation = c.in_ok-next.next.operation; held = c.in_ok-next.next.held.items }) (e ∷ history))
-    c.in_ok-next.ensures.marks c.new.ensures one
+returns-clause-fits g c = λ history stands.
+    let ss : List Session = sessions_of c.self.inside.sessions.items in
+    let state : State = kept c.self.inside.last c.self.inside.opened ss c.self.inside.cache.held in
+    let out : IsCarriedOut state c.args.now c.args.word c.args.event c.in_ok-plan.plan.cache.held c.in_ok-plan.plan.marks c.new.result c.in_ok-plan.plan.given c.carry_out-outcome.result c.opened_then-self-inside.result (sessions_of c.carry_out-outcome.new.sessions.items) =
+    record {
+      refusal = c.in_ok-plan.ensures.refusal;
+      outcome = c.in_ok-plan.plan.outcome;
+      changes = c.in_ok-plan.plan.changes.items;
+      heard = c.in_ok-plan.ensures.heard;
+      parts = c.in_ok-plan.ensures.data;
+      early = c.in_ok-plan.ensures.outcome ∙ ap (λ (xs : List SessionState). kept_outcome c.self.inside.opened (sessions_of xs) c.args.event) c.deref.ensures.value;
+      changed = c.in_ok-plan.ensures.changes
+          ∙ ap (λ (xs : List SessionState). map (change_for c.args.event c.in_ok-plan.plan.outcome (rrs_of c.self.inside.cache.held) (rrs_of c.in_ok-plan.plan.cache.held)) (sessions_of xs)) c.deref.ensures.value;
+      marked = c.in_ok-plan.ensures.marks;
+      unsent = c.new.ensures;
+      gifts = c.in_ok-plan.ensures.given;
+      late = c.carry_out-outcome.ensures.outcome
+          ∙ ap (λ (xs : List Session). outcome_then c.args.event c.in_ok-plan.plan.outcome (shifted c.args.event c.in_ok-plan.plan.outcome xs c.in_ok-plan.plan.changes.items)) c.prepare.ensures.same;
+      remains = c.carry_out-outcome.ensures.sessions
+          ∙ ap (λ (xs : List Session). sessions_after c.args.event (shifted c.args.event c.in_ok-plan.plan.outcome xs c.in_ok-plan.plan.changes.items)) c.prepare.ensures.same;
+      counted = c.opened_then-self-inside.ensures;
+    } in
+    carried state c.args.now c.args.word c.args.event c.in_ok-plan.plan.cache.held c.in_ok-plan.plan.marks c.new.result c.in_ok-plan.plan.given c.carry_out-outcome.result c.opened_then-self-inside.result (sessions_of c.carry_out-outcome.new.sessions.items)
+    out (subst (λ (s : State). s.last ≤ c.args.now) (sym c.self.view_is) c.requires.later) c.requires.bound c.requires.no_boot history (subst (λ (s : State). Stands s history) (sym c.self.view_is) stands)
+
+pub returns-clause-replayed : goal.returns-clause-replayed
+returns-clause-replayed g c = λ history session stands attached uncut.
+    let fits = returns-clause-fits g c history stands in
+    replayed-stands _ _ fits.1 session attached uncut
+
+pub invariant_of-self-2 : goal.invariant_of-self-2
+invariant_of-self-2 g c =
+    let ss : List Session = sessions_of c.self.inside.sessions.items in
+    let changed : c.in_ok-plan.plan.changes.items ≡ map (change_for c.args.event c.in_ok-plan.plan.outcome (rrs_of c.self.inside.cache.held) (rrs_of c.in_ok-plan.plan.cache.held)) ss =
+    c.in_ok-plan.ensures.changes
+    ∙ ap (λ (xs : List SessionState). map (change_for c.args.event c.in_ok-plan.plan.outcome (rrs_of c.self.inside.cache.held) (rrs_of c.in_ok-plan.plan.cache.held)) (sessions_of xs)) c.deref.ensures.value in
+    let left : sessions_of c.carry_out-outcome.new.sessions.items ≡ sessions_after c.args.event (shifted c.args.event c.in_ok-plan.plan.outcome ss (map (change_for c.args.event c.in_ok-plan.plan.outcome (rrs_of c.self.inside.cache.held) (rrs_of c.in_ok-plan.plan.cache.held)) ss)) =
+    c.carry_out-outcome.ensures.sessions
+    ∙ ap (λ (xs : List Session). sessions_after c.args.event (shifted c.args.event c.in_ok-plan.plan.outcome xs c.in_ok-plan.plan.changes.items)) c.prepare.ensures.same
+    ∙ ap (λ (cs : List SessionChange). sessions_after c.args.event (shifted c.args.event c.in_ok-plan.plan.outcome ss cs)) changed in (
+      subst HaveWellFormed (sym left) (formed-left c.args.event c.in_ok-plan.plan.outcome (rrs_of c.self.inside.cache.held) (rrs_of c.in_ok-plan.plan.cache.held) ss c.in_ok-plan.ensures.well_formed c.self.invariant.0),
+      c.in_ok-plan.ensures.limit,
+      c.in_ok-plan.ensures.within,
+    )

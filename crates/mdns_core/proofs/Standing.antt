@@ -1,0 +1,81 @@
+-- What a daemon's state says of the histories that it stands for: at its boot, of its sessions, and when something is due.
+use Rattle.std.proofs.Common.{◌≡◌, ℕ, ◌≤◌, Bool, true, false, cond, List, [], ◌∷◌, map, Option, Some, None, refl, ap, subst, ◌∙◌, sym, IsTrue}
+use Rattle.std.proofs.lemmas.List.Sorted.{IsPermutation-refl}
+use Rattle.std.specs.List.{find}
+use Rattle.std.specs.List.Sorted.{IsPermutation}
+use Rattle.std.specs.Option.{is_some}
+use Rattle.sd_call.specs.Replay.{replay}
+use Rattle.mdns_history.specs.declared.config.Config.{Config}
+use Rattle.mdns_history.specs.declared.config.HostConfig.{HostConfig}
+use Rattle.mdns_history.specs.declared.entry.Entry.{Entry}
+use Rattle.mdns_history.specs.InForce.{in_force}
+use Rattle.mdns_history.specs.Hearings.{Hearing, hearings, heard_in}
+use Rattle.mdns_history.specs.Lifetimes.{live_of, live_records}
+use Rattle.mdns_history.specs.Sessions.{is_attached, attached_sessions, is_cut}
+use Rattle.mdns_history.specs.Items.{session_items}
+use Rattle.mdns_history.specs.Replays.{answer_sets}
+use Rattle.mdns_history.specs.Fitting.{boot_entry, last_moment, is_host_label}
+use Rattle.mdns_history.specs.Due.{NextDue}
+use Rattle.mdns_history.proofs.LegalReplay.{is_replayed}
+use Rattle.mdns_cache.specs.Lifetimes.{Holds}
+use Rattle.mdns_history.specs.declared.event.Event.{Event}
+use Rattle.mdns_history.specs.declared.held.Held.{Held}
+use Rattle.mdns_history.specs.declared.mark.Mark.{Mark}
+use Rattle.mdns_core.specs.Next.{IsHeard}
+use Rattle.mdns_core.specs.State.{Session, State, Stands, session_in}
+use Rattle.mdns_core.specs.Codes.{has_number}
+use Rattle.dns_name.specs.Lists.{least}
+use Rattle.mdns_core.proofs.Due.{least_end-due}
+use Rattle.mdns_core.proofs.KeptOutcome.{found-session}
+
+-- the state of a daemon that was just booted
+abbrev pub booted_state : ℕ → State
+booted_state moment = record { last = moment; opened = 0; sessions = []; held = [] }
+
+none_live : (moment word : ℕ) (config : Config) → live_records (boot_entry moment word config ∷ []) moment ≡ []
+unfolding live_records live_of hearings heard_in
+none_live moment word config = refl
+
+none_attached : (moment word : ℕ) (config : Config) → attached_sessions (boot_entry moment word config ∷ []) ≡ []
+unfolding attached_sessions
+none_attached moment word config = refl
+
+-- A daemon that was just booted without a host stands for the history of its boot.
+pub stands-boot : (moment word : ℕ) (config : Config) → moment ≤ last_moment → ◌≡◌ {A = Option HostConfig} config.host None → Stands (booted_state moment) (boot_entry moment word config ∷ [])
+stands-boot moment word config in_time hostless = record {
+  legal = (config, in_time, subst (λ (host : Option HostConfig). IsTrue (is_host_label host)) (sym hostless) refl, refl);
+  hostless = hostless;
+  last = refl;
+  opened = refl;
+  sessions = sym (ap (map (session_in (boot_entry moment word config ∷ []))) (none_attached moment word config));
+  records = subst (λ live. IsPermutation [] live) (sym (none_live moment word config)) (IsPermutation-refl []);
+  typed = refl;
+}
+
+-- A session is attached where its number is found among those that are kept.
+pub attached-stands : (state : State) (history : List Entry) → Stands state history → (n : ℕ) → is_some (find (has_number n) state.sessions) ≡ is_attached n history
+attached-stands state history stands n =
+    ap (λ xs. is_some (find (has_number n) xs)) stands.sessions ∙ ap (λ (o : Option Session). is_some o) (found-session history stands.legal n) ∙ of (is_attached n history)
+  where
+    of : (b : Bool) → is_some (cond b (Some (session_in history n)) None) ≡ b
+    of true = refl
+    of false = refl
+
+-- The next moment that is due is the least end of what is held.
+pub due-stands : (state : State) (history : List Entry) → Stands state history → NextDue in_force history (least (map (λ h. h.end) state.held))
+due-stands state history stands = least_end-due history stands.legal stands.hostless state.held stands.records
+
+-- Replaying the items of a session that is attached and not cut gives the answers of its operations.
+pub replayed-stands : (state : State) (history : List Entry) → Stands state history → (n : ℕ) → is_attached n history ≡ true → is_cut n history ≡ false →
+    replay (session_items n history) ≡ Some (answer_sets n history)
+replayed-stands state history stands n attached uncut = is_replayed in_force history n stands.legal attached uncut
+
+-- What is held is the live records of what was heard.
+pub holds-stands : (state : State) (history : List Entry) → Stands state history → Holds state.held (hearings history) state.last
+unfolding live_records
+holds-stands state history stands = subst (λ k. IsPermutation state.held (live_of (hearings history) k)) (sym stands.last) stands.records
+
+-- An event hears with what was heard before it.
+pub heard-stands : (state : State) (history : List Entry) → Stands state history → (moment word : ℕ) (ev : Event) (after : List Held) (refusal : List Mark) → state.last ≤ moment →
+    ((past : List Hearing) (before : ℕ) → before ≤ moment → Holds state.held past before → IsHeard moment word ev past after refusal) → IsHeard moment word ev (hearings history) after refusal
+heard-stands state history stands moment word ev after refusal later heard = heard (hearings history) state.last later (holds-stands state history stands)

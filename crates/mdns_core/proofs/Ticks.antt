@@ -1,0 +1,125 @@
+-- When a tick does nothing: where no live record has ended by then.
+use Rattle.std.proofs.Common.{◌≡◌, ℕ, ◌≤◌, Bool, true, false, not, ◌&&◌, List, [], ◌∷◌, map, None, refl, ap, ◌∙◌, arith, append-nil}
+use Rattle.std.specs.Prelude.{filter, nat_lt}
+use Rattle.std.specs.List.{list_all, flat_map}
+use Rattle.sd_call.specs.Answers.{frames_len}
+use Rattle.mdns_history.specs.declared.event.Event.TheVariants as event
+use Rattle.mdns_history.specs.declared.mark.Mark.{Mark}
+use Rattle.mdns_history.specs.declared.mark.Mark.TheVariants as mark
+use Rattle.mdns_history.specs.declared.entry.Given.{Given}
+use Rattle.mdns_history.specs.declared.entry.Sent.{Sent}
+use Rattle.mdns_history.specs.declared.entry.Entry.{Entry}
+use Rattle.mdns_history.specs.History.{now}
+use Rattle.mdns_history.specs.InForce.{in_force}
+use Rattle.mdns_history.specs.Lifetimes.{is_live_at, live_records}
+use Rattle.mdns_history.specs.declared.operation.Operation.{Operation}
+use Rattle.mdns_history.specs.Sessions.{is_cut, operations_of}
+use Rattle.mdns_history.specs.Groups.{host_of}
+use Rattle.mdns_history.specs.Sureness.{is_sure}
+use Rattle.mdns_history.specs.Items.{given_to, queue}
+use Rattle.mdns_history.specs.Outcomes.{early_outcome}
+use Rattle.mdns_history.specs.Fitting.{IsLegal}
+use Rattle.mdns_history.specs.Due.{is_nothing, settles_none, ends_none, is_idle}
+use Rattle.mdns_core.specs.Changes.{passes, items_between}
+use Rattle.mdns_core.proofs.NumberLists.{filter-same, flat_map-same, and_false}
+use Rattle.mdns_core.proofs.Stage.{marked, entry_after, entry_is}
+use Rattle.mdns_core.proofs.Hostless.{IsPlain, IsPlain-legal}
+use Rattle.mdns_core.proofs.Plain.{rrs_of, sure_groups-none, IsPlain-next}
+use Rattle.mdns_core.proofs.Brought.{change_items-marked}
+use Rattle.mdns_core.proofs.Shape.{attached, brought_to, passes_now, marks-next, sent-next, given-next}
+use Rattle.mdns_core.proofs.Operations.{operations-rising}
+use Rattle.mdns_core.proofs.Limits.{queue-within}
+use Rattle.mdns_core.proofs.Idle.{items_between-same, filter-all, live_records-quiet}
+
+filter-never : (ns : List ℕ) → filter (λ n. false) ns ≡ []
+filter-never [] = refl
+filter-never (n ∷ ns) = filter-never ns
+
+flat_map-never : (ns : List ℕ) → ◌≡◌ {A = List Given} (flat_map (λ n. []) ns) []
+flat_map-never [] = refl
+flat_map-never (n ∷ ns) = flat_map-never ns
+
+-- nothing is noted, sent or given, and two tests pass
+abbrev all_quiet : List Mark → List Sent → List Given → Bool → Bool → Bool
+all_quiet marks sent given b c = is_nothing marks && is_nothing sent && is_nothing given && b && c
+
+never_quiet : (marks : List Mark) (sent : List Sent) (given : List Given) (b : Bool) → all_quiet marks sent given b false ≡ false
+never_quiet marks sent given b = of (is_nothing marks) (is_nothing sent) (is_nothing given) b
+  where
+    of : (p q r s : Bool) → (p && q && r && s && false) ≡ false
+    of true true true true = refl
+    of true true true false = refl
+    of true true false s = refl
+    of true false r s = refl
+    of false q r s = refl
+
+module _ (past : List Entry) (moment word : ℕ) (legal : IsLegal in_force past) (hostless : host_of past ≡ None) (later : now past ≤ moment) where
+  plain : IsPlain past
+  plain = IsPlain-legal past legal hostless
+
+  same_operations : (n : ℕ) → operations_of n (marked past moment word event.Tick ∷ past) ≡ operations_of n past
+  unfolding operations_of early_outcome
+  same_operations n = refl
+
+  -- a tick that ends no record brings nothing
+  brought_none : ends_none past moment ≡ true → (n : ℕ) → brought_to past moment word event.Tick n ≡ []
+  unfolding early_outcome
+  brought_none none n =
+      let os : List Operation = operations_of n past in
+      let live : live_records (marked past moment word event.Tick ∷ past) moment ≡ live_records past (now past) =
+      live_records-quiet past moment word event.Tick refl (now past) later ∙ filter-all (is_live_at moment) (live_records past (now past)) none in
+      change_items-marked past moment word event.Tick hostless plain refl n
+      ∙ ap (λ after. items_between None os after (rrs_of past) (rrs_of (marked past moment word event.Tick ∷ past))) (same_operations n)
+      ∙ ap (λ hs. items_between None os os (rrs_of past) (map (λ held. held.rr) hs)) live
+      ∙ items_between-same os (rrs_of past) (operations-rising past legal n)
+
+  marks_none : ends_none past moment ≡ true → (entry_after past moment word event.Tick).marks ≡ []
+  marks_none none =
+      marks-next past moment word event.Tick
+      ∙ ap (map (λ n. mark.Cut n)) (
+      filter-same (λ n. not (is_cut n past) && passes_now past moment word event.Tick n) (λ n. false) (attached past moment word event.Tick) (λ n h. fits n)
+      ∙ filter-never (attached past moment word event.Tick))
+    where
+      fits : (n : ℕ) → (not (is_cut n past) && passes_now past moment word event.Tick n) ≡ false
+      fits n =
+          let few : frames_len (queue n past) ≤ 16777216 = queue-within past legal hostless n in
+          let within : nat_lt 16777216 (frames_len (queue n past)) ≡ false = grind arith in
+          ap (λ items. not (is_cut n past) && passes (queue n past) items) (brought_none none n)
+          ∙ ap (λ items. not (is_cut n past) && nat_lt 16777216 (frames_len items)) (append-nil (queue n past))
+          ∙ ap (λ b. not (is_cut n past) && b) within ∙ and_false (not (is_cut n past))
+
+  given_none : ends_none past moment ≡ true → (entry_after past moment word event.Tick).given ≡ []
+  given_none none =
+      let ns : List ℕ = filter (λ n. not (is_cut n past) && not (passes_now past moment word event.Tick n)) (attached past moment word event.Tick) in
+      given-next past moment word event.Tick hostless plain refl
+      ∙ flat_map-same (λ n. map (given_to n) (brought_to past moment word event.Tick n)) (λ n. []) ns (λ n h. ap (map (given_to n)) (brought_none none n))
+      ∙ flat_map-never ns
+
+  settled : settles_none (entry_after past moment word event.Tick) past ≡ true
+  settled = ap (list_all (λ group. is_sure group past))
+      (sure_groups-none (entry_after past moment word event.Tick ∷ past) (IsPlain-next past moment word event.Tick hostless plain refl).no_groups)
+
+  at_moment : (entry_after past moment word event.Tick).moment ≡ moment
+  at_moment = ap (λ e. e.moment) (entry_is past moment word event.Tick)
+
+  quiet_where : (b : Bool) → ends_none past moment ≡ b →
+      all_quiet (entry_after past moment word event.Tick).marks (entry_after past moment word event.Tick).sent (entry_after past moment word event.Tick).given
+      (settles_none (entry_after past moment word event.Tick) past) (ends_none past (entry_after past moment word event.Tick).moment) ≡ b
+  quiet_where true none =
+      let e : Entry = entry_after past moment word event.Tick in
+      ap (λ ms. all_quiet ms e.sent e.given (settles_none e past) (ends_none past e.moment)) (marks_none none)
+      ∙ ap (λ ss. all_quiet [] ss e.given (settles_none e past) (ends_none past e.moment)) (sent-next past moment word event.Tick)
+      ∙ ap (λ gs. all_quiet [] [] gs (settles_none e past) (ends_none past e.moment)) (given_none none)
+      ∙ ap (λ b. all_quiet [] [] [] b (ends_none past e.moment)) settled
+      ∙ ap (λ k. all_quiet [] [] [] true (ends_none past k)) at_moment
+      ∙ none
+  quiet_where false some =
+      let e : Entry = entry_after past moment word event.Tick in
+      ap (λ k. all_quiet e.marks e.sent e.given (settles_none e past) (ends_none past k)) at_moment
+      ∙ ap (all_quiet e.marks e.sent e.given (settles_none e past)) some
+      ∙ never_quiet e.marks e.sent e.given (settles_none e past)
+
+-- A tick is idle where it ends no record.
+pub is_idle-tick : (past : List Entry) (moment : ℕ) → IsLegal in_force past → host_of past ≡ None → now past ≤ moment → is_idle in_force past moment ≡ ends_none past moment
+unfolding is_idle
+is_idle-tick past moment legal hostless later = quiet_where past moment 0 legal hostless later (ends_none past moment) refl

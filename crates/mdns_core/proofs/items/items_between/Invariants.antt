@@ -1,0 +1,14 @@
+use Rattle.std.proofs.Common.{◌≡◌, ◌++◌, take, drop}
+use Rattle.std.specs.List.{flat_map}
+use Rattle.mdns_core.specs.Changes.{lost, gained}
+use Rattle.mdns_core.specs.Next.{rrs_of}
+use Rattle.mdns_core.specs.Kept.{AreWellFormed}
+use Rattle.mdns_core.proofs.items.items_between.Given as goal
+
+abbrev pub invariant-loop-operation : goal.invariant-loop-operation
+invariant-loop-operation l =
+    record {
+      removes : l.brought ≡ l.initial.brought ++ flat_map (lost l.before (rrs_of l.earlier) (rrs_of l.later)) (take l.operation-index l.after);
+      adds : l.adds ≡ flat_map (gained l.before (rrs_of l.earlier) (rrs_of l.later)) (take l.operation-index l.after);
+      formed : AreWellFormed (drop l.operation-index l.after);
+    }

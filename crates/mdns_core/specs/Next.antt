@@ -1,0 +1,119 @@
+-- The entry of an event and what is kept after it, told of what is kept before it.
+use Rattle.std.specs.Prelude.{◌≡◌, ℕ, ◌==◌, Bool, true, false, List, [], ◌∷◌, ◌++◌, map, drop, take, nat_lt, length, Option, Some, None, if◌then◌else◌}
+use Rattle.std.specs.List.{find}
+use Rattle.std.specs.Option.{unwrap_or}
+use Rattle.std.specs.List.Sorted.{IsPermutation}
+use Rattle.dns_record.specs.declared.record.Rr.{Rr}
+use Rattle.sd_call.specs.declared.item.Item.{Item}
+use Rattle.mdns_history.specs.declared.event.Event.{Event}
+use Rattle.mdns_history.specs.declared.event.Event.TheVariants as event
+use Rattle.mdns_history.specs.declared.held.Held.{Held}
+use Rattle.mdns_history.specs.declared.mark.Mark.{Mark}
+use Rattle.mdns_history.specs.declared.mark.Mark.TheVariants as mark
+use Rattle.mdns_history.specs.declared.entry.Outcome.{Outcome}
+use Rattle.mdns_history.specs.declared.entry.Outcome.TheVariants as outcome
+use Rattle.mdns_history.specs.declared.entry.Entry.{Entry}
+use Rattle.mdns_history.specs.Hearings.{Hearing, counted_records, brought}
+use Rattle.mdns_history.specs.Lifetimes.{live_of, room_for_records}
+use Rattle.mdns_history.specs.Sessions.{opened}
+use Rattle.mdns_history.specs.Outcomes.{items_or_empty}
+use Rattle.mdns_history.specs.Fitting.{bad_mark}
+use Rattle.mdns_cache.specs.Lifetimes.{hearings_at}
+use Rattle.mdns_core.specs.declared.change.SessionChange.{SessionChange}
+use Rattle.mdns_core.specs.State.{Session, State}
+use Rattle.mdns_core.specs.Codes.{kept_outcome, has_number}
+use Rattle.mdns_core.specs.Settling.{change_for, cuts_of, gifts_of, all_settled, remaining, with_opened}
+
+-- the records of what is held
+abbrev pub rrs_of : List Held → List Rr
+rrs_of held = map (λ one. one.rr) held
+
+-- the changes that an event brings to the sessions, where these records are live after it
+abbrev pub changes_for : State → Event → List Held → List SessionChange
+changes_for state event later =
+    map (change_for event (kept_outcome state.opened state.sessions event) (rrs_of state.held) (rrs_of later)) state.sessions
+
+-- the sessions after an event, but for what a take hands over
+abbrev pub sessions_then : State → Event → List SessionChange → List Session
+sessions_then state event changes =
+    let early = kept_outcome state.opened state.sessions event in
+    with_opened (opened early) (remaining event early (all_settled state.sessions changes))
+
+-- what a take hands over to a session that may be there
+abbrev pub handed_to : ℕ → Option Session → Outcome
+handed_to max None = outcome.Closed
+handed_to max (Some session) = if session.cut then outcome.Cut else items_or_empty (take max session.queue)
+
+-- how many items an event may hand over
+abbrev pub most_taken : Event → ℕ
+most_taken (event.Take session max) = max
+most_taken _ = 0
+
+-- the outcome of an event, where these are the sessions after it
+abbrev pub outcome_then : Event → Outcome → List Session → Outcome
+outcome_then (event.Take session max) early sessions = handed_to max (find (has_number session) sessions)
+outcome_then _ early sessions = early
+
+-- the session of a number without the first items of its queue
+abbrev pub taken_from : ℕ → ℕ → List Session → List Session
+taken_from number max [] = []
+taken_from number max (session ∷ sessions) =
+    if session.number == number then record session { queue = drop max session.queue } ∷ sessions else session ∷ taken_from number max sessions
+
+-- the sessions when an event has handed over what it hands over
+abbrev pub sessions_after : Event → List Session → List Session
+sessions_after (event.Take session max) sessions = taken_from session max sessions
+sessions_after _ sessions = sessions
+
+-- the entry of an event with the mark of a packet that was refused, where these records are live after it
+abbrev pub entry_for : State → ℕ → ℕ → Event → List Mark → List Held → Entry
+entry_for state moment word event refusal later =
+    let changes = changes_for state event later in
+    record {
+      moment = moment;
+      word = word;
+      event = event;
+      marks = refusal ++ cuts_of changes;
+      sent = [];
+      given = gifts_of changes;
+      outcome = outcome_then event (kept_outcome state.opened state.sessions event) (sessions_then state event changes);
+    }
+
+-- what is kept after an event, where these records are live after it
+abbrev pub state_after : State → ℕ → Event → List Held → State
+state_after state moment event later =
+    record {
+      last = moment;
+      opened = unwrap_or (opened (kept_outcome state.opened state.sessions event)) state.opened;
+      sessions = sessions_after event (sessions_then state event (changes_for state event later));
+      held = later;
+    }
+
+-- the mark of a packet that is refused: there would be too many records, or it spells no message
+abbrev pub refusal_of : Bool → Event → List Mark
+refusal_of true (event.Hear from bytes) = mark.Full ∷ []
+refusal_of false (event.Hear from bytes) = bad_mark bytes
+refusal_of full _ = []
+
+-- whether too many records would be live with those of an event
+abbrev pub is_full : ℕ → ℕ → Event → List Hearing → Bool
+is_full moment word event past = nat_lt room_for_records (length (live_of (hearings_at moment word (counted_records (brought event)) ++ past) moment))
+
+-- the records that an event adds to those heard before: none where there would be too many
+abbrev pub heard_with : ℕ → ℕ → Event → List Hearing → List Hearing
+heard_with moment word event past =
+    if is_full moment word event past then past else hearings_at moment word (counted_records (brought event)) ++ past
+
+-- whether too many records would be live with these
+abbrev pub are_too_many : ℕ → ℕ → List Rr → List Hearing → Bool
+are_too_many moment word rrs past = nat_lt room_for_records (length (live_of (hearings_at moment word rrs ++ past) moment))
+
+-- What hearing records makes of held ones, and the mark where there would be too many, are what the records heard before say.
+pub record AreHeard (moment word : ℕ) (rrs : List Rr) (past : List Hearing) (later : List Held) (refusal : List Mark) : Type 0 where
+  pub records : IsPermutation later (live_of (if are_too_many moment word rrs past then past else hearings_at moment word rrs ++ past) moment)
+  pub refused : refusal ≡ (if are_too_many moment word rrs past then mark.Full ∷ [] else [])
+
+-- What an event makes of held records and the mark that refuses a packet are what the records heard before it say.
+pub record IsHeard (moment word : ℕ) (event : Event) (past : List Hearing) (later : List Held) (refusal : List Mark) : Type 0 where
+  pub records : IsPermutation later (live_of (heard_with moment word event past) moment)
+  pub refused : refusal ≡ refusal_of (is_full moment word event past) event

@@ -1,0 +1,86 @@
+-- What an event makes of the sessions that are kept.
+use Rattle.std.specs.Prelude.{ℕ, suc, ◌==◌, nat_lt, Bool, true, false, not, ◌||◌, List, [], ◌∷◌, ◌++◌, map, filter, Option, Some, None, if◌then◌else◌}
+use Rattle.std.specs.List.{flat_map}
+use Rattle.std.specs.Option.{unwrap_or}
+use Rattle.dns_record.specs.declared.record.Rr.{Rr}
+use Rattle.sd_call.specs.declared.item.Item.{Item}
+use Rattle.mdns_history.specs.declared.operation.Operation.{Operation}
+use Rattle.mdns_history.specs.declared.event.Event.{Event}
+use Rattle.mdns_history.specs.declared.mark.Mark.{Mark}
+use Rattle.mdns_history.specs.declared.mark.Mark.TheVariants as mark
+use Rattle.mdns_history.specs.declared.entry.Given.{Given}
+use Rattle.mdns_history.specs.declared.entry.Outcome.{Outcome}
+use Rattle.mdns_history.specs.Sessions.{Accepted, accepted_call, after_request, detached, is_number, opened}
+use Rattle.mdns_history.specs.Items.{reply_of, given_to}
+use Rattle.mdns_core.specs.declared.change.SessionChange.{SessionChange}
+use Rattle.mdns_core.specs.State.{Session}
+use Rattle.mdns_core.specs.Changes.{items_between, passes}
+
+-- how many operations stand before the first of a number or of a greater one
+abbrev pub count_below : ℕ → List Operation → ℕ
+count_below op [] = 0
+count_below op (operation ∷ operations) = if nat_lt operation.op op then suc (count_below op operations) else 0
+
+-- the operations that a call leaves to its session, where an event is one that was accepted
+abbrev pub called : Option Accepted → ℕ → List Operation → Option (List Operation)
+called None number operations = None
+called (Some call) number operations =
+    if call.session == number then Some (after_request number call.op call.request operations) else None
+
+-- what a session has of an event with its outcome, told of the records before and after it
+abbrev pub brought_to : Event → Outcome → List Rr → List Rr → Session → List Item
+brought_to event outcome earlier later session =
+    if session.cut || is_number session.number (detached event outcome) then []
+    else items_between (reply_of session.number event outcome) session.operations
+    (unwrap_or (called (accepted_call event outcome) session.number session.operations) session.operations) earlier later
+
+-- the change of a session: its new operations, what it is brought, and whether that would pass the limit of its queue
+abbrev pub change_for : Event → Outcome → List Rr → List Rr → Session → SessionChange
+change_for event outcome earlier later session =
+    record {
+      session = session.number;
+      operations = called (accepted_call event outcome) session.number session.operations;
+      brought = brought_to event outcome earlier later session;
+      cuts = passes session.queue (brought_to event outcome earlier later session);
+    }
+
+-- the marks of the sessions that are cut
+abbrev pub cuts_of : List SessionChange → List Mark
+cuts_of changes = map (λ change. mark.Cut change.session) (filter (λ change. change.cuts) changes)
+
+-- what the other sessions are given
+abbrev pub gifts_of : List SessionChange → List Given
+gifts_of changes = flat_map (λ change. map (given_to change.session) change.brought) (filter (λ change. not change.cuts) changes)
+
+-- a session with its change: cut for good, or with what it was brought behind its queue
+abbrev pub settled : Session → SessionChange → Session
+settled session change =
+    record {
+      number = session.number;
+      operations = unwrap_or change.operations session.operations;
+      cut = session.cut || change.cuts;
+      queue = if session.cut || change.cuts then [] else session.queue ++ change.brought;
+    }
+
+-- sessions with their changes
+abbrev pub all_settled : List Session → List SessionChange → List Session
+all_settled [] changes = []
+all_settled (session ∷ sessions) [] = session ∷ sessions
+all_settled (session ∷ sessions) (change ∷ changes) = settled session change ∷ all_settled sessions changes
+
+-- the sessions that an event leaves attached
+abbrev pub remaining : Event → Outcome → List Session → List Session
+remaining event outcome sessions = filter (λ session. not (is_number session.number (detached event outcome))) sessions
+
+-- a session that was just opened
+abbrev pub opened_session : ℕ → Session
+opened_session number = record { number = number; operations = []; cut = false; queue = [] }
+
+-- the sessions after what an event opens
+abbrev pub with_opened : Option ℕ → List Session → List Session
+with_opened None sessions = sessions
+with_opened (Some number) sessions = sessions ++ opened_session number ∷ []
+
+-- the sessions with their changes, after what an event ends and opens
+abbrev pub shifted : Event → Outcome → List Session → List SessionChange → List Session
+shifted event outcome sessions changes = with_opened (opened outcome) (remaining event outcome (all_settled sessions changes))

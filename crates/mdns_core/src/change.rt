@@ -1,0 +1,206 @@
+// What an event changes in the sessions, computed before anything is changed.
+ghost use Rattle.std.specs.Prelude.{◌≡◌, ◌+◌, ◌++◌, ◌≤◌, ◌||◌, [], nat_lt, map, is_none, IfOk, OnOk, if◌then◌else◌};
+ghost use Rattle.sd_call.specs.Answers.{frames_len};
+ghost use Rattle.mdns_history.specs.Sessions.{accepted_call, detached, is_number};
+ghost use Rattle.std.specs.Option.{unwrap_or};
+ghost use Rattle.mdns_history.specs.Items.{given_to, reply_of};
+ghost use Rattle.mdns_core.specs.Changes.{items_between};
+ghost use Rattle.mdns_core.specs.Settling.{called, brought_to, change_for, cuts_of, gifts_of};
+ghost use Rattle.mdns_core.specs.Next.{rrs_of};
+ghost use Rattle.mdns_core.specs.Kept.{session_of, sessions_of, HaveWellFormed, AreWellFormed, IsWellFormedCall};
+
+use crate::items::items_between;
+use crate::outcomes::reply_to;
+use crate::running::operations_after;
+use crate::session::SessionState;
+use mdns_history::{Event, Gifts, Given, Held, Items, Mark, Marks, Operation, Operations, Outcome};
+use sd_call::{Item, item_len};
+use std::alloc::{AllocError, Global};
+
+/// The most bytes of frames that are queued for a session.
+const QUEUE_LIMIT: usize = 16_777_216;
+
+/// What an event changes in a session: its operations, where they change, what it is brought, and whether that cuts it.
+#[derive(Drop)]
+pub struct SessionChange {
+    pub session: u64,
+    pub operations: Option<Operations>,
+    pub brought: Items,
+    pub cuts: bool,
+}
+
+/// The changes of all sessions, in their order. Refused only for want of memory.
+pub fn changes(
+    alloc: Global,
+    sessions: &[SessionState],
+    event: &Event,
+    outcome: &Outcome,
+    earlier: &[Held],
+    later: &[Held],
+) -> Result<Vec<SessionChange>, AllocError>
+    requires operations { HaveWellFormed (sessions_of sessions.now) }
+    requires call { IsWellFormedCall (accepted_call event.now outcome.now) }
+    ensures { IfOk result (λ changes. changes.items ≡ map (change_for event.now outcome.now (rrs_of earlier.now) (rrs_of later.now)) (sessions_of sessions.now)) }
+{
+    let mut changes = Vec::new(alloc);
+    for session in sessions {
+        changes.push(change(alloc, session, event, outcome, earlier, later)?)?;
+    }
+    Ok(changes)
+}
+
+fn change(
+    alloc: Global,
+    session: &SessionState,
+    event: &Event,
+    outcome: &Outcome,
+    earlier: &[Held],
+    later: &[Held],
+) -> Result<SessionChange, AllocError>
+    requires operations { AreWellFormed session.now.operations }
+    requires call { IsWellFormedCall (accepted_call event.now outcome.now) }
+    ensures { IfOk result (λ change. change ≡ change_for event.now outcome.now (rrs_of earlier.now) (rrs_of later.now) (session_of session.now)) }
+{
+    let operations = called(alloc, session, event, outcome)?;
+    let after = or_own(&operations, &session.operations);
+    let brought = bring(alloc, session, after, event, outcome, earlier, later)?;
+    let cuts = passes(session.outbox.bytes(), brought.as_slice());
+    Ok(SessionChange {
+        session: session.number,
+        operations,
+        brought,
+        cuts,
+    })
+}
+
+// The operations that a call leaves, or else those that were there.
+fn or_own<'a>(operations: &'a Option<Operations>, own: &'a Operations) -> &'a [Operation]
+    ensures { result.now ≡ unwrap_or operations.now own.now }
+{
+    match operations {
+        Some(operations) => operations.as_slice(),
+        None => own.as_slice(),
+    }
+}
+
+// What a session is brought: nothing where it was cut or is detached.
+fn bring(
+    alloc: Global,
+    session: &SessionState,
+    after: &[Operation],
+    event: &Event,
+    outcome: &Outcome,
+    earlier: &[Held],
+    later: &[Held],
+) -> Result<Items, AllocError>
+    requires before { AreWellFormed session.now.operations }
+    requires after { AreWellFormed after.now }
+    ensures { IfOk result (λ items. items ≡ (if is_none session.now.outbox.items || is_number session.now.number (detached event.now outcome.now) then []
+        else items_between (reply_of session.now.number event.now outcome.now) session.now.operations after.now (rrs_of earlier.now) (rrs_of later.now))) }
+{
+    if session.outbox.is_cut() || is_detached(session.number, event, outcome) {
+        return Ok(Items::new(alloc));
+    }
+    items_between(
+        alloc,
+        reply_to(session.number, event, outcome),
+        session.operations.as_slice(),
+        after,
+        earlier,
+        later,
+    )
+}
+
+// The operations that a call leaves to a session, where it is the session's and was accepted.
+fn called(
+    alloc: Global,
+    session: &SessionState,
+    event: &Event,
+    outcome: &Outcome,
+) -> Result<Option<Operations>, AllocError>
+    ensures { IfOk result (λ after. after ≡ called (accepted_call event.now outcome.now) session.now.number session.now.operations) }
+{
+    match (event, outcome) {
+        (
+            Event::Call {
+                session: caller,
+                op,
+                request,
+            },
+            Outcome::Code { code: 0 },
+        ) if *caller == session.number => {
+            let operations = session.operations.as_slice();
+            let after = operations_after(alloc, operations, *caller, *op, request)?;
+            Ok(Some(Operations::from_vec(after)))
+        }
+        _ => Ok(None),
+    }
+}
+
+/// Whether an event with its outcome detached the session of a number.
+pub fn is_detached(number: u64, event: &Event, outcome: &Outcome) -> bool
+    ensures { result ≡ is_number number (detached event.now outcome.now) }
+{
+    match (event, outcome) {
+        (Event::Detach { session }, Outcome::Ended) => *session == number,
+        _ => false,
+    }
+}
+
+// Whether items would pass the limit of a queue that has so many bytes.
+fn passes(bytes: usize, items: &[Item]) -> bool
+    requires { bytes ≤ 16777216 }
+    ensures { result ≡ nat_lt 16777216 (bytes + frames_len items.now) }
+{
+    let mut room = QUEUE_LIMIT - bytes;
+    for item in items {
+        let len = item_len(item);
+        if len > room {
+            return true;
+        }
+        room -= len;
+    }
+    false
+}
+
+/// Puts the marks of the sessions that are cut behind others. Refused only for want of memory.
+pub fn put_cuts(marks: &mut Marks, changes: &[SessionChange]) -> Result<(), AllocError>
+    ensures { OnOk result (marks.new ≡ marks.old ++ cuts_of changes.now) }
+{
+    for change in changes {
+        if change.cuts {
+            marks.push(Mark::Cut {
+                session: change.session,
+            })?;
+        }
+    }
+    Ok(())
+}
+
+/// What the sessions that aren't cut are given, copied. Refused only for want of memory.
+pub fn gifts(alloc: Global, changes: &[SessionChange]) -> Result<Gifts, AllocError>
+    ensures { IfOk result (λ gifts. gifts ≡ gifts_of changes.now) }
+{
+    let mut gifts = Gifts::new(alloc);
+    for change in changes {
+        if !change.cuts {
+            put_gifts(alloc, &mut gifts, change.session, change.brought.as_slice())?;
+        }
+    }
+    Ok(gifts)
+}
+
+fn put_gifts(
+    alloc: Global,
+    gifts: &mut Gifts,
+    session: u64,
+    items: &[Item],
+) -> Result<(), AllocError>
+    ensures { OnOk result (gifts.new ≡ gifts.old ++ map (given_to session) items.now) }
+{
+    for item in items {
+        let item = item.copy(alloc)?;
+        gifts.push(Given { session, item })?;
+    }
+    Ok(())
+}

@@ -1,0 +1,157 @@
+// What an event brings to a session: the reply to its call, what its operations have no more, and what they have newly.
+ghost use Rattle.std.specs.Prelude.{◌≡◌, ◌++◌, ◌∷◌, [], map, IfOk, OnOk, IsTrue, Option};
+ghost use Rattle.std.specs.List.{list_any, flat_map};
+ghost use Rattle.std.specs.Option.{option_to_list};
+ghost use Rattle.dns_name.specs.Lists.{without};
+ghost use Rattle.dns_record.specs.Records.{matches};
+ghost use Rattle.sd_call.specs.declared.item.Item.TheVariants as item;
+ghost use Rattle.sd_call.specs.Answers.{answer_eq};
+ghost use Rattle.sd_call.specs.Requests.{well_formed};
+ghost use Rattle.mdns_history.specs.Questions.{keys_of};
+ghost use Rattle.mdns_history.specs.Answers.{answers_over, matching};
+ghost use Rattle.mdns_core.specs.Changes.{had, lost, gained, items_between};
+ghost use Rattle.mdns_core.specs.Next.{rrs_of};
+ghost use Rattle.mdns_core.specs.Kept.{AreWellFormed};
+
+use dns_message::Rrs;
+use dns_record::{Key, Rr, matches};
+use mdns_history::{Held, Items, Operation};
+use sd_answer::{Answers, answers_of, questions_of};
+use sd_call::{Answer, Item, Request, answer_cmp};
+use std::alloc::{AllocError, Global};
+
+/// What a session is brought where its operations and the records that are live change from those before to those after.
+/// Refused only for want of memory.
+#[tactic(auto, unfolding(crate::specs::Changes::items_between))]
+pub fn items_between(
+    alloc: Global,
+    reply: Option<Item>,
+    before: &[Operation],
+    after: &[Operation],
+    earlier: &[Held],
+    later: &[Held],
+) -> Result<Items, AllocError>
+    requires before { AreWellFormed before.now }
+    requires after { AreWellFormed after.now }
+    ensures { IfOk result (λ items. items ≡ items_between reply before.now after.now (rrs_of earlier.now) (rrs_of later.now)) }
+{
+    let mut brought = Items::new(alloc);
+    if let Some(reply) = reply {
+        brought.push(reply)?;
+    }
+    let mut adds = Items::new(alloc);
+    for operation in after {
+        let had = had_by(alloc, before, operation.op, earlier)?;
+        let has = answers(alloc, &operation.request, later)?;
+        put_removes(
+            alloc,
+            &mut brought,
+            operation.op,
+            had.as_slice(),
+            has.as_slice(),
+        )?;
+        put_adds(
+            alloc,
+            &mut adds,
+            operation.op,
+            has.as_slice(),
+            had.as_slice(),
+        )?;
+    }
+    brought.append(adds)?;
+    Ok(brought)
+}
+
+// Removes what an operation had and has no more.
+fn put_removes(
+    alloc: Global,
+    items: &mut Items,
+    op: u32,
+    had: &[Answer],
+    has: &[Answer],
+) -> Result<(), AllocError>
+    ensures { OnOk result (items.new ≡ items.old ++ map (λ answer. item.Remove op answer) (without answer_eq had.now has.now)) }
+{
+    for answer in had {
+        if !is_among(answer, has) {
+            let answer = answer.copy(alloc)?;
+            items.push(Item::Remove { op, answer })?;
+        }
+    }
+    Ok(())
+}
+
+// Adds what an operation has and hadn't before.
+fn put_adds(
+    alloc: Global,
+    items: &mut Items,
+    op: u32,
+    has: &[Answer],
+    had: &[Answer],
+) -> Result<(), AllocError>
+    ensures { OnOk result (items.new ≡ items.old ++ map (λ answer. item.Add op answer) (without answer_eq has.now had.now)) }
+{
+    for answer in has {
+        if !is_among(answer, had) {
+            let answer = answer.copy(alloc)?;
+            items.push(Item::Add { op, answer })?;
+        }
+    }
+    Ok(())
+}
+
+// Whether an answer of the same bytes is among others.
+#[tactic(auto, unfolding(sd_call::specs::Answers::answer_eq))]
+fn is_among(answer: &Answer, others: &[Answer]) -> bool
+    ensures { result ≡ list_any (answer_eq answer.now) others.now }
+{
+    others.iter().any(|other| answer_cmp(answer, other).is_eq())
+}
+
+// What the operation of a number had, nothing where there was none.
+fn had_by(
+    alloc: Global,
+    before: &[Operation],
+    op: u32,
+    held: &[Held],
+) -> Result<Answers, AllocError>
+    requires { AreWellFormed before.now }
+    ensures { IfOk result (λ answers. answers ≡ had before.now (rrs_of held.now) op) }
+{
+    for operation in before {
+        if operation.op == op {
+            return answers(alloc, &operation.request, held);
+        }
+    }
+    Ok(Answers::new(alloc))
+}
+
+// The answers of a request over the records that are held.
+fn answers(alloc: Global, request: &Request, held: &[Held]) -> Result<Answers, AllocError>
+    requires { IsTrue (well_formed request.now) }
+    ensures { IfOk result (λ answers. answers ≡ answers_over request.now (rrs_of held.now)) }
+{
+    let questions = questions_of(request);
+    let rrs = asked(alloc, questions.as_slice(), held)?;
+    answers_of(alloc, request, &rrs)
+}
+
+// The held records that match one of the questions.
+#[tactic(auto, using(crate::proofs::Nexts::filter_map_swap))]
+fn asked(alloc: Global, questions: &[Key], held: &[Held]) -> Result<Rrs, AllocError>
+    ensures { IfOk result (λ rrs. rrs ≡ matching questions.now (rrs_of held.now)) }
+{
+    let mut rrs = Rrs::new(alloc);
+    for one in held {
+        if is_asked(questions, &one.rr) {
+            rrs.push(one.rr.copy(alloc)?)?;
+        }
+    }
+    Ok(rrs)
+}
+
+fn is_asked(questions: &[Key], rr: &Rr) -> bool
+    ensures { result ≡ list_any (λ key. matches key rr.now) questions.now }
+{
+    questions.iter().any(|question| matches(question, rr))
+}
