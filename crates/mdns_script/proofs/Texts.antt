@@ -1,5 +1,5 @@
 -- Bytes that are text.
-use Rattle.std.proofs.Common.{◌≡◌, ◌∙◌, Bool, true, false, cond, Option, Some, None, List, ℕ, sym, ap, refl}
+use Rattle.std.proofs.Common.{◌≡◌, Bool, true, false, cond, Some, None, List, ℕ, ap, refl}
 use Rattle.std.specs.Str.{is_utf8, IsUtf8}
 use Rattle.std.proofs.lemmas.Str.{is_utf8-from_IsUtf8, IsUtf8-from_is_utf8}
 use Rattle.mdns_script.specs.Tokens.{text_of}

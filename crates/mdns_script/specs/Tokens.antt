@@ -43,16 +43,16 @@ name_of bytes = do
   result_ok (read_name token)
 
 -- the byte that an item of a service type stands for: a bare dot is itself
-abbrev pub type_byte : TextItem → Option ℕ
-type_byte (Byte byte) = Some byte
-type_byte Dot = Some 46
-type_byte Bad = None
+abbrev pub item_byte : TextItem → Option ℕ
+item_byte (Byte byte) = Some byte
+item_byte Dot = Some 46
+item_byte Bad = None
 
 -- the bytes of the items of a service type
 abbrev pub type_spelled : List TextItem → Option (List ℕ)
 type_spelled [] = Some []
 type_spelled (item ∷ items) = do
-  byte ← type_byte item
+  byte ← item_byte item
   bytes ← type_spelled items
   Some (byte ∷ bytes)
 

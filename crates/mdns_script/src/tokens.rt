@@ -3,7 +3,7 @@ ghost use Rattle.std.specs.Prelude.{◌≡◌, ◌==◌, ◌++◌, ◌∷◌, �
 ghost use Rattle.std.specs.List.{slice_split};
 ghost use Rattle.std.specs.Option.{option_map};
 ghost use Rattle.txt_record.specs.Strings.{txt_data};
-ghost use Rattle.mdns_script.specs.Tokens.{text_of, is_whole, is_token, token_of, name_of, type_byte, type_read, label_bytes, type_bytes, label_of, type_of, string_of, strings_of, short_txt, txt_of};
+ghost use Rattle.mdns_script.specs.Tokens.{text_of, is_whole, is_token, token_of, name_of, item_byte, type_read, label_bytes, type_bytes, label_of, type_of, string_of, strings_of, short_txt, txt_of};
 
 use arrayvec::ArrayVec;
 use dns_name::{Name, TextItem, TextItems, read_label};
@@ -95,10 +95,10 @@ fn put_string(txt: &mut Vec<u8>, string: &[u8]) -> Result<(), AllocError>
     Ok(())
 }
 
-fn string(bytes: &[u8]) -> Option<ArrayVec<u8, 255>>
-    ensures { option_map (λ string. string.items) result ≡ string_of bytes.now }
+fn string(text: &[u8]) -> Option<ArrayVec<u8, 255>>
+    ensures { option_map (λ string. string.items) result ≡ string_of text.now }
 {
-    read_label(token(bytes)?.as_bytes())
+    read_label(token(text)?.as_bytes())
 }
 
 fn label_bytes(bytes: &[u8]) -> Option<ArrayVec<u8, 1024>>
@@ -126,14 +126,14 @@ fn read_type<const N: usize>(bytes: &[u8]) -> Option<ArrayVec<u8, N>>
     let mut regtype = ArrayVec::new();
     let mut items = TextItems::new(bytes);
     while let Some(item) = items.next_item() {
-        regtype.try_push(type_byte(item)?).ok()?;
+        regtype.try_push(item_byte(item)?).ok()?;
     }
     Some(regtype)
 }
 
 // The byte that an item of a service type stands for.
-fn type_byte(item: TextItem) -> Option<u8>
-    ensures { result ≡ type_byte item }
+fn item_byte(item: TextItem) -> Option<u8>
+    ensures { result ≡ item_byte item }
 {
     match item {
         TextItem::Byte(byte) => Some(byte),
