@@ -1,30 +1,17 @@
 -- What the lines of a script say: which are built so far, which aren't yet, and which are no lines.
-use Rattle.std.specs.Prelude.{ℕ, ◌==◌, ◌+◌, ◌^◌, nat_le, nat_lt, not, ◌&&◌, ◌||◌, Bool, false, if◌then◌else◌, List, [], ◌∷◌, Option, Some, None, option_and_then, codes}
+use Rattle.std.specs.Prelude.{ℕ, ◌==◌, ◌+◌, ◌^◌, nat_le, not, ◌&&◌, ◌||◌, Bool, false, if◌then◌else◌, List, [], ◌∷◌, Option, Some, None, codes}
 use Rattle.std.specs.Option.{option_map}
-use Rattle.std.specs.Result.{result_ok}
-use Rattle.std.specs.List.{list_all}
-use Rattle.std.specs.Str.{bytes_eq, is_utf8}
+use Rattle.std.specs.Str.{bytes_eq}
 use Rattle.mdns_base.specs.Cut.{cut_of}
 use Rattle.mdns_base.specs.declared.host.Host.{Host}
 use Rattle.mdns_base.specs.Digits.{decimal_of, decimal_below, ipv4_of, hex_of}
-use Rattle.dns_name.specs.ReadName.{read_name}
-use Rattle.dns_record.specs.ReadRecord.{kind_read}
-use Rattle.dns_record.specs.declared.record.Rr.{Rr}
-use Rattle.mdns_history.specs.Hearings.{brought, counted_records}
-use Rattle.sd_call.specs.declared.request.Request.TheVariants as request
 use Rattle.mdns_history.specs.declared.event.Event.TheVariants as event
+use Rattle.mdns_script.specs.Tokens.{◌>>=◌, when}
+use Rattle.mdns_script.specs.Requests.{request_of}
 use Rattle.mdns_script.specs.declared.command.Command.{Command}
 use Rattle.mdns_script.specs.declared.command.Command.TheVariants as commands
 use Rattle.mdns_script.specs.declared.command.Line.{Line}
 use Rattle.mdns_script.specs.declared.command.Line.TheVariants as lines
-
-infixl 10 ◌>>=◌
-abbrev pub ◌>>=◌ : {A B : Type 0} → Option A → (A → Option B) → Option B
-o >>= f = option_and_then f o
-
--- a value where a test passes
-abbrev pub when : {A : Type 0} → Bool → A → Option A
-when test value = if test then Some value else None
 
 -- the number of a daemon, 1 to 16
 abbrev pub daemon_of : List ℕ → Option ℕ
@@ -36,19 +23,29 @@ daemon_of text = do
 abbrev pub daemon_command : List ℕ → Option Command
 daemon_command text = option_map (λ n. commands.Daemon n (record { address = 167772160 + n; host = None })) (daemon_of text)
 
--- whether a record has a TTL above 0 and no flush bit: only such hearings are built so far
-abbrev pub is_lasting : Rr → Bool
-is_lasting rr = not rr.flush && nat_lt 0 rr.ttl
+-- `close K S`: the session ends
+unfoldable pub close_command : List ℕ → Option Command
+close_command text = do
+  daemon ← cut_of 32 text
+  n ← daemon_of daemon.0
+  session ← decimal_of daemon.1
+  Some (commands.Event n (event.Detach session))
 
--- the records that a packet brings
-abbrev pub brought_records : Host → List ℕ → List Rr
-brought_records from bytes = counted_records (brought (event.Hear from bytes))
+-- how many items are taken at most: 1 to 1000
+abbrev pub max_of : List ℕ → Option ℕ
+max_of text = do
+  n ← decimal_of text
+  when (nat_le 1 n && nat_le n 1000) n
 
--- bytes in hexadecimal, where each record that they bring lasts
-abbrev pub packet_of : Host → List ℕ → Option (List ℕ)
-packet_of from text = do
-  bytes ← hex_of text
-  when (list_all is_lasting (brought_records from bytes)) bytes
+-- `take K S N`
+unfoldable pub take_command : List ℕ → Option Command
+take_command text = do
+  daemon ← cut_of 32 text
+  session ← cut_of 32 daemon.1
+  n ← daemon_of daemon.0
+  s ← decimal_of session.0
+  max ← max_of session.1
+  Some (commands.Event n (event.Take s max))
 
 -- after `hear `: a daemon, an address and a port, and the text of a packet
 unfoldable pub hear_words : List ℕ → Option (ℕ × Host × List ℕ)
@@ -61,36 +58,30 @@ hear_words text = do
   p ← decimal_below (2 ^ 16) port.0
   Some (n, record { ip = ip; port = p }, port.1)
 
--- a packet that a daemon hears
-abbrev pub hearing : ℕ × Host × List ℕ → Option (List ℕ) → Option Command
-hearing words None = None
-hearing words (Some bytes) = Some (commands.Event words.0 (event.Hear words.1 bytes))
-
--- `hear K IPV4 PORT HEX`, where each record that the packet brings lasts
+-- `hear K IPV4 PORT HEX`
 abbrev pub hear_command : List ℕ → Option Command
-hear_command text = hear_words text >>= λ words. hearing words (packet_of words.1 words.2)
+hear_command text = do
+  words ← hear_words text
+  bytes ← hex_of words.2
+  Some (commands.Event words.0 (event.Hear words.1 bytes))
 
--- the name that bytes spell, where they are text
-abbrev pub name_of : List ℕ → Option (List (List ℕ))
-name_of text = if is_utf8 text then result_ok (read_name text) else None
-
--- the words `1` and `query`: the first session asks
-abbrev pub asks : List ℕ → List ℕ → Bool
-asks session query = bytes_eq session (codes "1") && bytes_eq query (codes "query")
-
--- `call K 1 OP query KIND NAME`
-unfoldable pub call_command : List ℕ → Option Command
-call_command text = do
+-- after `call `: a daemon, a session and the number of an operation, and the text of a request
+unfoldable pub call_words : List ℕ → Option (ℕ × ℕ × ℕ × List ℕ)
+call_words text = do
   daemon ← cut_of 32 text
   session ← cut_of 32 daemon.1
   op ← cut_of 32 session.1
-  query ← cut_of 32 op.1
-  kind ← cut_of 32 query.1
   n ← daemon_of daemon.0
+  s ← decimal_of session.0
   o ← decimal_below (2 ^ 32) op.0
-  k ← kind_read kind.0
-  name ← name_of kind.1
-  when (asks session.0 query.0) (commands.Event n (event.Call 1 o (request.Query k name)))
+  Some (n, s, o, op.1)
+
+-- `call K S OP REQUEST`
+abbrev pub call_command : List ℕ → Option Command
+call_command text = do
+  words ← call_words text
+  request ← request_of words.3
+  Some (commands.Event words.0 (event.Call words.1 words.2 request))
 
 -- a first word and what follows it
 abbrev pub command_of_words : List ℕ → List ℕ → Option Command
@@ -100,6 +91,8 @@ command_of_words word rest =
     else if bytes_eq word (codes "at") then option_map (λ n. commands.At n) (decimal_of rest)
     else if bytes_eq word (codes "call") then call_command rest
     else if bytes_eq word (codes "hear") then hear_command rest
+    else if bytes_eq word (codes "close") then close_command rest
+    else if bytes_eq word (codes "take") then take_command rest
     else None
 
 -- the command of a line of a form that is built

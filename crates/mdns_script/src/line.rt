@@ -1,25 +1,19 @@
 ghost use Rattle.std.specs.Prelude.{◌≡◌, Ok, IfOk};
 ghost use Rattle.std.specs.Option.{option_map};
-ghost use Rattle.std.specs.List.{list_all};
 ghost use Rattle.mdns_base.specs.Digits.{decimal_of};
-ghost use Rattle.mdns_history.specs.Hearings.{is_ignored, counted, counted_records};
-ghost use Rattle.mdns_script.specs.Lines.{line_of, is_read, first_of, is_known, command_of, command_of_words, daemon_command, call_command, name_of, hear_command, hear_words, packet_of, brought_records, is_lasting, daemon_of};
+ghost use Rattle.mdns_script.specs.Lines.{line_of, is_read, first_of, is_known, command_of, command_of_words, daemon_command, close_command, take_command, max_of, hear_command, hear_words, call_command, call_words, daemon_of};
 
+use crate::requests::request;
 use crate::{Command, Line};
-use dns_message::{Message, MessageError, read};
-use dns_name::Name;
-use dns_record::{Bytes, Rr, read_kind};
+use dns_record::Bytes;
 use mdns_base::{
     Host, cut_at, is_same, read_decimal, read_decimal_u16, read_decimal_u32, read_hex, read_ipv4,
 };
 use mdns_history::{Config, Event};
-use sd_call::Request;
 use std::alloc::{AllocError, Global};
 
 /// The address of daemon K without a host is this and K: 10.0.0.K.
 const NETWORK: u32 = 167_772_160;
-
-const MDNS_PORT: u16 = 5353;
 
 /// What a line asks for. The line is without its line feed and the carriage return before it. Only want of memory is an
 /// error.
@@ -100,10 +94,16 @@ fn command_of_words(alloc: Global, word: &[u8], rest: &[u8]) -> Result<Option<Co
         return Ok(at_command(rest));
     }
     if is_same(word, b"call") {
-        return Ok(call_command(rest));
+        return Ok(call_command(alloc, rest)?);
     }
     if is_same(word, b"hear") {
         return Ok(hear_command(alloc, rest)?);
+    }
+    if is_same(word, b"close") {
+        return Ok(close_command(rest));
+    }
+    if is_same(word, b"take") {
+        return Ok(take_command(rest));
     }
     Ok(None)
 }
@@ -135,41 +135,77 @@ fn at_command(text: &[u8]) -> Option<Command>
     Some(Command::At { moment })
 }
 
-#[tactic(auto, unfolding(crate::specs::Lines::call_command))]
-fn call_command(text: &[u8]) -> Option<Command>
-    ensures { result ≡ call_command text.now }
+#[tactic(auto, unfolding(crate::specs::Lines::close_command))]
+fn close_command(text: &[u8]) -> Option<Command>
+    ensures { result ≡ close_command text.now }
+{
+    let (daemon, session) = cut_at(text, b' ')?;
+    let daemon = daemon_number(daemon)?;
+    let session = read_decimal(session)?;
+    Some(Command::Event {
+        daemon,
+        event: Event::Detach { session },
+    })
+}
+
+#[tactic(auto, unfolding(crate::specs::Lines::take_command))]
+fn take_command(text: &[u8]) -> Option<Command>
+    ensures { result ≡ take_command text.now }
 {
     let (daemon, rest) = cut_at(text, b' ')?;
-    let (session, rest) = cut_at(rest, b' ')?;
-    let (op, rest) = cut_at(rest, b' ')?;
-    let (query, rest) = cut_at(rest, b' ')?;
-    let (kind, name) = cut_at(rest, b' ')?;
+    let (session, max) = cut_at(rest, b' ')?;
     let daemon = daemon_number(daemon)?;
-    let op = read_decimal_u32(op)?;
-    let kind = read_kind(kind)?;
-    let name = name_of(name)?;
-    if is_same(session, b"1") && is_same(query, b"query") {
-        Some(Command::Event {
-            daemon,
-            event: Event::Call {
-                session: 1,
-                op,
-                request: Request::Query { kind, name },
-            },
-        })
+    let session = read_decimal(session)?;
+    let max = max_number(max)?;
+    Some(Command::Event {
+        daemon,
+        event: Event::Take { session, max },
+    })
+}
+
+// How many items are taken at most, 1 to 1000.
+fn max_number(text: &[u8]) -> Option<u32>
+    ensures { result ≡ max_of text.now }
+{
+    let number = read_decimal(text)?;
+    if 1 <= number && number <= 1000 {
+        Some(number as u32)
     } else {
         None
     }
 }
 
-// The name that a text spells.
-fn name_of(text: &[u8]) -> Option<Name>
-    ensures { result ≡ name_of text.now }
+fn call_command(alloc: Global, text: &[u8]) -> Result<Option<Command>, AllocError>
+    ensures { IfOk result (λ found. found ≡ call_command text.now) }
 {
-    match str::from_utf8(text) {
-        Ok(text) => Name::parse_text(text).ok(),
-        Err(_) => None,
-    }
+    let Some((daemon, session, op, rest)) = call_words(text) else {
+        return Ok(None);
+    };
+    let Some(request) = request(alloc, rest)? else {
+        return Ok(None);
+    };
+    Ok(Some(Command::Event {
+        daemon,
+        event: Event::Call {
+            session,
+            op,
+            request,
+        },
+    }))
+}
+
+// The daemon, the session, the number of the operation, and the text of the request.
+#[tactic(auto, unfolding(crate::specs::Lines::call_words))]
+fn call_words(text: &[u8]) -> Option<(u32, u64, u32, &[u8])>
+    ensures { option_map (λ words. (words.0, words.1, words.2, words.3.now)) result ≡ call_words text.now }
+{
+    let (daemon, rest) = cut_at(text, b' ')?;
+    let (session, rest) = cut_at(rest, b' ')?;
+    let (op, rest) = cut_at(rest, b' ')?;
+    let daemon = daemon_number(daemon)?;
+    let session = read_decimal(session)?;
+    let op = read_decimal_u32(op)?;
+    Some((daemon, session, op, rest))
 }
 
 fn hear_command(alloc: Global, text: &[u8]) -> Result<Option<Command>, AllocError>
@@ -178,12 +214,15 @@ fn hear_command(alloc: Global, text: &[u8]) -> Result<Option<Command>, AllocErro
     let Some((daemon, from, hex)) = hear_words(text) else {
         return Ok(None);
     };
-    let Some(bytes) = packet(alloc, from, hex)? else {
+    let Some(bytes) = read_hex(alloc, hex)? else {
         return Ok(None);
     };
     Ok(Some(Command::Event {
         daemon,
-        event: Event::Hear { from, bytes },
+        event: Event::Hear {
+            from,
+            bytes: Bytes::from_vec(bytes),
+        },
     }))
 }
 
@@ -199,60 +238,6 @@ fn hear_words(text: &[u8]) -> Option<(u32, Host, &[u8])>
     let ip = read_ipv4(ip)?;
     let port = read_decimal_u16(port)?;
     Some((daemon, Host { ip, port }, hex))
-}
-
-// Bytes in hexadecimal that bring no record that cuts a life.
-fn packet(alloc: Global, from: Host, text: &[u8]) -> Result<Option<Bytes>, AllocError>
-    ensures { IfOk result (λ found. found ≡ packet_of from text.now) }
-{
-    let Some(bytes) = read_hex(alloc, text)? else {
-        return Ok(None);
-    };
-    let bytes = Bytes::from_vec(bytes);
-    if brings_lasting(alloc, from, bytes.as_slice())? {
-        Ok(Some(bytes))
-    } else {
-        Ok(None)
-    }
-}
-
-// Whether each record that a packet brings lasts.
-fn brings_lasting(alloc: Global, from: Host, bytes: &[u8]) -> Result<bool, AllocError>
-    ensures { IfOk result (λ told. told ≡ list_all is_lasting (brought_records from bytes.now)) }
-{
-    match read(alloc, bytes) {
-        Ok(message) => Ok(is_lasting_message(from, &message)),
-        Err(MessageError::NoMemory) => Err(AllocError),
-        Err(_) => Ok(true),
-    }
-}
-
-// Whether each record of a message lasts, as far as they count: those of a response that isn't ignored do.
-fn is_lasting_message(from: Host, message: &Message) -> bool
-    ensures { result ≡ list_all is_lasting (counted_records (counted from (Ok message.now))) }
-{
-    is_ignored(from, message)
-        || !message.response
-        || (are_lasting(message.answers.as_slice()) && are_lasting(message.additional.as_slice()))
-}
-
-fn is_ignored(from: Host, message: &Message) -> bool
-    ensures { result ≡ is_ignored from message.now }
-{
-    message.opcode != 0 || message.rcode != 0 || (message.response && from.port != MDNS_PORT)
-}
-
-fn are_lasting(rrs: &[Rr]) -> bool
-    ensures { result ≡ list_all is_lasting rrs.now }
-{
-    rrs.iter().all(is_lasting)
-}
-
-// Whether a record has a TTL above 0 and no flush bit.
-fn is_lasting(rr: &Rr) -> bool
-    ensures { result ≡ is_lasting rr.now }
-{
-    !rr.flush && rr.ttl > 0
 }
 
 // The number of a daemon, 1 to 16.
