@@ -1,5 +1,5 @@
 -- The next moment at which something is due is the least end of the live records.
-use Rattle.std.proofs.Common.{◌≡◌, ℕ, min, Bool, true, false, cond, not, ◌&&◌, ◌||◌, List, [], ◌∷◌, map, None, refl, ap, ◌∙◌, sym, arith}
+use Rattle.std.proofs.Common.{◌≡◌, ℕ, ◌<◌, min, Bool, true, false, cond, not, ◌&&◌, ◌||◌, List, [], ◌∷◌, map, None, IfSome, refl, ap, ◌∙◌, sym, subst, arith}
 use Rattle.std.proofs.lemmas.List.Sorted.{list_any-IsPermutation}
 use Rattle.std.specs.Prelude.{filter, nat_lt}
 use Rattle.std.specs.List.{list_any, list_all}
@@ -14,6 +14,7 @@ use Rattle.mdns_history.specs.Lifetimes.{is_live_at, held_from, renewals, live_o
 use Rattle.mdns_history.specs.Groups.{host_of}
 use Rattle.mdns_history.specs.Fitting.{IsLegal}
 use Rattle.mdns_history.specs.Due.{ends_none, NextDue}
+use Rattle.mdns_cache.specs.Lifetimes.{AllLive, next_end_of}
 use Rattle.mdns_core.proofs.Ticks.{is_idle-tick}
 
 -- all records live on where the least end is later
@@ -80,3 +81,19 @@ least_end-due past legal hostless (h ∷ hs) moved =
 
     ends : (t : ℕ) → ends_none past t ≡ nat_lt t m
     ends t = sym (list_all-IsPermutation (is_live_at t) (h ∷ hs) (live_records past (now past)) moved) ∙ all_least t h.end hs
+
+least_of-later : (t n : ℕ) (held : List Held) → t < n → AllLive t held → t < least_of n (map (λ h. h.end) held)
+least_of-later t n [] later live = later
+least_of-later t n (h ∷ held) later live =
+    let first : t < h.end = live.0 in
+    let others : t < least_of n (map (λ one. one.end) held) = least_of-later t n held later live.1 in
+    grind arith
+
+-- Where every held record ends after a moment, the least end is after it.
+pub least_end-later : (t : ℕ) (held : List Held) → AllLive t held → IfSome (next_end_of held) (λ due. t < due)
+least_end-later t [] live = tt
+least_end-later t (h ∷ held) live = least_of-later t h.end held live.0 live.1
+
+-- nothing that is held has ended where nothing is held
+pub all_live-none : (t : ℕ) (held : List Held) → held ≡ [] → AllLive t held
+all_live-none t held none = subst (λ (l : List Held). AllLive t l) (sym none) tt

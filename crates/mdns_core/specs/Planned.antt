@@ -7,7 +7,7 @@ use Rattle.mdns_history.specs.declared.mark.Mark.{Mark}
 use Rattle.mdns_history.specs.Hearings.{Hearing, brought, counted_records}
 use Rattle.mdns_history.specs.Lifetimes.{room_for_records}
 use Rattle.mdns_history.specs.Sessions.{accepted_call}
-use Rattle.mdns_cache.specs.Lifetimes.{Holds}
+use Rattle.mdns_cache.specs.Lifetimes.{Holds, AllLive}
 use Rattle.mdns_core.specs.declared.plan.Plan.{Plan}
 use Rattle.mdns_core.specs.State.{Session}
 use Rattle.mdns_core.specs.Codes.{kept_outcome}
@@ -21,6 +21,7 @@ pub record IsPlan (opened : ℕ) (sessions : List Session) (held : List Held) (n
   pub heard : (past : List Hearing) (before : ℕ) → before ≤ now → Holds held past before → IsHeard now word event past plan.cache.held refusal
   pub limit : plan.cache.limit ≡ room_for_records
   pub within : length plan.cache.held ≤ room_for_records
+  pub live : AllLive now plan.cache.held
   pub «data» : have_data (counted_records (brought event)) ≡ true
   pub outcome : plan.outcome ≡ kept_outcome opened sessions event
   pub well_formed : IsWellFormedCall (accepted_call event plan.outcome)

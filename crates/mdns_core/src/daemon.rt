@@ -1,5 +1,5 @@
 // The daemon: it keeps the records that are live and the sessions that are attached, and gives these what changes.
-ghost use Rattle.std.specs.Prelude.{◌≡◌, ◌<◌, ◌≤◌, ◌^◌, ◌∷◌, [], ℕ, List, length, vec_len, vec_capacity, IfOk, OnOk, OnErr, Option, Some, None, true, false};
+ghost use Rattle.std.specs.Prelude.{◌≡◌, ◌<◌, ◌≤◌, ◌^◌, ◌∷◌, [], ℕ, List, length, vec_len, vec_capacity, IfOk, IfSome, OnOk, OnErr, Option, Some, None, true, false};
 ghost use Rattle.std.specs.Option.{is_some, unwrap_or};
 ghost use Rattle.std.specs.List.{find};
 ghost use Rattle.sd_call.specs.Replay.{replay};
@@ -44,6 +44,7 @@ pub struct Daemon {
 impl Model for Daemon {
     ghost use Rattle.std.specs.Prelude.{◌≡◌, ◌≤◌, length};
     ghost use Rattle.mdns_history.specs.Lifetimes.{room_for_records};
+    ghost use Rattle.mdns_cache.specs.Lifetimes.{AllLive};
     ghost use Rattle.mdns_core.specs.State.{State};
 
     ghost Value = { State };
@@ -52,7 +53,7 @@ impl Model for Daemon {
 
     ghost view = { λ d. record { last = d.last; opened = d.opened; sessions = sessions_of d.sessions.items; held = d.cache.held } };
 
-    ghost invariant = { λ d. HaveWellFormed (sessions_of d.sessions.items) × (d.cache.limit ≡ room_for_records) × (length d.cache.held ≤ room_for_records) };
+    ghost invariant = { λ d. HaveWellFormed (sessions_of d.sessions.items) × (d.cache.limit ≡ room_for_records) × (length d.cache.held ≤ room_for_records) × AllLive d.last d.cache.held };
 }
 
 impl Daemon {
@@ -106,9 +107,11 @@ impl Daemon {
         find(&self.sessions, session).is_some()
     }
 
-    /// The next moment at which something is due: when the first of the live records ends. `None` where nothing ever is.
+    /// The next moment at which something is due, in milliseconds: when the first of the live records ends, which is after the
+    /// moment of the last entry. `None` where nothing ever is. (RFC 6762 section 10)
     pub fn next_due(&self) -> Option<u64>
         ensures due { (history : List Entry) → Stands self.now history → NextDue in_force history result }
+        ensures later { IfSome result (λ due. self.now.last < due) }
     {
         self.cache.next_end()
     }

@@ -40,6 +40,7 @@ pub fn hear_event<L: Ledger>(
         → IsHeard now word event.now past heard.cache.held heard.marks) }
     ensures limit { IfOk result (λ heard. heard.cache.limit ≡ room_for_records) }
     ensures within { IfOk result (λ heard. length heard.cache.held ≤ room_for_records) }
+    ensures live { IfOk result (λ heard. AllLive now heard.cache.held) }
     ensures parts { IfOk result (λ _. have_data (counted_records (brought event.now)) ≡ true) }
 {
     let live = without_ended(alloc, cache, now, steps)?;
@@ -87,6 +88,7 @@ fn hear_packet(
         → IsHeard now word (Event.Hear from.now bytes.now) past heard.cache.held heard.marks) }
     ensures limit { IfOk result (λ heard. heard.cache.limit ≡ room_for_records) }
     ensures within { IfOk result (λ heard. length heard.cache.held ≤ room_for_records) }
+    ensures live { IfOk result (λ heard. AllLive now heard.cache.held) }
     ensures parts { IfOk result (λ _. have_data (counted_records (brought (Event.Hear from.now bytes.now))) ≡ true) }
 {
     match read(alloc, bytes) {
@@ -132,6 +134,7 @@ fn hear_records(
         → AreHeard now word records past heard.cache.held heard.marks) }
     ensures limit { IfOk result (λ heard. heard.cache.limit ≡ room_for_records) }
     ensures within { IfOk result (λ heard. length heard.cache.held ≤ room_for_records) }
+    ensures live { IfOk result (λ heard. AllLive now heard.cache.held) }
 {
     match cache.hear(now, word, records) {
         Ok(()) => Ok(Heard {

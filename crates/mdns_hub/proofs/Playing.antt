@@ -1,6 +1,6 @@
 -- What the steps of a hub write and stand for, over plain values.
-use Rattle.std.proofs.Common.{◌≡◌, ℕ, ◌++◌, ◌∙◌, ◌&&◌, ◌≤◌, ◌⊎◌, ⊎_elim, inl, inr, Bool, true, false, eqb, max, take, List, [], ◌∷◌, Option, Some, None, refl, sym, ap, subst}
-use Rattle.std.specs.Option.{is_none}
+use Rattle.std.proofs.Common.{◌≡◌, ℕ, ◌++◌, ◌∙◌, ◌&&◌, ◌==◌, not, ◌≤◌, ◌⊎◌, ⊎_elim, inl, inr, Bool, true, false, max, take, List, [], ◌∷◌, Option, Some, None, refl, sym, ap, subst}
+use Rattle.std.specs.Option.{is_none, is_some}
 use Rattle.std.specs.Io.KnownBytes.{Appends}
 use Rattle.std.proofs.lemmas.Bool.{false≢true}
 use Rattle.mdns_history.specs.declared.config.Config.{Config}
@@ -8,23 +8,28 @@ use Rattle.mdns_history.specs.declared.event.Event.{Event}
 use Rattle.mdns_history.specs.declared.event.Event.TheVariants as event
 use Rattle.mdns_history.specs.declared.entry.Entry.{Entry}
 use Rattle.mdns_history.specs.EntryText.{entry_text, history_text}
-use Rattle.mdns_script.specs.declared.command.Command.{Command}
-use Rattle.mdns_script.specs.declared.command.Command.TheVariants.{Pass, Daemon, At, Attach, Event as Happening}
-use Rattle.mdns_core.specs.declared.operation.Operation.{Operation}
+use Rattle.dns_message.specs.Packing.{pack_reply}
 use Rattle.mdns_history.specs.Hearings.{hearings}
 use Rattle.mdns_history.specs.Lifetimes.{live_of, live_records}
-use Rattle.mdns_core.specs.Operations.{may}
-use Rattle.mdns_history.specs.Fitting.{last_moment}
-use Rattle.mdns_core.specs.Entries.{Fits, bare_entry, boot_entry}
-use Rattle.mdns_core.specs.Due.{IsNextDue}
+use Rattle.mdns_history.specs.Sessions.{is_number, attached_sessions}
+use Rattle.mdns_history.specs.Groups.{groups, registered_count, registration_in}
+use Rattle.mdns_history.specs.Sureness.{sure_groups}
+use Rattle.mdns_history.specs.Items.{served_sessions, cut_marks, given_items}
+use Rattle.mdns_history.specs.Outcomes.{early_outcome}
+use Rattle.mdns_history.specs.Sending.{tick_sends}
+use Rattle.mdns_script.specs.declared.command.Command.{Command}
+use Rattle.mdns_script.specs.declared.command.Command.TheVariants.{Daemon, At, Attach, Event as Happening}
+use Rattle.mdns_history.specs.InForce.{in_force}
+use Rattle.mdns_history.specs.Fitting.{Fits, boot_entry, is_boot, last_moment, next_entry}
+use Rattle.mdns_history.specs.Due.{IsNextDue, NextDue, is_idle}
 use Rattle.mdns_core.specs.State.{State, Stands}
 use Rattle.mdns_hub.specs.declared.hub.Hub.{Hub}
 use Rattle.mdns_hub.specs.declared.hub.Booted.{Booted}
 use Rattle.mdns_hub.specs.Played.{Played, transcript, IsAt, Happens, Boots, AreTicks, IsTick, IsIdleUntil, RunsTo}
-use Rattle.mdns_hub.specs.Plays.{may_run_to, may_happen, is_ready, Does, Plays}
+use Rattle.mdns_hub.specs.Plays.{may_run_to, is_ready_at, is_ready, Does, Plays}
 use Rattle.mdns_hub.specs.Output.{Gains, Fronts, OrNothing, RunsPartTo, DoesPart, PlaysPart}
 use Rattle.mdns_hub.proofs.Written.{gains_then, gains_appends, fronts_then, fronts_appends, fronts_nothing}
-use Rattle.mdns_hub.specs.Hubs.{StandsFor, BootedFor, Advances, BreaksIn, may_happen_at, hub_ready}
+use Rattle.mdns_hub.specs.Hubs.{StandsFor, BootedFor, Advances, BreaksIn, number_of, hub_ready}
 
 -- gains told of the print of a numbered history are gains of what was played
 gains_numbered : (old new : Option (List ℕ)) (played : Played) (number : ℕ) (history : List Entry) → played.number ≡ Some number
@@ -41,7 +46,7 @@ fronts_numbered old new played number history e g = rw e g
 
 pub happens : (old new : Option (List ℕ)) (clock number : ℕ) (before after : State) (happening : Event) (played : Played)
     → clock ≡ played.clock → played.number ≡ Some number → Stands before played.history
-    → ((history : List Entry) → Stands before history → (entry : Entry) × Fits entry history × IsAt entry clock happening × Stands after (entry ∷ history) × Appends old new (entry_text number entry))
+    → ((history : List Entry) → Stands before history → (entry : Entry) × Fits in_force entry history × IsAt entry clock happening × Stands after (entry ∷ history) × Appends old new (entry_text number entry))
     → (next : Played) × Happens happening played next × (clock ≡ next.clock) × (next.number ≡ Some number) × Stands after next.history × Gains old new (transcript played) (transcript next)
 happens old new clock number before after happening played now numbered stands done =
     let d = done played.history stands in (
@@ -55,7 +60,7 @@ happens old new clock number before after happening played now numbered stands d
 
 pub happens_part : (old new : Option (List ℕ)) (clock number : ℕ) (before : State) (happening : Event) (played : Played)
     → clock ≡ played.clock → played.number ≡ Some number → Stands before played.history
-    → ((history : List Entry) → Stands before history → (new ≡ old) ⊎ ((entry : Entry) × Fits entry history × IsAt entry clock happening × ((n : ℕ) × Appends old new (take n (entry_text number entry)))))
+    → ((history : List Entry) → Stands before history → (new ≡ old) ⊎ ((entry : Entry) × Fits in_force entry history × IsAt entry clock happening × ((n : ℕ) × Appends old new (take n (entry_text number entry)))))
     → (reached : Played) × OrNothing (Happens happening) played reached × Fronts old new (transcript played) (transcript reached)
 happens_part old new clock number before happening played now numbered stands part =
     ⊎_elim
@@ -69,49 +74,49 @@ happens_part old new clock number before happening played now numbered stands pa
 
 -- what is played after a boot
 abbrev booted_played : Played → ℕ → ℕ → Config → Played
-booted_played played clock number config = record { clock = played.clock; number = Some number; history = boot_entry clock 0 config.address ∷ [] }
+booted_played played clock number config = record { clock = played.clock; number = Some number; history = boot_entry clock 0 config ∷ [] }
 
-boots_is : (played : Played) (clock number : ℕ) (config : Config) → clock ≡ played.clock → clock ≤ last_moment → config.host ≡ None → Boots number config played (booted_played played clock number config)
-boots_is played clock number config now in_time alone = record {
+boots_is : (played : Played) (clock number : ℕ) (config : Config) → clock ≡ played.clock → clock ≤ last_moment → Boots number config played (booted_played played clock number config)
+boots_is played clock number config now in_time = record {
   in_time = subst (λ (n : ℕ). n ≤ last_moment) now in_time;
-  after_is = rw (← now) (ap (λ (h : _). record { clock = clock; number = Some number; history = bare_entry clock 0 (event.Boot (record { address = config.address; host = h })) ∷ [] }) (sym alone));
+  after_is = rw (← now) refl;
 }
 
 pub boots : (old new : Option (List ℕ)) (clock number : ℕ) (config : Config) (after : State) (played : Played)
-    → clock ≡ played.clock → played.number ≡ None → clock ≤ last_moment → config.host ≡ None
-    → Stands after (boot_entry clock 0 config.address ∷ []) → Appends old new (entry_text number (boot_entry clock 0 config.address))
+    → clock ≡ played.clock → played.number ≡ None → clock ≤ last_moment
+    → Stands after (boot_entry clock 0 config ∷ []) → Appends old new (entry_text number (boot_entry clock 0 config))
     → (next : Played) × Boots number config played next × (clock ≡ next.clock) × (next.number ≡ Some number) × Stands after next.history × Gains old new (transcript played) (transcript next)
-boots old new clock number config after played now none in_time alone stands appended = (
+boots old new clock number config after played now none in_time stands appended = (
   booted_played played clock number config,
-  boots_is played clock number config now in_time alone,
+  boots_is played clock number config now in_time,
   now,
   refl,
   stands,
-  rw none (gains_appends old new [] (entry_text number (boot_entry clock 0 config.address)) appended),
+  rw none (gains_appends old new [] (entry_text number (boot_entry clock 0 config)) appended),
 )
 
 pub boots_part : (old new : Option (List ℕ)) (clock number : ℕ) (config : Config) (played : Played)
-    → clock ≡ played.clock → played.number ≡ None → clock ≤ last_moment → config.host ≡ None
-    → (n : ℕ) × Appends old new (take n (entry_text number (boot_entry clock 0 config.address)))
+    → clock ≡ played.clock → played.number ≡ None → clock ≤ last_moment
+    → (n : ℕ) × Appends old new (take n (entry_text number (boot_entry clock 0 config)))
     → (reached : Played) × OrNothing (Boots number config) played reached × Fronts old new (transcript played) (transcript reached)
-boots_part old new clock number config played now none in_time alone part = (
+boots_part old new clock number config played now none in_time part = (
   booted_played played clock number config,
-  inl (boots_is played clock number config now in_time alone),
-  rw none (fronts_appends old new [] (entry_text number (boot_entry clock 0 config.address)) part),
+  inl (boots_is played clock number config now in_time),
+  rw none (fronts_appends old new [] (entry_text number (boot_entry clock 0 config)) part),
 )
 
 -- Ticks.
 
 -- a tick at the greater of the moment at which it is due and the current one
-tick_is : (clock until due moment : ℕ) (history : List Entry) (entry : Entry) → IsNextDue history (Some due) → due ≤ until → moment ≡ max due clock
-    → Fits entry history → IsAt entry moment event.Tick → IsTick clock until history entry
+tick_is : (clock until due moment : ℕ) (history : List Entry) (entry : Entry) → IsNextDue in_force history due → due ≤ until → moment ≡ max due clock
+    → Fits in_force entry history → IsAt entry moment event.Tick → IsTick clock until history entry
 tick_is clock until due moment history entry next by greater fits is =
     record { due = due; next = next; by = by; fits = fits; is = subst (λ (n : ℕ). IsAt entry n event.Tick) greater is }
 
 -- one more tick was done
 pub ticks_more : (old mid new : Option (List ℕ)) (clock until due moment number : ℕ) (after : State) (history ticks : List Entry) → AreTicks clock until history ticks
-    → Gains old mid (history_text number history) (history_text number (ticks ++ history)) → IsNextDue (ticks ++ history) (Some due) → due ≤ until → moment ≡ max due clock
-    → (entry : Entry) × Fits entry (ticks ++ history) × IsAt entry moment event.Tick × Stands after (entry ∷ ticks ++ history) × Appends mid new (entry_text number entry)
+    → Gains old mid (history_text number history) (history_text number (ticks ++ history)) → IsNextDue in_force (ticks ++ history) due → due ≤ until → moment ≡ max due clock
+    → (entry : Entry) × Fits in_force entry (ticks ++ history) × IsAt entry moment event.Tick × Stands after (entry ∷ ticks ++ history) × Appends mid new (entry_text number entry)
     → (all : List Entry) × AreTicks clock until history all × Stands after (all ++ history) × Gains old new (history_text number history) (history_text number (all ++ history))
 ticks_more old mid new clock until due moment number after history ticks are gains next by greater one =
     let then = history_text number (ticks ++ history) in (
@@ -123,8 +128,8 @@ ticks_more old mid new clock until due moment number after history ticks are gai
 
 -- one more tick was broken off
 pub ticks_part : (old mid new : Option (List ℕ)) (clock until due moment number : ℕ) (history ticks : List Entry) → AreTicks clock until history ticks
-    → Gains old mid (history_text number history) (history_text number (ticks ++ history)) → IsNextDue (ticks ++ history) (Some due) → due ≤ until → moment ≡ max due clock
-    → (new ≡ mid) ⊎ ((entry : Entry) × Fits entry (ticks ++ history) × IsAt entry moment event.Tick × ((n : ℕ) × Appends mid new (take n (entry_text number entry))))
+    → Gains old mid (history_text number history) (history_text number (ticks ++ history)) → IsNextDue in_force (ticks ++ history) due → due ≤ until → moment ≡ max due clock
+    → (new ≡ mid) ⊎ ((entry : Entry) × Fits in_force entry (ticks ++ history) × IsAt entry moment event.Tick × ((n : ℕ) × Appends mid new (take n (entry_text number entry))))
     → (all : List Entry) × AreTicks clock until history all × Fronts old new (history_text number history) (history_text number (all ++ history))
 ticks_part old mid new clock until due moment number history ticks are gains next by greater (inl same) =
     let then = history_text number (ticks ++ history) in
@@ -161,16 +166,20 @@ runs_to_part old new clock until number before played now numbered stands part =
       fronts_numbered old new played number (d.0 ++ played.history) numbered d.2,
     )
 
+-- a tick before the boot does nothing
+idle_at_start : (moment : ℕ) → is_idle in_force [] moment ≡ true
+unfolding is_idle next_entry early_outcome in_force tick_sends sure_groups groups registered_count served_sessions attached_sessions cut_marks given_items live_records live_of hearings registration_in pack_reply
+idle_at_start moment = refl
+
 -- nothing is due before the boot
-never_due : IsNextDue [] None
-unfolding live_records live_of hearings
-never_due = refl
+never_due : NextDue in_force [] None
+never_due = λ moment _. idle_at_start moment
 
 pub runs_to-none : (until : ℕ) (played : Played) → played.history ≡ [] → RunsTo until played (record { clock = until; number = played.number; history = played.history })
 runs_to-none until played none = record {
   ticks = [];
   are = tt;
-  idle = record { due = None; next = subst (λ (h : List Entry). IsNextDue h None) (sym none) never_due; over = tt };
+  idle = record { due = None; next = subst (λ (h : List Entry). NextDue in_force h None) (sym none) never_due; over = tt };
   after_is = refl;
 }
 
@@ -180,21 +189,49 @@ pub none_from : {T : Type 0} (o : Option T) → is_none o ≡ true → o ≡ Non
 none_from None h = refl
 none_from (Some x) h = absurd (false≢true h)
 
-may_happen_same : (b : Option Booted) (played : Played) (number : ℕ) (happening : Event) → BootedFor b played → may_happen_at b number happening ≡ may_happen played number happening
-may_happen_same None played number happening h = rw h.0 refl
-may_happen_same (Some booted) played number happening h = rw (h.0, ← h.1.attached, ← h.1.operation) refl
+number_same : (b : Option Booted) (played : Played) → BootedFor b played → number_of b ≡ played.number
+number_same None played h = sym h.0
+number_same (Some booted) played h = sym h.0
 
 pub ready_same : (hub : Hub) (played : Played) (command : Command) → StandsFor hub played → hub_ready hub command ≡ is_ready played command
-unfolding is_ready
-ready_same hub played Pass of = refl
-ready_same hub played (Daemon number config) of = at_booted hub.booted of.booted
+ready_same hub played command of =
+    ap (λ (n : ℕ). is_ready_at n (number_of hub.booted) command) of.clock
+    ∙ ap (λ (o : Option ℕ). is_ready_at played.clock o command) (number_same hub.booted played of.booted)
+
+-- what a command that is ready asks of the hub
+
+pub ready_boot : (hub : Hub) (command : Command) (number : ℕ) (config : Config) → command ≡ Daemon number config → hub_ready hub command ≡ true → (is_none hub.booted ≡ true) × (is_none config.host ≡ true)
+unfolding is_ready_at
+ready_boot hub command number config is ready = of hub.booted (is_none config.host) (subst (λ (x : Command). hub_ready hub x ≡ true) is ready)
   where
-    at_booted : (b : Option Booted) → BootedFor b played → (is_none b && is_none config.host) ≡ (is_none played.number && is_none config.host)
-    at_booted None h = rw h.0 refl
-    at_booted (Some booted) h = rw h.0 refl
-ready_same hub played (At moment) of = ap (λ (n : ℕ). may_run_to n moment) of.clock
-ready_same hub played (Attach number) of = may_happen_same hub.booted played number event.Attach of.booted
-ready_same hub played (Happening number happening) of = may_happen_same hub.booted played number happening of.booted
+    of : (b : Option Booted) (h : Bool) → (is_none (number_of b) && h) ≡ true → (is_none b ≡ true) × (h ≡ true)
+    of None h e = (refl, e)
+    of (Some booted) h e = absurd (false≢true e)
+
+pub ready_run : (hub : Hub) (command : Command) (moment : ℕ) → command ≡ At moment → hub_ready hub command ≡ true → may_run_to hub.clock moment ≡ true
+unfolding is_ready_at
+ready_run hub command moment is ready = subst (λ (x : Command). hub_ready hub x ≡ true) is ready
+
+pub ready_attach : (hub : Hub) (command : Command) (number : ℕ) → command ≡ Attach number → hub_ready hub command ≡ true → is_some hub.booted ≡ true
+unfolding is_ready_at
+ready_attach hub command number is ready = of hub.booted (subst (λ (x : Command). hub_ready hub x ≡ true) is ready)
+  where
+    of : (b : Option Booted) → is_number number (number_of b) ≡ true → is_some b ≡ true
+    of None e = absurd (false≢true e)
+    of (Some booted) e = refl
+
+pub ready_event : (hub : Hub) (command : Command) (number : ℕ) (happening : Event) → command ≡ Happening number happening → hub_ready hub command ≡ true → (is_some hub.booted ≡ true) × (is_boot happening ≡ false)
+unfolding is_ready_at
+ready_event hub command number happening is ready = of hub.booted (is_boot happening) (subst (λ (x : Command). hub_ready hub x ≡ true) is ready)
+  where
+    never : (b : Bool) → (b && false) ≡ false
+    never true = refl
+    never false = refl
+
+    of : (b : Option Booted) (boots : Bool) → (is_number number (number_of b) && not boots) ≡ true → (is_some b ≡ true) × (boots ≡ false)
+    of None boots e = absurd (false≢true e)
+    of (Some booted) false e = (refl, refl)
+    of (Some booted) true e = absurd (false≢true (sym (never (booted.number == number)) ∙ e))
 
 -- Commands.
 

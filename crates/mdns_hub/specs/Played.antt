@@ -5,9 +5,9 @@ use Rattle.mdns_history.specs.declared.event.Event.{Event}
 use Rattle.mdns_history.specs.declared.event.Event.TheVariants as event
 use Rattle.mdns_history.specs.declared.entry.Entry.{Entry}
 use Rattle.mdns_history.specs.EntryText.{history_text}
-use Rattle.mdns_history.specs.Fitting.{last_moment}
-use Rattle.mdns_core.specs.Entries.{Fits, bare_entry}
-use Rattle.mdns_core.specs.Due.{IsNextDue}
+use Rattle.mdns_history.specs.InForce.{in_force}
+use Rattle.mdns_history.specs.Fitting.{Fits, boot_entry, last_moment}
+use Rattle.mdns_history.specs.Due.{IsNextDue, NextDue}
 
 -- the current moment, the daemon's number where one was booted, and its history
 pub record Played : Type 0 where
@@ -37,21 +37,21 @@ pub record IsAt (entry : Entry) (moment : ℕ) (event : Event) : Type 0 where
 -- An event happens to the daemon at the current moment.
 pub record Happens (event : Event) (before after : Played) : Type 0 where
   pub entry : Entry
-  pub fits : Fits entry before.history
+  pub fits : Fits in_force entry before.history
   pub is : IsAt entry before.clock event
   pub after_is : after ≡ record { clock = before.clock; number = before.number; history = entry ∷ before.history }
 
 -- A daemon is booted at the current moment.
 pub record Boots (number : ℕ) (config : Config) (before after : Played) : Type 0 where
   pub in_time : before.clock ≤ last_moment
-  pub after_is : after ≡ record { clock = before.clock; number = Some number; history = bare_entry before.clock 0 (event.Boot config) ∷ [] }
+  pub after_is : after ≡ record { clock = before.clock; number = Some number; history = boot_entry before.clock 0 config ∷ [] }
 
 -- a tick of the daemon that is due by a moment
 pub record IsTick (clock until : ℕ) (history : List Entry) (entry : Entry) : Type 0 where
   pub due : ℕ
-  pub next : IsNextDue history (Some due)
+  pub next : IsNextDue in_force history due
   pub by : due ≤ until
-  pub fits : Fits entry history
+  pub fits : Fits in_force entry history
   pub is : IsAt entry (max due clock) event.Tick
 
 -- these entries, the newest first, are ticks one after another
@@ -62,7 +62,7 @@ AreTicks clock until history (entry ∷ more) = AreTicks clock until history mor
 -- nothing is due by a moment
 pub record IsIdleUntil (until : ℕ) (history : List Entry) : Type 0 where
   pub due : Option ℕ
-  pub next : IsNextDue history due
+  pub next : NextDue in_force history due
   pub over : IfSome due (λ moment. until < moment)
 
 -- All is done that is due by a moment, and that is the current moment then.

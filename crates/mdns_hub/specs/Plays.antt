@@ -1,32 +1,28 @@
--- What it is for a command to be played. So far there is one daemon with one session.
-use Rattle.std.specs.Prelude.{◌≡◌, ℕ, ◌==◌, ◌-◌, ◌^◌, nat_le, ◌&&◌, Bool, true, false, Option, Some, None, is_none}
-use Rattle.mdns_history.specs.declared.event.Event.{Event}
+-- What it is for a command to be played. So far there is one daemon.
+use Rattle.std.specs.Prelude.{◌≡◌, ℕ, ◌-◌, ◌^◌, nat_le, not, ◌&&◌, Bool, true, Option, is_none}
 use Rattle.mdns_history.specs.declared.event.Event.TheVariants as event
+use Rattle.mdns_history.specs.Sessions.{is_number}
+use Rattle.mdns_history.specs.Fitting.{is_boot}
 use Rattle.mdns_script.specs.declared.command.Command.{Command}
 use Rattle.mdns_script.specs.declared.command.Command.TheVariants.{Pass, Daemon, At, Attach, Event as Happening}
-use Rattle.mdns_core.specs.Operations.{is_attached, operation_of, may}
 use Rattle.mdns_hub.specs.Played.{Played, Happens, Boots, RunsTo}
-
--- whether a number is there, and is this one
-abbrev pub is_number : Option ℕ → ℕ → Bool
-is_number None number = false
-is_number (Some other) number = other == number
 
 -- whether a moment may be run to: it isn't past, it isn't after the last moment, and it is at most a day ahead
 abbrev pub may_run_to : ℕ → ℕ → Bool
 may_run_to clock moment = (nat_le clock moment && nat_le moment (2 ^ 53)) && nat_le (moment - clock) 86400000
 
--- whether an event may happen to the daemon of a number
-abbrev pub may_happen : Played → ℕ → Event → Bool
-may_happen played number event = is_number played.number number && may (is_attached played.history) (operation_of played.history) event
+-- Whether a command's line is built at a moment, told of the number of the daemon that was booted: one daemon without a host is booted
+-- once, and every event but a boot may happen to it.
+unfoldable pub is_ready_at : ℕ → Option ℕ → Command → Bool
+is_ready_at clock booted Pass = true
+is_ready_at clock booted (Daemon number config) = is_none booted && is_none config.host
+is_ready_at clock booted (At moment) = may_run_to clock moment
+is_ready_at clock booted (Attach number) = is_number number booted
+is_ready_at clock booted (Happening number event) = is_number number booted && not (is_boot event)
 
--- Whether a command's line is built at this place of the script: one daemon without a host is booted once, and events are its own.
-unfoldable pub is_ready : Played → Command → Bool
-is_ready played Pass = true
-is_ready played (Daemon number config) = is_none played.number && is_none config.host
-is_ready played (At moment) = may_run_to played.clock moment
-is_ready played (Attach number) = may_happen played number event.Attach
-is_ready played (Happening number event) = may_happen played number event
+-- whether a command's line is built at this place of the script
+abbrev pub is_ready : Played → Command → Bool
+is_ready played command = is_ready_at played.clock played.number command
 
 -- what a command does
 abbrev pub Does : Command → Played → Played → Type 0

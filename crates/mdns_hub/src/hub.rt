@@ -1,6 +1,7 @@
 // A script's commands, done on a daemon.
-ghost use Rattle.std.specs.Prelude.{◌≤◌, ◌^◌};
+ghost use Rattle.std.specs.Prelude.{◌≡◌, ◌≤◌, ◌^◌};
 ghost use Rattle.std.specs.Option.{ForSome};
+ghost use Rattle.mdns_history.specs.Fitting.{is_boot};
 
 use crate::HubError;
 use crate::steps::{put_entry, step, tick_to};
@@ -34,11 +35,12 @@ pub struct Hub {
 }
 
 impl Hub {
-    ghost use Rattle.std.specs.Prelude.{◌≡◌, ◌↔◌, true, false, None, Err, is_none, OnOk, OnErr};
+    ghost use Rattle.std.specs.Prelude.{◌≡◌, ◌↔◌, true, false, None, Err, is_none, is_some, OnOk, OnErr};
     ghost use Rattle.mdns_hub.specs.Played.{Played, start, Happens, Boots, RunsTo};
     ghost use Rattle.mdns_hub.specs.Plays.{is_ready, may_run_to, Does, Plays};
+    ghost use Rattle.mdns_history.specs.Sessions.{is_number};
     ghost use Rattle.mdns_hub.specs.Output.{HasWriteCause, DoesPart, PlaysPart, OrNothing};
-    ghost use Rattle.mdns_hub.specs.Hubs.{StandsFor, Advances, BreaksIn, hub_ready, may_happen_at, MayHappen};
+    ghost use Rattle.mdns_hub.specs.Hubs.{StandsFor, Advances, BreaksIn, number_of, hub_ready};
 
     /// A hub on which nothing was played. It takes no memory.
     pub fn new(alloc: Global) -> Self
@@ -70,6 +72,7 @@ impl Hub {
     }
 
     // Whether the command is built at this place of the script.
+    #[tactic(auto, unfolding(crate::specs::Plays::is_ready_at))]
     fn is_ready(&self, command: &Command) -> bool
         ensures { result ≡ hub_ready self.now command.now }
     {
@@ -77,8 +80,8 @@ impl Hub {
             Command::Pass => true,
             Command::Daemon { config, .. } => self.booted.is_none() && config.host.is_none(),
             Command::At { moment } => self.may_run_to(*moment),
-            Command::Attach { daemon } => self.may_happen(*daemon, &Event::Attach),
-            Command::Event { daemon, event } => self.may_happen(*daemon, event),
+            Command::Attach { daemon } => self.is_booted(*daemon),
+            Command::Event { daemon, event } => self.is_booted(*daemon) && !is_boot(event),
         }
     }
 
@@ -88,11 +91,12 @@ impl Hub {
         self.clock <= moment && moment <= LAST_MOMENT && moment - self.clock <= MOST_AHEAD
     }
 
-    fn may_happen(&self, number: u32, event: &Event) -> bool
-        ensures { result ≡ may_happen_at self.now.booted number event.now }
+    // Whether the daemon of a number is the one that was booted.
+    fn is_booted(&self, number: u32) -> bool
+        ensures { result ≡ is_number number (number_of self.now.booted) }
     {
         match &self.booted {
-            Some(booted) => booted.number == number && booted.daemon.may(event),
+            Some(booted) => booted.number == number,
             None => false,
         }
     }
@@ -108,28 +112,23 @@ impl Hub {
     {
         match command {
             Command::Pass => Ok(()),
-            Command::Daemon { number, config } => self.boot(number, &config, output),
+            Command::Daemon { number, config } => self.boot(number, config, output),
             Command::At { moment } => self.run_to(moment, output),
             Command::Attach { .. } => self.happen(Event::Attach, output),
             Command::Event { event, .. } => self.happen(event, output),
         }
     }
 
-    fn boot<K: Sink>(
-        &mut self,
-        number: u32,
-        config: &Config,
-        output: &mut K,
-    ) -> Result<(), HubError>
+    fn boot<K: Sink>(&mut self, number: u32, config: Config, output: &mut K) -> Result<(), HubError>
         requires free { is_none self.old.booted ≡ true }
-        requires host { is_none config.now.host ≡ true }
+        requires host { is_none config.host ≡ true }
 
-        ensures done { OnOk result (Advances (Boots number config.now) self.old self.new (K.held output.old) (K.held output.new)) }
-        ensures part { OnErr result (BreaksIn (OrNothing (Boots number config.now)) self.old (K.held output.old) (K.held output.new)) }
+        ensures done { OnOk result (Advances (Boots number config) self.old self.new (K.held output.old) (K.held output.new)) }
+        ensures part { OnErr result (BreaksIn (OrNothing (Boots number config)) self.old (K.held output.old) (K.held output.new)) }
         ensures cause { HasWriteCause (K.faults output.old) (K.faults output.new) result }
         ensures ready { result ≡ Err HubError.NotYet → ⊥ }
     {
-        let (daemon, entry) = Daemon::new(self.alloc, config.address, self.clock, 0);
+        let (daemon, entry) = Daemon::new(self.alloc, config, self.clock, 0)?;
         put_entry(self.alloc, number, &entry, output)?;
         self.booted = Some(Booted { number, daemon });
         Ok(())
@@ -165,7 +164,8 @@ impl Hub {
     }
 
     fn happen<K: Sink>(&mut self, event: Event, output: &mut K) -> Result<(), HubError>
-        requires { MayHappen self.old.booted event }
+        requires some { is_some self.old.booted ≡ true }
+        requires no_boot { is_boot event ≡ false }
 
         ensures done { OnOk result (Advances (Happens event) self.old self.new (K.held output.old) (K.held output.new)) }
         ensures part { OnErr result (BreaksIn (OrNothing (Happens event)) self.old (K.held output.old) (K.held output.new)) }
@@ -186,4 +186,11 @@ impl Hub {
         self.booted = Some(booted);
         Ok(())
     }
+}
+
+// Whether an event is a boot.
+fn is_boot(event: &Event) -> bool
+    ensures { result ≡ is_boot event.now }
+{
+    matches!(event, Event::Boot { .. })
 }

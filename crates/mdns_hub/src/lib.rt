@@ -18,21 +18,20 @@ mod tests {
     use mdns_script::Command;
     use std::test::Fail;
 
+    const ALONE: Config = Config {
+        address: 0x0a00_0001,
+        host: None,
+    };
+
     fn boot(number: u32) -> Command {
         Command::Daemon {
             number,
-            config: Config {
-                address: 0x0a00_0001,
-                host: None,
-            },
+            config: ALONE,
         }
     }
 
-    fn tick(daemon: u32) -> Command {
-        Command::Event {
-            daemon,
-            event: Event::Tick,
-        }
+    fn happens(daemon: u32, event: Event) -> Command {
+        Command::Event { daemon, event }
     }
 
     #[test]
@@ -52,10 +51,15 @@ mod tests {
         assert_eq!(rt; hub.run(Command::At { moment: 5 }, &mut sink), Ok(()));
         assert_eq!(rt; hub.run(Command::At { moment: 4 }, &mut sink), refused);
         assert_eq!(rt; hub.run(Command::Attach { daemon: 1 }, &mut sink), Ok(()));
-        assert_eq!(rt; hub.run(Command::Attach { daemon: 1 }, &mut sink), refused);
-        assert_eq!(rt; hub.run(tick(2), &mut sink), refused);
-        assert_eq!(rt; hub.run(tick(1), &mut sink), Ok(()));
-        assert_eq!(rt; hub.run(tick(1), &mut sink), Err(HubError::WriteFault));
+        assert_eq!(rt; hub.run(Command::Attach { daemon: 2 }, &mut sink), refused);
+        assert_eq!(rt; hub.run(happens(2, Event::Tick), &mut sink), refused);
+        let boots = Event::Boot { config: ALONE };
+        assert_eq!(rt; hub.run(happens(1, boots), &mut sink), refused);
+        assert_eq!(rt; hub.run(happens(1, Event::Tick), &mut sink), Ok(()));
+        assert_eq!(rt;
+            hub.run(happens(1, Event::Tick), &mut sink),
+            Err(HubError::WriteFault)
+        );
         assert_eq!(rt;
             sink.bytes(),
             b"@0 d1 w0 boot 10.0.0.1\n@5 d1 w0 open\n = opened 1\n@5 d1 w0 tick\n".as_slice()

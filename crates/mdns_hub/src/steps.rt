@@ -1,19 +1,22 @@
 // Steps of one daemon, each with the print of its entry.
-ghost use Rattle.std.specs.Prelude.{ℕ, ◌≡◌, ◌⊎◌, ◌≤◌, ◌^◌, ◌++◌, ◌∷◌, List, take, true, Err, OnOk, OnErr};
+ghost use Rattle.std.specs.Prelude.{ℕ, ◌≡◌, ◌⊎◌, ◌<◌, ◌≤◌, ◌^◌, ◌++◌, ◌∷◌, List, take, false, Err, IfOk, OnOk, OnErr};
 ghost use Rattle.std.specs.Io.KnownBytes.{Appends};
 ghost use Rattle.mdns_history.specs.declared.entry.Entry.{Entry};
 ghost use Rattle.mdns_history.specs.EntryText.{entry_text, history_text};
-ghost use Rattle.mdns_core.specs.Operations.{may};
-ghost use Rattle.mdns_core.specs.Entries.{Fits};
+ghost use Rattle.mdns_history.specs.InForce.{in_force};
+ghost use Rattle.mdns_history.specs.Fitting.{Fits, is_boot};
 ghost use Rattle.mdns_core.specs.State.{Stands};
 ghost use Rattle.mdns_hub.specs.Played.{IsAt, AreTicks, IsIdleUntil};
 ghost use Rattle.mdns_hub.specs.Output.{Gains, Fronts, HasWriteCause};
 
 use crate::HubError;
 use mdns_base::Sink;
+use mdns_cache::Steps;
 use mdns_core::Daemon;
 use mdns_history::{Entry, Event, print_entry};
-use std::alloc::Global;
+use std::alloc::{AllocError, Global};
+use std::marker::Brand;
+use std::sync::ledger::{Blank, Ledger};
 
 /// Puts the print of an entry as one piece.
 pub fn put_entry<K: Sink>(
@@ -46,21 +49,44 @@ pub fn step<K: Sink>(
 ) -> Result<(), HubError>
     requires later { daemon.old.last ≤ now }
     requires bound { now ≤ 2 ^ 53 }
-    requires allowed { may daemon.old.attached daemon.old.operation event ≡ true }
+    requires no_boot { is_boot event ≡ false }
 
     ensures done { OnOk result ((history : List Entry) → Stands daemon.old history
-        → (entry : Entry) × Fits entry history × IsAt entry now event × Stands daemon.new (entry ∷ history)
+        → (entry : Entry) × Fits in_force entry history × IsAt entry now event × Stands daemon.new (entry ∷ history)
         × Appends (K.held output.old) (K.held output.new) (entry_text number entry)) }
     ensures part { OnErr result ((history : List Entry) → Stands daemon.old history
-        → (K.held output.new ≡ K.held output.old) ⊎ ((entry : Entry) × Fits entry history × IsAt entry now event
+        → (K.held output.new ≡ K.held output.old) ⊎ ((entry : Entry) × Fits in_force entry history × IsAt entry now event
         × ((n : ℕ) × Appends (K.held output.old) (K.held output.new) (take n (entry_text number entry))))) }
     ensures last { OnOk result (daemon.new.last ≡ now) }
     ensures cause { HasWriteCause (K.faults output.old) (K.faults output.new) result }
     ensures ready { result ≡ Err HubError.NotYet → ⊥ }
 {
-    let entry = daemon.step(now, 0, event)?;
+    let entry = entry_of::<Brand>(daemon, now, event, Blank::new(1))?;
     put_entry(alloc, number, &entry, output)?;
     Ok(())
+}
+
+// One event of the daemon at `now`, in milliseconds, and its entry. Its steps are counted from nothing.
+fn entry_of<L: Ledger>(
+    daemon: &mut Daemon,
+    now: u64,
+    event: Event,
+    blank: Blank,
+) -> Result<Entry, AllocError>
+    requires name { blank.name ≡ L.name }
+    requires parts { blank.parts ≡ L.parts }
+    requires some { 0 < L.parts }
+    requires later { daemon.old.last ≤ now }
+    requires bound { now ≤ 2 ^ 53 }
+    requires no_boot { is_boot event ≡ false }
+
+    ensures is { IfOk result (λ entry. IsAt entry now event) }
+    ensures fits { IfOk result (λ entry. (history : List Entry) → Stands daemon.old history
+        → Fits in_force entry history × Stands daemon.new (entry ∷ history)) }
+    ensures last { OnOk result (daemon.new.last ≡ now) }
+{
+    let mut steps: Steps<L> = Steps::new(blank);
+    daemon.step(now, 0, event, &mut steps)
 }
 
 /// The ticks that are due up to `moment`, in milliseconds. One that was due before `clock` is done then.

@@ -1,13 +1,8 @@
-use Rattle.std.proofs.Common.{◌++◌, [], refl, arith}
+use Rattle.std.proofs.Common.{◌++◌, [], arith}
 use Rattle.mdns_history.specs.EntryText.{history_text}
-use Rattle.mdns_core.specs.Operations.{may}
 use Rattle.mdns_hub.proofs.Written.{gains_nothing, on_err_from}
 use Rattle.mdns_hub.proofs.Playing.{ticks_more, ticks_part}
 use Rattle.mdns_hub.proofs.steps.tick_to.Goals as goal
-
-pub step-requires-clause-allowed : goal.step-requires-clause-allowed
-unfolding may
-step-requires-clause-allowed g c = refl
 
 pub ticks-init : goal.ticks-init
 ticks-init g c = record {

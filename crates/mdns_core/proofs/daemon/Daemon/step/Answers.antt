@@ -63,4 +63,5 @@ invariant_of-self-2 g c =
       subst HaveWellFormed (sym left) (formed-left c.args.event c.in_ok-plan.plan.outcome (rrs_of c.self.inside.cache.held) (rrs_of c.in_ok-plan.plan.cache.held) ss c.in_ok-plan.ensures.well_formed c.self.invariant.0),
       c.in_ok-plan.ensures.limit,
       c.in_ok-plan.ensures.within,
+      c.in_ok-plan.ensures.live,
     )

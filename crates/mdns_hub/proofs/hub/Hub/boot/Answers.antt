@@ -1,11 +1,12 @@
-use Rattle.std.proofs.Common.{ℕ, ◌∷◌, [], ◌≡◌, Option, None, subst, take}
+use Rattle.std.proofs.Common.{ℕ, ◌∷◌, [], ◌≡◌, Option, None, subst, take, inr, refl}
 use Rattle.std.specs.Io.KnownBytes.{Appends}
 use Rattle.mdns_history.specs.declared.entry.Entry.{Entry}
 use Rattle.mdns_history.specs.EntryText.{entry_text}
 use Rattle.mdns_core.specs.State.{Stands}
 use Rattle.mdns_hub.specs.declared.hub.Booted.{Booted}
+use Rattle.mdns_hub.specs.Played.{transcript}
 use Rattle.mdns_hub.specs.Hubs.{BootedFor}
-use Rattle.mdns_hub.proofs.Written.{on_err_from}
+use Rattle.mdns_hub.proofs.Written.{on_err_from, fronts_nothing}
 use Rattle.mdns_hub.proofs.Playing.{boots, boots_part, none_from}
 use Rattle.mdns_hub.proofs.hub.Hub.boot.Goals as goal
 
@@ -16,20 +17,22 @@ returns-clause-done g c = λ played stands.
     let old = g.K.Sink.held c.args.output.now in
     let new = g.K.Sink.held c.put_entry.new.output in
     let number = c.args.number in
-    let entry = c.new-daemon.ensures.entry in
-    let next = boots old new c.args.self.now.clock number c.args.config.now c.new-daemon.result.0 played stands.clock booted.0 c.args.self.now.bound
-    (none_from c.args.config.now.host c.requires.host)
-    (subst (λ (e : Entry). Stands c.new-daemon.result.0 (e ∷ [])) entry c.new-daemon.ensures.stands)
+    let entry = c.in_ok-daemon.ensures.entry in
+    let next = boots old new c.args.self.now.clock number c.args.config c.in_ok-daemon.daemon played stands.clock booted.0 c.args.self.now.bound
+    (subst (λ (e : Entry). Stands c.in_ok-daemon.daemon (e ∷ [])) entry c.in_ok-daemon.ensures.stands)
     (subst (λ (e : Entry). Appends old new (entry_text number e)) entry c.in_ok-put_entry.ensures.text) in
     (next.0, next.1, record { clock = next.2; booted = (next.3, next.4) }, next.5)
 
 pub returns-in_err-put_entry-clause-part : goal.returns-in_err-put_entry-clause-part
-returns-in_err-put_entry-clause-part g c = on_err_from c.from_residual.result (λ played stands.
+returns-in_err-put_entry-clause-part g c = on_err_from c.from_residual-in_err-put_entry.result (λ played stands.
     let empty : c.args.self.now.booted ≡ None = none_from c.args.self.now.booted c.requires.free in
     let booted = subst (λ (b : Option Booted). BootedFor b played) empty stands.booted in
     let old = g.K.Sink.held c.args.output.now in
     let new = g.K.Sink.held c.put_entry.new.output in
     let number = c.args.number in
-    boots_part old new c.args.self.now.clock number c.args.config.now played stands.clock booted.0 c.args.self.now.bound
-    (none_from c.args.config.now.host c.requires.host)
-    (subst (λ (e : Entry). (n : ℕ) × Appends old new (take n (entry_text number e))) c.new-daemon.ensures.entry c.in_err-put_entry.ensures.part))
+    boots_part old new c.args.self.now.clock number c.args.config played stands.clock booted.0 c.args.self.now.bound
+    (subst (λ (e : Entry). (n : ℕ) × Appends old new (take n (entry_text number e))) c.in_ok-daemon.ensures.entry c.in_err-put_entry.ensures.part))
+
+pub returns-in_err-daemon-clause-part : goal.returns-in_err-daemon-clause-part
+returns-in_err-daemon-clause-part g c = on_err_from c.from_residual.result (λ played stands.
+    (played, inr refl, fronts_nothing (g.K.Sink.held c.args.output.now) (g.K.Sink.held c.args.output.now) (transcript played) refl))
