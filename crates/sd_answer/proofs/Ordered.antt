@@ -1,10 +1,11 @@
--- A list in order, each once, grows as its elements are put one by one.
-use Rattle.std.proofs.Common.{◌≡◌, Bool, true, false, cond, not, ◌&&◌, ◌||◌, List, [], ◌∷◌, ◌++◌, refl, ap, ◌∙◌, sym, append-nil, Ordering, Less, Equal, Greater}
+-- Lists in order, each element once.
+use Rattle.std.proofs.Common.{◌≡◌, ℕ, zero, suc, ◌+◌, ◌<◌, Bool, true, false, cond, not, ◌&&◌, ◌||◌, List, [], ◌∷◌, Option, Some, None, refl, ap, ◌∙◌, sym, arith, length, get_or, Ordering, Less, Equal, Greater}
 use Rattle.std.specs.Prelude.{filter}
-use Rattle.std.specs.List.{list_any, list_all}
+use Rattle.std.specs.List.{list_any, list_all, find, dedup, dedup_from, AllByRecursion}
+use Rattle.std.specs.List.Sorted.{IsSortedBy, IsStableBy, IsStrictlySortedBy, ties}
 use Rattle.std.specs.Ordering.{is_lt, is_eq, ordering_reverse}
 use Rattle.std.specs.Cmp.{IsTotalOrder, tied_itself}
-use Rattle.std.proofs.lemmas.List.Elements.{filter-append}
+use Rattle.std.proofs.lemmas.List.Kept.{IsStrictlySortedBy-dedup}
 use Rattle.dns_name.specs.Lists.{each_once, insert_by, sorted_by, ordered}
 
 module _ {X : Type 0} (cmp : X → X → Ordering) (o : IsTotalOrder cmp) where
@@ -13,10 +14,6 @@ module _ {X : Type 0} (cmp : X → X → Ordering) (o : IsTotalOrder cmp) where
 
   abbrev pub below : X → X → Bool
   below x y = is_lt (cmp x y)
-
-  -- an element put in its place, unless one that ties with it is there
-  abbrev pub put : X → List X → List X
-  put x ys = cond (list_any (tied x) ys) ys (insert_by cmp x ys)
 
   eq_is : (r : Ordering) → is_eq r ≡ true → r ≡ Equal
   eq_is Less e = absurd (cc)
@@ -49,54 +46,9 @@ module _ {X : Type 0} (cmp : X → X → Ordering) (o : IsTotalOrder cmp) where
       other Equal s h k = absurd (cc)
       other Greater s h k = sym (ap (λ (t : Ordering). not (is_lt t)) h)
 
-  -- what isn't above something that is below another is below that, too
-  pub below-along : (y s x : X) → below s y ≡ false → below s x ≡ true → below y x ≡ true
-  below-along y s x none less = at (cmp y s) refl
-    where
-      at : (r : Ordering) → cmp y s ≡ r → below y x ≡ true
-      at Less e = ap is_lt (o.trans y s x e (lt_is (cmp s x) less))
-      at Equal e = ap is_lt (o.congr y s x e) ∙ less
-      at Greater e = absurd (no_way (cmp s y) (o.antisymm s y ∙ ap ordering_reverse e) none)
-        where
-          no_way : (r : Ordering) → r ≡ Less → is_lt r ≡ false → ⊥
-          no_way Less h k = cc
-          no_way Equal h k = cc
-          no_way Greater h k = cc
-
-  -- two that don't tie are put in either order
-  pub insert-swapped : (x y : X) (ys : List X) → tied x y ≡ false → insert_by cmp x (insert_by cmp y ys) ≡ insert_by cmp y (insert_by cmp x ys)
-  insert-swapped x y [] e = placed (below y x) (below x y) (below-turned x y e)
-    where
-      placed : (b c : Bool) → c ≡ not b → cond b (y ∷ x ∷ []) (x ∷ y ∷ []) ≡ cond c (x ∷ y ∷ []) (y ∷ x ∷ [])
-      placed true true h = absurd (cc)
-      placed true false h = refl
-      placed false true h = refl
-      placed false false h = absurd (cc)
-  insert-swapped x y (s ∷ ys) e = at (below s x) (below s y) refl refl (insert-swapped x y ys e)
-    where
-      placed : (b c : Bool) → c ≡ not b → cond b (y ∷ x ∷ s ∷ ys) (x ∷ y ∷ s ∷ ys) ≡ cond c (x ∷ y ∷ s ∷ ys) (y ∷ x ∷ s ∷ ys)
-      placed true true h = absurd (cc)
-      placed true false h = refl
-      placed false true h = refl
-      placed false false h = absurd (cc)
-
-      at : (b c : Bool) → below s x ≡ b → below s y ≡ c → insert_by cmp x (insert_by cmp y ys) ≡ insert_by cmp y (insert_by cmp x ys) →
-          insert_by cmp x (cond (below s y) (s ∷ insert_by cmp y ys) (y ∷ s ∷ ys)) ≡ insert_by cmp y (cond (below s x) (s ∷ insert_by cmp x ys) (x ∷ s ∷ ys))
-      at true true eb ec ih = simp (eb, ec) (ap (λ (l : List X). s ∷ l) ih)
-      at true false eb ec ih = let yx : below y x ≡ true = below-along y s x ec eb in simp (eb, ec, yx)
-      at false true eb ec ih = let xy : below x y ≡ true = below-along x s y eb ec in simp (eb, ec, xy)
-      at false false eb ec ih = simp (eb, ec) (placed (below y x) (below x y) (below-turned x y e))
-
   or_parts : (a b : Bool) → (a || b) ≡ false → (a ≡ false) × (b ≡ false)
   or_parts true b h = absurd (cc)
   or_parts false b h = (refl, h)
-
-  -- a last element that ties with none goes to its place
-  sorted-push : (x : X) (ys : List X) → list_any (tied x) ys ≡ false → sorted_by cmp (ys ++ x ∷ []) ≡ insert_by cmp x (sorted_by cmp ys)
-  sorted-push x [] e = refl
-  sorted-push x (y ∷ ys) e =
-      let parts = or_parts (tied x y) (list_any (tied x) ys) e in
-      ap (insert_by cmp y) (sorted-push x ys parts.1) ∙ insert-swapped y x (sorted_by cmp ys) (tied-turned y x ∙ parts.0)
 
   -- an insertion adds one element, and no order changes which are there
   any-insert : (t : X → Bool) (x : X) (ys : List X) → list_any t (insert_by cmp x ys) ≡ (t x || list_any t ys)
@@ -138,42 +90,6 @@ module _ {X : Type 0} (cmp : X → X → Ordering) (o : IsTotalOrder cmp) where
           list_any (tied x) (cond (not b) (z ∷ filter (λ z. not (tied y z)) ys) (filter (λ z. not (tied y z)) ys)) ≡ false
       at true eb ih = ih
       at false eb ih = ap (λ (b : Bool). b || list_any (tied x) (filter (λ z. not (tied y z)) ys)) (tied-along x y z e ∙ eb) ∙ ih
-
-  -- a last element counts where no earlier one ties with it
-  each_once-push : (x : X) (ys : List X) → each_once tied (ys ++ x ∷ []) ≡ cond (list_any (tied x) (each_once tied ys)) (each_once tied ys) (each_once tied ys ++ x ∷ [])
-  each_once-push x [] = refl
-  each_once-push x (y ∷ ys) =
-      ap (λ (l : List X). y ∷ filter keeps l) (each_once-push x ys) ∙ at (tied x y) (list_any (tied x) (each_once tied ys)) refl refl
-    where
-      keeps : X → Bool
-      keeps z = not (tied y z)
-
-      kept : List X
-      kept = filter keeps (each_once tied ys)
-
-      at : (b c : Bool) → tied x y ≡ b → list_any (tied x) (each_once tied ys) ≡ c →
-          y ∷ filter keeps (cond c (each_once tied ys) (each_once tied ys ++ x ∷ [])) ≡ cond (b || list_any (tied x) kept) (y ∷ kept) (y ∷ kept ++ x ∷ [])
-      at true true eb ec = refl
-      at true false eb ec =
-          let yx : tied y x ≡ true = tied-turned y x ∙ eb in
-          ap (λ (l : List X). y ∷ l) (filter-append keeps (each_once tied ys) (x ∷ []) ∙ ap (λ (b : Bool). kept ++ cond (not b) (x ∷ []) []) yx ∙ append-nil kept)
-      at false true eb ec = ap (λ (b : Bool). cond b (y ∷ kept) (y ∷ kept ++ x ∷ [])) (sym (any-filtered x y (each_once tied ys) eb ∙ ec))
-      at false false eb ec =
-          let yx : tied y x ≡ false = tied-turned y x ∙ eb in
-          ap (λ (l : List X). y ∷ l) (filter-append keeps (each_once tied ys) (x ∷ []) ∙ ap (λ (b : Bool). kept ++ cond (not b) (x ∷ []) []) yx)
-          ∙ ap (λ (b : Bool). cond b (y ∷ kept) (y ∷ kept ++ x ∷ [])) (sym (any-filtered x y (each_once tied ys) eb ∙ ec))
-
-  -- the list in order, each once, with one more
-  pub ordered-push : (x : X) (ys : List X) → ordered cmp (ys ++ x ∷ []) ≡ put x (ordered cmp ys)
-  ordered-push x ys =
-      ap (sorted_by cmp) (each_once-push x ys)
-      ∙ at (list_any (tied x) (each_once tied ys)) refl
-      ∙ ap (λ (b : Bool). cond b (ordered cmp ys) (insert_by cmp x (ordered cmp ys))) (sym (any-sorted (tied x) (each_once tied ys)))
-    where
-      at : (b : Bool) → list_any (tied x) (each_once tied ys) ≡ b →
-          sorted_by cmp (cond b (each_once tied ys) (each_once tied ys ++ x ∷ [])) ≡ cond b (ordered cmp ys) (insert_by cmp x (ordered cmp ys))
-      at true e = refl
-      at false e = sorted-push x (each_once tied ys) e
 
   -- ---- Lists that rise are one where they have the same elements.
 
@@ -373,3 +289,180 @@ module _ {X : Type 0} (cmp : X → X → Ordering) (o : IsTotalOrder cmp) where
     pub same-ordered : (xs ys : List X) → list_all good xs ≡ true → list_all good ys ≡ true → ((z : X) → list_any (tied z) xs ≡ list_any (tied z) ys) → ordered cmp xs ≡ ordered cmp ys
     same-ordered xs ys g k h =
         same-rising (ordered cmp xs) (ordered cmp ys) (all-ordered good xs g) (all-ordered good ys k) (rising-ordered xs) (rising-ordered ys) (λ z. any-ordered z xs ∙ h z ∙ sym (any-ordered z ys))
+
+  -- ---- A stable sort, and then of neighbours that tie the first alone, is the list in order.
+
+  -- an insertion leaves the first of those that tie with z what it is where the element stands in front
+  find-insert : (z x : X) (ys : List X) → find (tied z) (insert_by cmp x ys) ≡ find (tied z) (x ∷ ys)
+  find-insert z x [] = refl
+  find-insert z x (y ∷ ys) = placed (below y x) refl (find-insert z x ys)
+    where
+      apart : below y x ≡ true → tied z y ≡ true → tied z x ≡ false
+      apart less zy = tied-along z y x zy ∙ below-apart y x less
+
+      swap : (a b : Bool) → (a ≡ true → b ≡ false) → cond a (Some y) (cond b (Some x) (find (tied z) ys)) ≡ cond b (Some x) (cond a (Some y) (find (tied z) ys))
+      swap true true h = absurd (let e : true ≡ false = h refl in cc)
+      swap true false h = refl
+      swap false b h = refl
+
+      placed : (b : Bool) → below y x ≡ b → find (tied z) (insert_by cmp x ys) ≡ find (tied z) (x ∷ ys) → find (tied z) (cond b (y ∷ insert_by cmp x ys) (x ∷ y ∷ ys)) ≡ find (tied z) (x ∷ y ∷ ys)
+      placed true e ih = ap (λ (f : Option X). cond (tied z y) (Some y) f) ih ∙ swap (tied z y) (tied z x) (apart e)
+      placed false e ih = refl
+
+  find-sorted : (z : X) (ys : List X) → find (tied z) (sorted_by cmp ys) ≡ find (tied z) ys
+  find-sorted z [] = refl
+  find-sorted z (y ∷ ys) = find-insert z y (sorted_by cmp ys) ∙ ap (λ (f : Option X). cond (tied z y) (Some y) f) (find-sorted z ys)
+
+  -- what ties with z doesn't tie with y, so all of it is kept
+  find-filtered : (z y : X) (ws : List X) → tied z y ≡ false → find (tied z) (filter (λ w. not (tied y w)) ws) ≡ find (tied z) ws
+  find-filtered z y [] e = refl
+  find-filtered z y (w ∷ ws) e = at (tied y w) refl (find-filtered z y ws e)
+    where
+      apart : tied y w ≡ true → tied z w ≡ false
+      apart yw = tied-turned z w ∙ sym (tied-along y w z yw) ∙ tied-turned y z ∙ e
+
+      at : (b : Bool) → tied y w ≡ b → find (tied z) (filter (λ v. not (tied y v)) ws) ≡ find (tied z) ws →
+          find (tied z) (cond (not b) (w ∷ filter (λ v. not (tied y v)) ws) (filter (λ v. not (tied y v)) ws)) ≡ cond (tied z w) (Some w) (find (tied z) ws)
+      at true yw ih = ih ∙ ap (λ (b : Bool). cond b (Some w) (find (tied z) ws)) (sym (apart yw))
+      at false yw ih = ap (λ (f : Option X). cond (tied z w) (Some w) f) ih
+
+  find-each_once : (z : X) (ws : List X) → find (tied z) (each_once tied ws) ≡ find (tied z) ws
+  find-each_once z [] = refl
+  find-each_once z (w ∷ ws) = at (tied z w) refl (find-each_once z ws)
+    where
+      at : (b : Bool) → tied z w ≡ b → find (tied z) (each_once tied ws) ≡ find (tied z) ws →
+          cond b (Some w) (find (tied z) (filter (λ v. not (tied w v)) (each_once tied ws))) ≡ cond b (Some w) (find (tied z) ws)
+      at true e ih = refl
+      at false e ih = find-filtered z w (each_once tied ws) e ∙ ih
+
+  find-ordered : (z : X) (ws : List X) → find (tied z) (ordered cmp ws) ≡ find (tied z) ws
+  find-ordered z ws = find-sorted z (each_once tied ws) ∙ find-each_once z ws
+
+  find-dedup_from : (z k : X) (ws : List X) → find (tied z) (dedup_from tied k ws) ≡ find (tied z) (k ∷ ws)
+  find-dedup_from z k [] = refl
+  find-dedup_from z k (w ∷ ws) = at (tied w k) refl (find-dedup_from z k ws) (find-dedup_from z w ws)
+    where
+      same : tied w k ≡ true → tied z w ≡ tied z k
+      same wk = tied-turned z w ∙ tied-along w k z wk ∙ tied-turned k z
+
+      skip : (a b : Bool) → b ≡ a → cond a (Some k) (find (tied z) ws) ≡ cond a (Some k) (cond b (Some w) (find (tied z) ws))
+      skip true b h = refl
+      skip false b h = ap (λ (c : Bool). cond c (Some w) (find (tied z) ws)) (sym h)
+
+      at : (b : Bool) → tied w k ≡ b → find (tied z) (dedup_from tied k ws) ≡ find (tied z) (k ∷ ws) → find (tied z) (dedup_from tied w ws) ≡ find (tied z) (w ∷ ws) →
+          find (tied z) (cond b (dedup_from tied k ws) (k ∷ dedup_from tied w ws)) ≡ cond (tied z k) (Some k) (cond (tied z w) (Some w) (find (tied z) ws))
+      at true e ik iw = ik ∙ skip (tied z k) (tied z w) (same e)
+      at false e ik iw = ap (λ (f : Option X). cond (tied z k) (Some k) f) iw
+
+  find-dedup : (z : X) (ws : List X) → find (tied z) (dedup tied ws) ≡ find (tied z) ws
+  find-dedup z [] = refl
+  find-dedup z (w ∷ ws) = find-dedup_from z w ws
+
+  -- the first that passes a test heads those that pass it
+  abbrev head_of : List X → Option X
+  head_of [] = None
+  head_of (x ∷ xs) = Some x
+
+  find-heads : (test : X → Bool) (ws : List X) → find test ws ≡ head_of (filter test ws)
+  find-heads test [] = refl
+  find-heads test (w ∷ ws) = at (test w) (find-heads test ws)
+    where
+      at : (b : Bool) → find test ws ≡ head_of (filter test ws) → cond b (Some w) (find test ws) ≡ head_of (cond b (w ∷ filter test ws) (filter test ws))
+      at true ih = refl
+      at false ih = ih
+
+  -- neither is below the other where the two tie
+  ties-tied : (x y : X) → ties below x y ≡ tied x y
+  ties-tied x y = at (cmp x y) (cmp y x) (o.antisymm y x)
+    where
+      at : (r s : Ordering) → s ≡ ordering_reverse r → (not (is_lt r) && not (is_lt s)) ≡ is_eq r
+      at Less s h = refl
+      at Equal s h = ap (λ (t : Ordering). not (is_lt t)) h
+      at Greater s h = ap (λ (t : Ordering). not (is_lt t)) h
+
+  find-stable : (xs ys : List X) → IsStableBy below xs ys → (z : X) → find (tied z) ys ≡ find (tied z) xs
+  find-stable xs ys stable z =
+      (λ i. find (λ w. sym (ties-tied z w) i) ys) ∙ find-heads (ties below z) ys ∙ ap head_of (stable z) ∙ sym (find-heads (ties below z) xs) ∙ (λ i. find (λ w. ties-tied z w i) xs)
+
+  all-less : (x : X) (ys : List X) → AllByRecursion (λ y. cmp x y ≡ Less) ys → list_all (below x) ys ≡ true
+  all-less x [] h = refl
+  all-less x (y ∷ ys) h = and_both (below x y) (list_all (below x) ys) (ap is_lt h.0) (all-less x ys h.1)
+
+  rising-strictly : (ys : List X) → IsStrictlySortedBy cmp ys → IsRising ys
+  unfolding IsStrictlySortedBy
+  rising-strictly [] h = tt
+  rising-strictly (y ∷ ys) h = (all-less y ys h.0, rising-strictly ys h.1)
+
+  find-none : (test : X → Bool) (ws : List X) → list_any test ws ≡ false → find test ws ≡ None
+  find-none test [] h = refl
+  find-none test (w ∷ ws) h =
+      let parts = or_parts (test w) (list_any test ws) h in
+      ap (λ (b : Bool). cond b (Some w) (find test ws)) parts.0 ∙ find-none test ws parts.1
+
+  -- lists that rise are one where they have the same first of those that tie with anything
+  same-firsts : (xs ys : List X) → IsRising xs → IsRising ys → ((z : X) → find (tied z) xs ≡ find (tied z) ys) → xs ≡ ys
+  same-firsts [] [] r s h = refl
+  same-firsts [] (y ∷ ys) r s h = absurd (no_way (tied y y) (find (tied y) ys) (tied-itself y) (h y))
+    where
+      no_way : (a : Bool) (f : Option X) → a ≡ true → None ≡ cond a (Some y) f → ⊥
+      no_way true f e g = cc
+      no_way false f e g = cc
+  same-firsts (x ∷ xs) [] r s h = absurd (no_way (tied x x) (find (tied x) xs) (tied-itself x) (h x))
+    where
+      no_way : (a : Bool) (f : Option X) → a ≡ true → cond a (Some x) f ≡ None → ⊥
+      no_way true f e g = cc
+      no_way false f e g = cc
+  same-firsts (x ∷ xs) (y ∷ ys) r s h = at (cmp x y) refl (λ same. same-firsts xs ys r.1 s.1 same)
+    where
+      -- an element below all of the other list isn't there
+      missing : (z w : X) (zs ws : List X) → below z w ≡ true → list_all (below w) ws ≡ true → find (tied z) (z ∷ zs) ≡ find (tied z) (w ∷ ws) → ⊥
+      missing z w zs ws less above e =
+          let there : find (tied z) (z ∷ zs) ≡ Some z = ap (λ (b : Bool). cond b (Some z) (find (tied z) zs)) (tied-itself z) in
+          let away : find (tied z) (w ∷ ws) ≡ None = find-none (tied z) (w ∷ ws) (none-tied z (w ∷ ws) (and_both (below z w) (list_all (below z) ws) less (all-below z w ws less above))) in
+          cc
+
+      firsts : tied x y ≡ true → Some x ≡ Some y
+      firsts e =
+          sym (ap (λ (b : Bool). cond b (Some x) (find (tied x) xs)) (tied-itself x)) ∙ h x ∙ ap (λ (b : Bool). cond b (Some y) (find (tied x) ys)) e
+
+      tails : tied x y ≡ true → (z : X) → find (tied z) xs ≡ find (tied z) ys
+      tails e z = split (tied z x) refl
+        where
+          zy : tied z y ≡ tied z x
+          zy = tied-turned z y ∙ sym (tied-along x y z e) ∙ tied-turned x z
+
+          split : (b : Bool) → tied z x ≡ b → find (tied z) xs ≡ find (tied z) ys
+          split true zx =
+              find-none (tied z) xs (any-like z x xs zx ∙ none-tied x xs r.0) ∙ sym (find-none (tied z) ys (any-like z y ys (zy ∙ zx) ∙ none-tied y ys s.0))
+          split false zx =
+              sym (ap (λ (b : Bool). cond b (Some x) (find (tied z) xs)) zx) ∙ h z ∙ ap (λ (b : Bool). cond b (Some y) (find (tied z) ys)) (zy ∙ zx)
+
+      at : (c : Ordering) → cmp x y ≡ c → (((z : X) → find (tied z) xs ≡ find (tied z) ys) → xs ≡ ys) → x ∷ xs ≡ y ∷ ys
+      at Less e ih = absurd (missing x y xs ys (ap is_lt e) s.0 (h x))
+      at Greater e ih = absurd (missing y x ys xs (ap is_lt (o.antisymm y x ∙ ap ordering_reverse e)) r.0 (sym (h y)))
+      at Equal e ih =
+          let t : tied x y ≡ true = ap is_eq e in
+          let first : Some x ≡ Some y = firsts t in
+          let rest : xs ≡ ys = ih (tails t) in
+          cc
+
+  -- a stable sort with each once
+  pub sorted-once : (xs ys : List X) → IsSortedBy below ys → IsStableBy below xs ys → dedup tied ys ≡ ordered cmp xs
+  sorted-once xs ys sorted stable =
+      same-firsts (dedup tied ys) (ordered cmp xs) (rising-strictly (dedup tied ys) (IsStrictlySortedBy-dedup o (λ x y. refl) ys sorted)) (rising-ordered xs)
+      (λ z. find-dedup z ys ∙ find-stable xs ys stable z ∙ sym (find-ordered z xs))
+
+  -- each of a list that rises is below the next
+  rising-adjacent : (ys : List X) → IsRising ys → (k : ℕ) (d : X) → suc k < length ys → below (get_or ys (suc k) d) (get_or ys k d) ≡ false
+  rising-adjacent [] r k d h = absurd (omega (arith, h))
+  rising-adjacent (x ∷ []) r k d h = absurd (omega (arith, h))
+  rising-adjacent (x ∷ y ∷ ys) r zero d h =
+      let less : below x y ≡ true = (and_parts (below x y) (list_all (below x) ys) r.0).0 in
+      below-turned y x (tied-turned y x ∙ below-apart x y less) ∙ ap not less
+  rising-adjacent (x ∷ y ∷ ys) r (suc k) d h = rising-adjacent (y ∷ ys) r.1 k d (omega (arith, h))
+
+  -- a list in order is sorted
+  pub sorted-ordered : (ws : List X) → IsSortedBy below (ordered cmp ws)
+  sorted-ordered ws = λ k d low high.
+      let next : k + 1 ≡ suc k = omega arith in
+      ap (λ (n : ℕ). below (get_or (ordered cmp ws) n d) (get_or (ordered cmp ws) k d)) next ∙ rising-adjacent (ordered cmp ws) (rising-ordered ws) k d (omega (arith, high))

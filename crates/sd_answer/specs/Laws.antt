@@ -1,12 +1,13 @@
 -- What answers don't depend on. (RFC 6763 4, 5 and 6)
 use Rattle.std.specs.Prelude.{◌≡◌, ◌↔◌, true, List, [], ◌∷◌, Bool}
 use Rattle.std.specs.List.{list_all, Contains}
-use Rattle.std.specs.List.Sorted.{IsPermutation}
+use Rattle.std.specs.List.Sorted.{IsPermutation, IsSorted}
 use Rattle.dns_name.specs.Names.{folded_eq}
 use Rattle.dns_record.specs.declared.record.Rr.{Rr}
 use Rattle.dns_record.specs.declared.record.Key.{Key}
 use Rattle.dns_message.specs.Writing.{is_spellable_data}
 use Rattle.sd_call.specs.declared.request.Request.{Request}
+use Rattle.sd_call.specs.Answers.{answer_cmp}
 use Rattle.mdns_history.specs.Questions.{keys_of}
 use Rattle.mdns_history.specs.Answers.{answers_over}
 
@@ -31,3 +32,7 @@ IsOfOneName =
 -- A request that asks nothing has no answers.
 abbrev pub IsNothingUnasked : Type 0
 IsNothingUnasked = (request : Request) (rrs : List Rr) → keys_of request ≡ [] → answers_over request rrs ≡ []
+
+-- Answers are in the order of their bytes.
+abbrev pub AreInOrder : Type 0
+AreInOrder = (request : Request) (rrs : List Rr) → IsSorted answer_cmp (answers_over request rrs)

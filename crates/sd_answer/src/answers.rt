@@ -1,10 +1,9 @@
 // The answers of requests.
-ghost use Rattle.std.specs.Prelude.{◌≡◌, [], ◌∷◌, IsTrue, IfOk, OnOk};
+ghost use Rattle.std.specs.Prelude.{◌≡◌, [], ◌∷◌, ◌++◌, IsTrue, IfOk, OnOk};
 ghost use Rattle.std.specs.List.{list_any, filter_map, flat_map};
 ghost use Rattle.dns_record.specs.Records.{matches};
 ghost use Rattle.sd_call.specs.Requests.{well_formed};
 ghost use Rattle.mdns_history.specs.Answers.{matching, datum_of, found_in, resolved_with, resolved_pairs, answers_from, answers_over};
-ghost use Rattle.sd_answer.specs.Putting.{put_all};
 
 use crate::{Answers, questions_of};
 use dns_message::Rrs;
@@ -16,7 +15,7 @@ use std::alloc::{AllocError, Global};
 /// exactly where their bytes in a frame are. A Query and an Address are answered by the type and data of each record that
 /// matches, a Browse by the targets of the PTR records, a Resolve by all pairs of SRV data and TXT data. Records don't answer
 /// a Register, an Update or a Stop. Refused only for want of memory. (RFC 6763 sections 4, 5 and 6)
-#[tactic(auto, unfolding(mdns_history::specs::Answers::answers_over), using(crate::proofs::Puts::put_from_none))]
+#[tactic(auto, unfolding(mdns_history::specs::Answers::answers_over))]
 pub fn answers_of(alloc: Global, request: &Request, rrs: &Rrs) -> Result<Answers, AllocError>
     requires { IsTrue (well_formed request.now) }
     ensures { IfOk result (λ answers. answers ≡ answers_over request.now rrs.now) }
@@ -30,6 +29,7 @@ pub fn answers_of(alloc: Global, request: &Request, rrs: &Rrs) -> Result<Answers
         questions.as_slice(),
         rrs.as_slice(),
     )?;
+    answers.order()?;
     Ok(answers)
 }
 
@@ -44,7 +44,7 @@ fn put_answers(
     questions: &[Key],
     rrs: &[Rr],
 ) -> Result<(), AllocError>
-    ensures { OnOk result (answers.new ≡ put_all (answers_from request.now (matching questions.now rrs.now)) answers.old) }
+    ensures { OnOk result (answers.new ≡ answers.old ++ answers_from request.now (matching questions.now rrs.now)) }
 {
     match request {
         Request::Query { .. } | Request::Address { .. } => put_data(alloc, answers, questions, rrs),
@@ -61,7 +61,7 @@ fn put_data(
     questions: &[Key],
     rrs: &[Rr],
 ) -> Result<(), AllocError>
-    ensures { OnOk result (answers.new ≡ put_all (filter_map datum_of (matching questions.now rrs.now)) answers.old) }
+    ensures { OnOk result (answers.new ≡ answers.old ++ filter_map datum_of (matching questions.now rrs.now)) }
 {
     for rr in rrs {
         put_datum(alloc, answers, questions, rr)?;
@@ -76,19 +76,19 @@ fn put_datum(
     questions: &[Key],
     rr: &Rr,
 ) -> Result<(), AllocError>
-    ensures { OnOk result (answers.new ≡ put_all (filter_map datum_of (matching questions.now (rr.now ∷ []))) answers.old) }
+    ensures { OnOk result (answers.new ≡ answers.old ++ filter_map datum_of (matching questions.now (rr.now ∷ []))) }
 {
     if !is_asked(questions, rr) {
         return Ok(());
     }
     let rdata = rr.rdata.copy(alloc)?;
-    answers.put(Answer::Datum { rdata })?;
+    answers.push(Answer::Datum { rdata })?;
     Ok(())
 }
 
 // Puts the targets of the matching PTR records.
 fn put_instances(answers: &mut Answers, questions: &[Key], rrs: &[Rr]) -> Result<(), AllocError>
-    ensures { OnOk result (answers.new ≡ put_all (filter_map (λ rr. found_in rr.rdata) (matching questions.now rrs.now)) answers.old) }
+    ensures { OnOk result (answers.new ≡ answers.old ++ filter_map (λ rr. found_in rr.rdata) (matching questions.now rrs.now)) }
 {
     for rr in rrs {
         put_instance(answers, questions, rr)?;
@@ -98,14 +98,14 @@ fn put_instances(answers: &mut Answers, questions: &[Key], rrs: &[Rr]) -> Result
 
 // Puts the target of a PTR record, where it matches.
 fn put_instance(answers: &mut Answers, questions: &[Key], rr: &Rr) -> Result<(), AllocError>
-    ensures { OnOk result (answers.new ≡ put_all (filter_map (λ rr. found_in rr.rdata) (matching questions.now (rr.now ∷ []))) answers.old) }
+    ensures { OnOk result (answers.new ≡ answers.old ++ filter_map (λ rr. found_in rr.rdata) (matching questions.now (rr.now ∷ []))) }
 {
     if !is_asked(questions, rr) {
         return Ok(());
     }
     match &rr.rdata {
         Rdata::Ptr(target) => {
-            answers.put(Answer::Found {
+            answers.push(Answer::Found {
                 instance: target.copy(),
             })?;
             Ok(())
@@ -121,7 +121,7 @@ fn put_places(
     questions: &[Key],
     rrs: &[Rr],
 ) -> Result<(), AllocError>
-    ensures { OnOk result (answers.new ≡ put_all (resolved_pairs (matching questions.now rrs.now)) answers.old) }
+    ensures { OnOk result (answers.new ≡ answers.old ++ resolved_pairs (matching questions.now rrs.now)) }
 {
     for rr in rrs {
         put_place(alloc, answers, questions, rrs, rr)?;
@@ -137,7 +137,7 @@ fn put_place(
     rrs: &[Rr],
     rr: &Rr,
 ) -> Result<(), AllocError>
-    ensures { OnOk result (answers.new ≡ put_all (flat_map (λ srv. filter_map (λ txt. resolved_with srv.rdata txt.rdata) (matching questions.now rrs.now)) (matching questions.now (rr.now ∷ []))) answers.old) }
+    ensures { OnOk result (answers.new ≡ answers.old ++ flat_map (λ srv. filter_map (λ txt. resolved_with srv.rdata txt.rdata) (matching questions.now rrs.now)) (matching questions.now (rr.now ∷ []))) }
 {
     if !is_asked(questions, rr) {
         return Ok(());
@@ -154,7 +154,7 @@ fn put_pairs(
     questions: &[Key],
     rrs: &[Rr],
 ) -> Result<(), AllocError>
-    ensures { OnOk result (answers.new ≡ put_all (filter_map (λ txt. resolved_with place.now txt.rdata) (matching questions.now rrs.now)) answers.old) }
+    ensures { OnOk result (answers.new ≡ answers.old ++ filter_map (λ txt. resolved_with place.now txt.rdata) (matching questions.now rrs.now)) }
 {
     if place.kind() != SRV {
         return Ok(());
@@ -173,14 +173,14 @@ fn put_pair(
     questions: &[Key],
     rr: &Rr,
 ) -> Result<(), AllocError>
-    ensures { OnOk result (answers.new ≡ put_all (filter_map (λ txt. resolved_with place.now txt.rdata) (matching questions.now (rr.now ∷ []))) answers.old) }
+    ensures { OnOk result (answers.new ≡ answers.old ++ filter_map (λ txt. resolved_with place.now txt.rdata) (matching questions.now (rr.now ∷ []))) }
 {
     if !is_asked(questions, rr) {
         return Ok(());
     }
     match pair(alloc, place, &rr.rdata)? {
         Some(answer) => {
-            answers.put(answer)?;
+            answers.push(answer)?;
             Ok(())
         }
         None => Ok(()),

@@ -1,5 +1,5 @@
 // Laws of the answers.
-ghost use Rattle.sd_answer.specs.Laws.{IsOrderFree, IsCountFree, IsOfOneName, IsNothingUnasked};
+ghost use Rattle.sd_answer.specs.Laws.{IsOrderFree, IsCountFree, IsOfOneName, IsNothingUnasked, AreInOrder};
 
 /// The answers of a request depend on which records there are, and neither on their order nor on how often each is there.
 pub fn order_of_records_is_free()
@@ -12,4 +12,9 @@ pub fn order_of_records_is_free()
 pub fn only_matching_records_matter()
     ensures name { IsOfOneName }
     ensures nothing { IsNothingUnasked }
+{}
+
+/// The answers of a request are in the order of their bytes, so one of them is found by a binary search.
+pub fn answers_are_in_order()
+    ensures { AreInOrder }
 {}

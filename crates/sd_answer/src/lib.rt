@@ -7,7 +7,7 @@ mod lists;
 mod questions;
 
 pub use answers::answers_of;
-pub use laws::{only_matching_records_matter, order_of_records_is_free};
+pub use laws::{answers_are_in_order, only_matching_records_matter, order_of_records_is_free};
 pub use lists::Answers;
 pub use questions::questions_of;
 

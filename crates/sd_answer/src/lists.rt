@@ -1,9 +1,7 @@
 // The list of an operation's answers.
-ghost use Rattle.std.specs.Prelude.{◌≡◌, [], ◌∷◌, ◌++◌, ◌≤◌, not, length, position, OnOk, OnErr};
-ghost use Rattle.std.specs.List.{list_any, prefix_len};
-ghost use Rattle.std.specs.Ordering.{is_lt};
-ghost use Rattle.sd_call.specs.Answers.{answer_cmp, answer_eq};
-ghost use Rattle.sd_answer.specs.Putting.{put_in};
+ghost use Rattle.std.specs.Prelude.{◌≡◌, [], ◌∷◌, ◌++◌, OnOk, OnErr};
+ghost use Rattle.dns_name.specs.Lists.{ordered};
+ghost use Rattle.sd_call.specs.Answers.{answer_cmp};
 
 use sd_call::{Answer, answer_cmp};
 use std::alloc::{AllocError, Global};
@@ -50,47 +48,13 @@ impl Answers {
         self.vec.as_slice()
     }
 
-    // Puts an answer in its place, unless one of the same bytes is there.
-    #[tactic(auto, unfolding(crate::specs::Putting::put_in))]
-    pub(crate) fn put(&mut self, answer: Answer) -> Result<(), AllocError>
-        ensures { OnOk result (self.new ≡ put_in answer self.old) }
+    // Puts the answers into order, of those of the same bytes the first alone. Refused only for want of memory.
+    pub(crate) fn order(&mut self) -> Result<(), AllocError>
+        ensures { OnOk result (self.new ≡ ordered answer_cmp self.old) }
     {
-        if self.has(&answer) {
-            return Ok(());
-        }
-        let place = self.place_of(&answer);
-        self.vec.insert(place, answer)?;
+        self.vec.sort_by(|left, right| answer_cmp(left, right))?;
+        self.vec
+            .dedup_by(|later, kept| answer_cmp(later, kept).is_eq());
         Ok(())
-    }
-
-    // Whether an answer of the same bytes is there.
-    #[tactic(auto, unfolding(sd_call::specs::Answers::answer_eq))]
-    fn has(&self, answer: &Answer) -> bool
-        ensures { result ≡ list_any (answer_eq answer.now) self.now }
-    {
-        self.vec
-            .iter()
-            .any(|other| answer_cmp(answer, other).is_eq())
-    }
-
-    // How many answers from the front on are below this one.
-    #[tactic(auto, using(crate::proofs::Puts::place_found, crate::proofs::Puts::place_end, crate::proofs::Puts::prefix_within))]
-    fn place_of(&self, answer: &Answer) -> usize
-        ensures place { result ≡ prefix_len (λ other. is_lt (answer_cmp other answer.now)) self.now }
-        ensures within { result ≤ length self.now }
-    {
-        match self.first_not_below(answer) {
-            Some(place) => place,
-            None => self.vec.len(),
-        }
-    }
-
-    // The place of the first answer that isn't below this one.
-    fn first_not_below(&self, answer: &Answer) -> Option<usize>
-        ensures { result ≡ position (λ other. not (is_lt (answer_cmp other answer.now))) self.now }
-    {
-        self.vec
-            .iter()
-            .position(|other| !answer_cmp(other, answer).is_lt())
     }
 }

@@ -1,13 +1,10 @@
-use Rattle.std.proofs.Common.{◌∙◌, ap, sym, [], ◌∷◌}
-use Rattle.std.specs.List.{list_any, filter_map}
+use Rattle.std.specs.List.{list_any}
 use Rattle.dns_record.specs.Records.{matches}
-use Rattle.mdns_history.specs.Answers.{matching, datum_of}
-use Rattle.sd_answer.specs.Putting.{put_all}
+use Rattle.mdns_history.specs.Answers.{datum_of}
 use Rattle.sd_answer.proofs.Puts.{put_more}
 use Rattle.sd_answer.proofs.answers.put_data.Goals as goal
 
 pub loop-rr-preserved : goal.loop-rr-preserved
 loop-rr-preserved c =
+    put_more datum_of (λ rr. list_any (λ key. matches key rr) c.args.questions.now) c.args.rrs.now c.loop-rr.rr-index c.rr-item.result c.loop-rr-test.true c.rr-item.is _ _ _ c.loop-rr.invariant
     c.in_ok-put_datum.ensures
-    ∙ ap (put_all (filter_map (datum_of) (matching c.args.questions.now (c.rr-item.result ∷ [])))) c.loop-rr.invariant
-    ∙ sym (put_more (datum_of) (λ rr. list_any (λ key. matches key rr) c.args.questions.now) c.args.rrs.now c.loop-rr.rr-index c.rr-item.result c.args.answers.now c.loop-rr-test.true c.rr-item.is)

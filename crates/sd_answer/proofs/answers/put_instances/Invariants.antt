@@ -1,8 +1,7 @@
-use Rattle.std.proofs.Common.{◌≡◌, take}
+use Rattle.std.proofs.Common.{◌≡◌, ◌++◌, take}
 use Rattle.std.specs.List.{filter_map}
 use Rattle.mdns_history.specs.Answers.{found_in, matching}
-use Rattle.sd_answer.specs.Putting.{put_all}
 use Rattle.sd_answer.proofs.answers.put_instances.Given as goal
 
 abbrev pub invariant-loop-rr : goal.invariant-loop-rr
-invariant-loop-rr l = l.answers ≡ put_all (filter_map (λ rr. found_in rr.rdata) (matching l.questions (take l.rr-index l.rrs))) l.initial.answers
+invariant-loop-rr l = l.answers ≡ l.initial.answers ++ filter_map (λ rr. found_in rr.rdata) (matching l.questions (take l.rr-index l.rrs))
