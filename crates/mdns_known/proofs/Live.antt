@@ -1,0 +1,372 @@
+-- The known answers over held records, in whatever order they stand.
+use Rattle.std.proofs.Common.{◌≡◌, ℕ, zero, suc, ◌<◌, Bool, true, false, cond, not, ◌&&◌, ◌||◌, List, [], ◌∷◌, ◌++◌, length, take, get_or, set, swap, refl, ap, ◌∙◌, sym, arith, append-nil, Some, None, ◌+◌}
+use Rattle.std.specs.Prelude.{map, filter, nat_lt}
+use Rattle.std.specs.List.{list_any}
+use Rattle.std.specs.List.Sorted.{IsPermutation}
+use Rattle.std.specs.Ordering.{is_eq}
+use Rattle.std.specs.Cmp.{both_ways}
+use Rattle.std.specs.declared.cmp.Ordering.{Ordering}
+use Rattle.std.specs.declared.cmp.Ordering.TheVariants.{Less, Equal, Greater}
+use Rattle.std.proofs.lemmas.List.{take_more, map-append}
+use Rattle.std.proofs.lemmas.List.Elements.{filter-append}
+use Rattle.std.proofs.lemmas.List.Sorted.{IsPermutation-keeps, IsPermutation-sym}
+use Rattle.dns_name.specs.Lists.{insert_by, sorted_by, each_once}
+use Rattle.dns_record.specs.declared.record.Rr.{Rr}
+use Rattle.dns_record.specs.declared.record.Key.{Key}
+use Rattle.dns_record.specs.Records.{matches, same, record_cmp}
+use Rattle.dns_record.proofs.Same.{same_tells, record_cmp_equal, record_cmp_total}
+use Rattle.mdns_history.specs.declared.held.Held.{Held}
+use Rattle.mdns_history.specs.declared.entry.Entry.{Entry}
+use Rattle.mdns_history.specs.Hearings.{Hearing, hearings}
+use Rattle.mdns_history.specs.Lifetimes.{is_uncut, is_live_at, held_from, renewals, live_of, live_records}
+use Rattle.mdns_history.specs.Asking.{is_half_fresh, listed, fits_alone, fresh_matches, known_answers}
+use Rattle.mdns_known.specs.Known.{is_listed, known_of, stand_once}
+use Rattle.mdns_known.specs.Laws.{IsOfLiveRecords, IsOrderFree}
+use Rattle.mdns_known.proofs.Sorting.{tied-turned, insert-swapped, put_behind, sorted-push}
+
+-- A relation holds along each permutation if it is reflexive and transitive, and goes under a head and over an exchange of two heads.
+module _ {X : Type 0} (R : List X → List X → Type 0) (self : (xs : List X) → R xs xs)
+    (skip : (x : X) (xs ys : List X) → R xs ys → R (x ∷ xs) (x ∷ ys))
+    (turn : (x y : X) (xs : List X) → R (x ∷ y ∷ xs) (y ∷ x ∷ xs))
+    (chain : (xs ys zs : List X) → R xs ys → R ys zs → R xs zs) where
+  to_head : (l : List X) (j : ℕ) (x d : X) → j < length l → R (x ∷ l) (get_or l j d ∷ set l j x)
+  to_head [] j x d h = absurd (omega arith)
+  to_head (y ∷ l) zero x d h = turn x y l
+  to_head (y ∷ l) (suc j) x d h =
+      chain _ _ _ (turn x y l) (chain _ _ _ (skip y _ _ (to_head l j x d (omega arith))) (turn y (get_or l j d) (set l j x)))
+
+  exchanged : (l : List X) (i j : ℕ) (d : X) → i < length l → j < length l → R l (set (set l i (get_or l j d)) j (get_or l i d))
+  exchanged [] i j d p q = absurd (omega arith)
+  exchanged (x ∷ l) zero zero d p q = self (x ∷ l)
+  exchanged (x ∷ l) zero (suc j) d p q = to_head l j x d (omega arith)
+  exchanged (x ∷ l) (suc i) zero d p q = to_head l i x d (omega arith)
+  exchanged (x ∷ l) (suc i) (suc j) d p q = skip x _ _ (exchanged l i j d (omega arith) (omega arith))
+
+  swapped : (l : List X) (i j : ℕ) → i < length l → j < length l → R l (swap l i j)
+  swapped [] i j p q = self []
+  swapped (x ∷ l) i j p q = exchanged (x ∷ l) i j x p q
+
+  pub along_permutation : (xs ys : List X) → IsPermutation xs ys → R xs ys
+  along_permutation xs = IsPermutation-keeps xs (R xs) (self xs) (λ l i j p q h. chain xs l _ h (swapped l i j p q))
+
+-- ---- sameness and record order
+
+equal_is : (r : Ordering) → is_eq r ≡ true → r ≡ Equal
+equal_is Less e = absurd (cc)
+equal_is Equal e = refl
+equal_is Greater e = absurd (cc)
+
+same-tied : (x y : Rr) → same x y ≡ is_eq (record_cmp x y)
+same-tied x y =
+    both_ways (same x y) (is_eq (record_cmp x y))
+    (λ e. ap is_eq ((record_cmp_equal x y).1 ((same_tells x y).0 e)))
+    (λ e. (same_tells x y).1 ((record_cmp_equal x y).0 (equal_is (record_cmp x y) e)))
+
+same-turned : (x y : Rr) → same x y ≡ same y x
+same-turned x y = same-tied x y ∙ tied-turned record_cmp record_cmp_total x y ∙ sym (same-tied y x)
+
+-- how records are listed doesn't count in record order
+listed-cmp : (moment : ℕ) (x y : Held) → record_cmp (listed moment x) (listed moment y) ≡ record_cmp x.rr y.rr
+unfolding record_cmp
+listed-cmp moment x y = refl
+
+-- ---- one more held record
+
+abbrev placed : Key → ℕ → Held → List Rr → List Rr
+placed question moment one rrs = cond (is_listed question moment one) (insert_by record_cmp (listed moment one) rrs) rrs
+
+module _ (question : Key) (moment : ℕ) where
+  -- a held record in front
+  known_of-cons : (one : Held) (held : List Held) → known_of question (one ∷ held) moment ≡ placed question moment one (known_of question held moment)
+  unfolding known_of
+  known_of-cons one held = at (is_listed question moment one)
+    where
+      rest : List Held
+      rest = filter (is_listed question moment) held
+
+      at : (b : Bool) → sorted_by record_cmp (map (listed moment) (cond b (one ∷ rest) rest)) ≡ cond b (insert_by record_cmp (listed moment one) (sorted_by record_cmp (map (listed moment) rest))) (sorted_by record_cmp (map (listed moment) rest))
+      at true = refl
+      at false = refl
+
+  placed-swapped : (x y : Held) (rrs : List Rr) → same x.rr y.rr ≡ false → placed question moment x (placed question moment y rrs) ≡ placed question moment y (placed question moment x rrs)
+  placed-swapped x y rrs e = at (is_listed question moment x) (is_listed question moment y)
+    where
+      apart : is_eq (record_cmp (listed moment x) (listed moment y)) ≡ false
+      apart = ap is_eq (listed-cmp moment x y) ∙ sym (same-tied x.rr y.rr) ∙ e
+
+      insert : Held → List Rr → List Rr
+      insert one l = insert_by record_cmp (listed moment one) l
+
+      at : (b c : Bool) → cond b (insert x (cond c (insert y rrs) rrs)) (cond c (insert y rrs) rrs) ≡ cond c (insert y (cond b (insert x rrs) rrs)) (cond b (insert x rrs) rrs)
+      at true true = insert-swapped record_cmp record_cmp_total (listed moment x) (listed moment y) rrs apart
+      at true false = refl
+      at false true = refl
+      at false false = refl
+
+  -- held records of another order have the same elements, stand once where these do, and then give the same
+  abbrev IsAnOrder : List Held → List Held → Type 0
+  IsAnOrder xs ys = ((t : Held → Bool) → list_any t xs ≡ list_any t ys) × (stand_once xs ≡ true → (stand_once ys ≡ true) × (known_of question xs moment ≡ known_of question ys moment))
+
+  and_parts : (a b : Bool) → (a && b) ≡ true → (a ≡ true) × (b ≡ true)
+  and_parts true b h = (refl, h)
+  and_parts false b h = absurd (cc)
+
+  and_both : (a b : Bool) → a ≡ true → b ≡ true → (a && b) ≡ true
+  and_both true b h k = k
+  and_both false b h k = absurd (cc)
+
+  or_parts : (a b : Bool) → not (a || b) ≡ true → (a ≡ false) × (not b ≡ true)
+  or_parts true b h = absurd (cc)
+  or_parts false b h = (refl, h)
+
+  not_either : (a b : Bool) → a ≡ false → not b ≡ true → not (a || b) ≡ true
+  not_either true b h k = absurd (cc)
+  not_either false b h k = k
+
+  order-skip : (x : Held) (xs ys : List Held) → IsAnOrder xs ys → IsAnOrder (x ∷ xs) (x ∷ ys)
+  order-skip x xs ys h = (
+    λ t. ap (λ (b : Bool). t x || b) (h.0 t),
+    λ e. let p = and_parts (not (list_any (λ other. same x.rr other.rr) xs)) (stand_once xs) e in
+        let rest = h.1 p.1 in (
+          and_both (not (list_any (λ other. same x.rr other.rr) ys)) (stand_once ys) (sym (ap not (h.0 (λ other. same x.rr other.rr))) ∙ p.0) rest.0,
+          known_of-cons x xs ∙ ap (placed question moment x) rest.1 ∙ sym (known_of-cons x ys),
+        ),
+  )
+
+  order-turn : (x y : Held) (xs : List Held) → IsAnOrder (x ∷ y ∷ xs) (y ∷ x ∷ xs)
+  order-turn x y xs = (λ t. turned (t x) (t y) (list_any t xs), given)
+    where
+      turned : (a b c : Bool) → (a || (b || c)) ≡ (b || (a || c))
+      turned true true c = refl
+      turned true false c = refl
+      turned false b c = refl
+
+      any_x : Bool
+      any_x = list_any (λ other. same x.rr other.rr) xs
+
+      any_y : Bool
+      any_y = list_any (λ other. same y.rr other.rr) xs
+
+      given : stand_once (x ∷ y ∷ xs) ≡ true → (stand_once (y ∷ x ∷ xs) ≡ true) × (known_of question (x ∷ y ∷ xs) moment ≡ known_of question (y ∷ x ∷ xs) moment)
+      given e =
+          let p = and_parts (not (same x.rr y.rr || any_x)) (not any_y && stand_once xs) e in
+          let first = or_parts (same x.rr y.rr) any_x p.0 in
+          let q = and_parts (not any_y) (stand_once xs) p.1 in (
+            and_both (not (same y.rr x.rr || any_y)) (not any_x && stand_once xs) (not_either (same y.rr x.rr) any_y (same-turned y.rr x.rr ∙ first.0) q.0) (and_both (not any_x) (stand_once xs) first.1 q.1),
+            known_of-cons x (y ∷ xs) ∙ ap (placed question moment x) (known_of-cons y xs) ∙ placed-swapped x y (known_of question xs moment) first.0
+                ∙ sym (ap (placed question moment y) (known_of-cons x xs)) ∙ sym (known_of-cons y (x ∷ xs)),
+          )
+
+  order-chain : (xs ys zs : List Held) → IsAnOrder xs ys → IsAnOrder ys zs → IsAnOrder xs zs
+  order-chain xs ys zs h k = (λ t. h.0 t ∙ k.0 t, λ e. let first = h.1 e in let second = k.1 first.0 in (second.0, first.1 ∙ second.1))
+
+  pub known_of-order : (one other : List Held) → stand_once one ≡ true → IsPermutation one other → known_of question one moment ≡ known_of question other moment
+  known_of-order one other e moved =
+      ((along_permutation IsAnOrder (λ xs. (λ t. refl, λ k. (k, refl))) order-skip order-turn order-chain one other moved).1 e).1
+
+pub order_free : IsOrderFree
+order_free question moment one other e moved = known_of-order question moment one other e moved
+
+-- ---- live records stand once
+
+or_false : (a b : Bool) → (a || b) ≡ false → (a ≡ false) × (b ≡ false)
+or_false true b h = absurd (cc)
+or_false false b h = (refl, h)
+
+both_false : (a b : Bool) → a ≡ false → b ≡ false → (a || b) ≡ false
+both_false true b h k = absurd (cc)
+both_false false b h k = k
+
+both_true : (a b : Bool) → a ≡ true → b ≡ true → (a && b) ≡ true
+both_true true b h k = k
+both_true false b h k = absurd (cc)
+
+parts_true : (a b : Bool) → (a && b) ≡ true → (a ≡ true) × (b ≡ true)
+parts_true true b h = (refl, h)
+parts_true false b h = absurd (cc)
+
+-- what isn't among some isn't among those of them that pass a test
+any-filter : {X : Type 0} (t p : X → Bool) (xs : List X) → list_any t xs ≡ false → list_any t (filter p xs) ≡ false
+any-filter t p [] e = refl
+any-filter t p (x ∷ xs) e = kept (p x) (any-filter t p xs (or_false (t x) (list_any t xs) e).1)
+  where
+    kept : (b : Bool) → list_any t (filter p xs) ≡ false → list_any t (cond b (x ∷ filter p xs) (filter p xs)) ≡ false
+    kept true ih = both_false (t x) (list_any t (filter p xs)) (or_false (t x) (list_any t xs) e).0 ih
+    kept false ih = ih
+
+once-filter : (p : Held → Bool) (held : List Held) → stand_once held ≡ true → stand_once (filter p held) ≡ true
+once-filter p [] e = refl
+once-filter p (one ∷ held) e = kept (p one) (once-filter p held (parts_true (not (list_any like held)) (stand_once held) e).1)
+  where
+    like : Held → Bool
+    like other = same one.rr other.rr
+
+    was_not : (b : Bool) → not b ≡ true → b ≡ false
+    was_not true h = absurd (cc)
+    was_not false h = refl
+
+    kept : (b : Bool) → stand_once (filter p held) ≡ true → stand_once (cond b (one ∷ filter p held) (filter p held)) ≡ true
+    kept true ih =
+        both_true (not (list_any like (filter p held))) (stand_once (filter p held))
+        (ap not (any-filter like p held (was_not (list_any like held) (parts_true (not (list_any like held)) (stand_once held) e).0))) ih
+    kept false ih = ih
+
+-- the last renewals of records, each once, are held apart
+module _ (heard : List Hearing) where
+  abbrev repeats : Hearing → Hearing → Bool
+  repeats later earlier = same earlier.rr later.rr
+
+  held_apart : (x : Hearing) (ys : List Hearing) → list_any (λ other. same x.rr other.rr) (map (held_from heard) (filter (λ y. not (repeats x y)) ys)) ≡ false
+  held_apart x [] = refl
+  held_apart x (y ∷ ys) = kept (same y.rr x.rr) refl (held_apart x ys)
+    where
+      others : List Hearing
+      others = filter (λ y. not (repeats x y)) ys
+
+      kept : (b : Bool) → same y.rr x.rr ≡ b → list_any (λ (other : Held). same x.rr other.rr) (map (held_from heard) others) ≡ false →
+          list_any (λ (other : Held). same x.rr other.rr) (map (held_from heard) (cond (not b) (y ∷ others) others)) ≡ false
+      kept true e ih = ih
+      kept false e ih = both_false (same x.rr y.rr) (list_any (λ (other : Held). same x.rr other.rr) (map (held_from heard) others)) (same-turned x.rr y.rr ∙ e) ih
+
+  any-map-filter : (t : Held → Bool) (p : Hearing → Bool) (ys : List Hearing) → list_any t (map (held_from heard) ys) ≡ false → list_any t (map (held_from heard) (filter p ys)) ≡ false
+  any-map-filter t p [] e = refl
+  any-map-filter t p (y ∷ ys) e = kept (p y) (any-map-filter t p ys (or_false (t (held_from heard y)) (list_any t (map (held_from heard) ys)) e).1)
+    where
+      kept : (b : Bool) → list_any t (map (held_from heard) (filter p ys)) ≡ false → list_any t (map (held_from heard) (cond b (y ∷ filter p ys) (filter p ys))) ≡ false
+      kept true ih = both_false (t (held_from heard y)) (list_any t (map (held_from heard) (filter p ys))) (or_false (t (held_from heard y)) (list_any t (map (held_from heard) ys)) e).0 ih
+      kept false ih = ih
+
+  once-map-filter : (p : Hearing → Bool) (ys : List Hearing) → stand_once (map (held_from heard) ys) ≡ true → stand_once (map (held_from heard) (filter p ys)) ≡ true
+  once-map-filter p [] e = refl
+  once-map-filter p (y ∷ ys) e = kept (p y) (once-map-filter p ys parts.1)
+    where
+      like : Held → Bool
+      like other = same y.rr other.rr
+
+      parts : (not (list_any like (map (held_from heard) ys)) ≡ true) × (stand_once (map (held_from heard) ys) ≡ true)
+      parts = parts_true (not (list_any like (map (held_from heard) ys))) (stand_once (map (held_from heard) ys)) e
+
+      was_not : (b : Bool) → not b ≡ true → b ≡ false
+      was_not true h = absurd (cc)
+      was_not false h = refl
+
+      kept : (b : Bool) → stand_once (map (held_from heard) (filter p ys)) ≡ true → stand_once (map (held_from heard) (cond b (y ∷ filter p ys) (filter p ys))) ≡ true
+      kept true ih =
+          both_true (not (list_any like (map (held_from heard) (filter p ys)))) (stand_once (map (held_from heard) (filter p ys)))
+          (ap not (any-map-filter like p ys (was_not (list_any like (map (held_from heard) ys)) parts.0))) ih
+      kept false ih = ih
+
+  once-renewals : (ys : List Hearing) → stand_once (map (held_from heard) (each_once repeats ys)) ≡ true
+  once-renewals [] = refl
+  once-renewals (y ∷ ys) =
+      both_true (not (list_any (λ (other : Held). same y.rr other.rr) (map (held_from heard) others))) (stand_once (map (held_from heard) others))
+      (ap not (held_apart y (each_once repeats ys))) (once-map-filter (λ z. not (repeats y z)) (each_once repeats ys) (once-renewals ys))
+    where
+      others : List Hearing
+      others = filter (λ z. not (repeats y z)) (each_once repeats ys)
+
+live_once : (heard : List Hearing) (moment : ℕ) → stand_once (live_of heard moment) ≡ true
+unfolding live_of
+live_once heard moment =
+    once-filter (is_live_at moment) (map (held_from heard) (renewals heard)) (once-renewals heard (filter (λ hearing. nat_lt 0 hearing.rr.ttl) heard))
+
+-- the tests of the definition over a history, one after another, are one test
+one_test : (question : Key) (moment : ℕ) (held : List Held) →
+    map (listed moment) (filter (is_listed question moment) held)
+    ≡ filter fits_alone (map (listed moment) (filter (is_half_fresh moment) (filter (λ one. matches question one.rr && is_uncut one) held)))
+one_test question moment [] = refl
+one_test question moment (one ∷ held) = at (matches question one.rr && is_uncut one) (is_half_fresh moment one) (fits_alone (listed moment one)) (one_test question moment held)
+  where
+    asked : List Held
+    asked = filter (λ one. matches question one.rr && is_uncut one) held
+
+    fresh : List Held
+    fresh = filter (is_half_fresh moment) asked
+
+    rest : List Held
+    rest = filter (is_listed question moment) held
+
+    fitting : (c d : Bool) → map (listed moment) rest ≡ filter fits_alone (map (listed moment) fresh) → d ≡ fits_alone (listed moment one) →
+        map (listed moment) (cond (c && d) (one ∷ rest) rest) ≡ filter fits_alone (map (listed moment) (cond c (one ∷ fresh) fresh))
+    fitting true true ih e = ap (λ (l : List Rr). listed moment one ∷ l) ih ∙ ap (λ (b : Bool). cond b (listed moment one ∷ filter fits_alone (map (listed moment) fresh)) (filter fits_alone (map (listed moment) fresh))) e
+    fitting true false ih e = ih ∙ ap (λ (b : Bool). cond b (listed moment one ∷ filter fits_alone (map (listed moment) fresh)) (filter fits_alone (map (listed moment) fresh))) e
+    fitting false d ih e = ih
+
+    at : (b c d : Bool) → map (listed moment) rest ≡ filter fits_alone (map (listed moment) fresh) → map (listed moment) (cond ((b && is_half_fresh moment one) && fits_alone (listed moment one)) (one ∷ rest) rest) ≡ filter fits_alone (map (listed moment) (filter (is_half_fresh moment) (cond b (one ∷ asked) asked)))
+    at true c d ih = fitting (is_half_fresh moment one) (fits_alone (listed moment one)) ih refl
+    at false c d ih = ih
+
+known_of-live : (question : Key) (history : List Entry) (moment : ℕ) → known_of question (live_records history moment) moment ≡ known_answers question history moment
+unfolding known_of known_answers fresh_matches
+known_of-live question history moment = ap (sorted_by record_cmp) (one_test question moment (live_records history moment))
+
+live_records-once : (history : List Entry) (moment : ℕ) → stand_once (live_records history moment) ≡ true
+unfolding live_records
+live_records-once history moment = live_once (hearings history) moment
+
+pub of_live_records : IsOfLiveRecords
+of_live_records question history moment held moved =
+    sym (known_of-order question moment (live_records history moment) held (live_records-once history moment) (IsPermutation-sym held (live_records history moment) moved)) ∙ known_of-live question history moment
+
+-- ---- one more held record behind the others
+
+known_of-push : (question : Key) (moment : ℕ) (before : List Held) (one : Held) →
+    known_of question (before ++ one ∷ []) moment ≡ cond (is_listed question moment one) (put_behind record_cmp record_cmp_total (listed moment one) (known_of question before moment)) (known_of question before moment)
+unfolding known_of
+known_of-push question moment before one =
+    ap (λ (l : List Held). sorted_by record_cmp (map (listed moment) l)) (filter-append (is_listed question moment) before (one ∷ [])) ∙ at (is_listed question moment one)
+  where
+    kept : List Held
+    kept = filter (is_listed question moment) before
+
+    at : (b : Bool) → sorted_by record_cmp (map (listed moment) (kept ++ cond b (one ∷ []) [])) ≡ cond b (put_behind record_cmp record_cmp_total (listed moment one) (sorted_by record_cmp (map (listed moment) kept))) (sorted_by record_cmp (map (listed moment) kept))
+    at true = ap (sorted_by record_cmp) (map-append (listed moment) kept (one ∷ [])) ∙ sorted-push record_cmp record_cmp_total (listed moment one) (map (listed moment) kept)
+    at false = ap (λ (l : List Held). sorted_by record_cmp (map (listed moment) l)) (append-nil kept)
+
+known_of-is : (question : Key) (moment : ℕ) (held : List Held) → known_of question held moment ≡ sorted_by record_cmp (map (listed moment) (filter (is_listed question moment) held))
+unfolding known_of
+known_of-is question moment held = refl
+
+-- the known answers of so many held records, and of one more
+abbrev pub known_up_to : Key → List Held → ℕ → ℕ → List Rr
+known_up_to question held moment n = known_of question (take n held) moment
+
+pub known_more-in : (question : Key) (held : List Held) (moment n : ℕ) (one : Held) (rr : Rr) (before after : List Rr) → n < length held → one ≡ get_or held n one →
+    Some rr ≡ cond (is_listed question moment one) (Some (listed moment one)) None → before ≡ known_up_to question held moment n →
+    ((xs : List Rr) → before ≡ sorted_by record_cmp xs → after ≡ sorted_by record_cmp (xs ++ rr ∷ [])) → after ≡ known_up_to question held moment (n + 1)
+known_more-in question held moment n one rr before after within is e so_far put = at (is_listed question moment one) refl e
+  where
+    up_to : List Held
+    up_to = take n held
+
+    more : List Held → List Rr
+    more held = known_of question held moment
+
+    pushed : (b : Bool) → is_listed question moment one ≡ b →
+        known_of question (take (n + 1) held) moment ≡ cond b (put_behind record_cmp record_cmp_total (listed moment one) (more up_to)) (more up_to)
+    pushed b k =
+        ap more (take_more held n one within ∙ sym (ap (λ (x : Held). up_to ++ x ∷ []) is)) ∙ known_of-push question moment up_to one
+        ∙ ap (λ (d : Bool). cond d (put_behind record_cmp record_cmp_total (listed moment one) (more up_to)) (more up_to)) k
+
+    at : (b : Bool) → is_listed question moment one ≡ b → Some rr ≡ cond b (Some (listed moment one)) None → after ≡ known_up_to question held moment (n + 1)
+    at true k h =
+        let same : rr ≡ listed moment one = cc in
+        let xs : List Rr = map (listed moment) (filter (is_listed question moment) up_to) in
+        put xs (so_far ∙ known_of-is question moment up_to)
+        ∙ sorted-push record_cmp record_cmp_total rr xs
+        ∙ ap (λ (l : List Rr). put_behind record_cmp record_cmp_total rr l) (sym (known_of-is question moment up_to))
+        ∙ ap (λ (x : Rr). put_behind record_cmp record_cmp_total x (more up_to)) same
+        ∙ sym (pushed true k)
+    at false k h = absurd (cc)
+
+pub known_more-over : (question : Key) (held : List Held) (moment n : ℕ) (one : Held) → n < length held → one ≡ get_or held n one →
+    None ≡ cond (is_listed question moment one) (Some (listed moment one)) None → known_up_to question held moment n ≡ known_up_to question held moment (n + 1)
+known_more-over question held moment n one within is e =
+    at (is_listed question moment one) e
+    ∙ sym (known_of-push question moment (take n held) one)
+    ∙ ap (λ (l : List Held). known_of question l moment) (ap (λ (x : Held). take n held ++ x ∷ []) is ∙ sym (take_more held n one within))
+  where
+    at : (b : Bool) → None ≡ cond b (Some (listed moment one)) None →
+        known_up_to question held moment n ≡ cond b (put_behind record_cmp record_cmp_total (listed moment one) (known_up_to question held moment n)) (known_up_to question held moment n)
+    at true h = absurd (cc)
+    at false h = refl

@@ -1,0 +1,46 @@
+// The known answers of a question.
+ghost use Rattle.std.specs.Prelude.{◌≡◌, ◌≤◌, ◌^◌, IfOk};
+ghost use Rattle.std.specs.List.{All};
+ghost use Rattle.mdns_known.specs.Known.{known_of};
+
+use crate::listing::listing;
+use crate::order::put_behind;
+use dns_message::Rrs;
+use dns_record::{Key, Rr};
+use mdns_history::Held;
+use std::alloc::{AllocError, Global};
+
+/// The known answers of a question at `now`, in ms, as a query lists them, in record order: the held records that match,
+/// whose end nothing cut, and that have at least half of their TTL left. They are listed without the flush bit, with the
+/// seconds that are left, rounded up. A record that passes 8972 bytes alone in a message isn't listed. Nothing held may
+/// have been heard after `now`. Refused only for want of memory. (RFC 6762 7.1)
+#[tactic(auto, unfolding(crate::specs::Known::known_of))]
+pub fn known_answers(
+    alloc: Global,
+    question: &Key,
+    held: &[Held],
+    now: u64,
+) -> Result<Rrs, AllocError>
+    requires bound { now ≤ 2 ^ 53 }
+    requires heard { All (λ one. one.heard ≤ now) held.now }
+    ensures { IfOk result (λ known. known ≡ known_of question.now held.now now) }
+{
+    let mut known = Vec::new(alloc);
+    for one in held {
+        if let Some(rr) = listing(alloc, question, one, now)? {
+            put_behind(&mut known, rr)?;
+        }
+    }
+    in_list(alloc, known)
+}
+
+// The same records as a list of a message.
+fn in_list(alloc: Global, records: Vec<Rr>) -> Result<Rrs, AllocError>
+    ensures { IfOk result (λ rrs. rrs ≡ records.items) }
+{
+    let mut rrs = Rrs::new(alloc);
+    for rr in records {
+        rrs.push(rr)?;
+    }
+    Ok(rrs)
+}

@@ -1,0 +1,15 @@
+//! Known answers: which held records a query lists, and which listed records silence a reply. (RFC 6762 7.1)
+#![tactic(auto)]
+
+mod known;
+mod laws;
+mod listing;
+mod order;
+mod suppression;
+
+pub use known::known_answers;
+pub use laws::known_answers_of_live_records;
+pub use suppression::suppresses;
+
+#[cfg(test)]
+mod tests;

@@ -1,0 +1,114 @@
+// Which held records are listed, and how.
+ghost use Rattle.std.specs.Prelude.{◌≡◌, ◌+◌, ◌-◌, ◌/◌, ◌≤◌, ◌^◌, ◌&&◌, [], ◌∷◌, Some, None, false, IsTrue, IfOk, if◌then◌else◌};
+ghost use Rattle.dns_record.specs.Records.{matches};
+ghost use Rattle.dns_message.specs.Packing.{query_with};
+ghost use Rattle.mdns_history.specs.Lifetimes.{is_uncut};
+ghost use Rattle.mdns_history.specs.Asking.{is_half_fresh, listed, fits_alone};
+ghost use Rattle.mdns_known.specs.Known.{is_listed};
+
+use dns_message::{Message, Questions, Rrs, WriteError, write};
+use dns_record::{Key, Rr, matches};
+use mdns_history::Held;
+use std::alloc::{AllocError, Global};
+
+/// The longest message, in bytes. (RFC 6762 17)
+const LONGEST_MESSAGE: usize = 8972;
+
+/// A held record as it is listed, where it is a known answer of a question. Refused only for want of memory.
+pub fn listing(
+    alloc: Global,
+    question: &Key,
+    one: &Held,
+    now: u64,
+) -> Result<Option<Rr>, AllocError>
+    requires bound { now ≤ 2 ^ 53 }
+    requires heard { one.now.heard ≤ now }
+    ensures { IfOk result (λ listing. listing ≡ (if is_listed question.now now one.now then Some (listed now one.now) else None)) }
+{
+    if is_fresh(question, one, now) {
+        if_it_fits(alloc, listed(alloc, one, now)?)
+    } else {
+        Ok(None)
+    }
+}
+
+// Whether a held record matches a question, is uncut, and has at least half of its TTL left.
+fn is_fresh(question: &Key, one: &Held, now: u64) -> bool
+    requires { one.now.heard ≤ 2 ^ 53 }
+    ensures { result ≡ (matches question.now one.now.rr && is_uncut one.now && is_half_fresh now one.now) }
+{
+    matches(question, &one.rr) && is_uncut(one) && is_half_fresh(one, now)
+}
+
+// Whether the end of a held record is the one that its TTL gives.
+fn is_uncut(one: &Held) -> bool
+    requires { one.now.heard ≤ 2 ^ 53 }
+    ensures { result ≡ is_uncut one.now }
+{
+    one.end == one.heard + 1000 * u64::from(one.rr.ttl)
+}
+
+// Whether at least half of the TTL is left: half of a second is 500 ms.
+fn is_half_fresh(one: &Held, now: u64) -> bool
+    ensures { result ≡ is_half_fresh now one.now }
+{
+    500 * u64::from(one.rr.ttl) <= one.end.saturating_sub(now)
+}
+
+// An uncut record as it is listed: without the flush bit, with the seconds that are left, rounded up.
+fn listed(alloc: Global, one: &Held, now: u64) -> Result<Rr, AllocError>
+    requires bound { now ≤ 2 ^ 53 }
+    requires heard { one.now.heard ≤ now }
+    requires uncut { IsTrue (is_uncut one.now) }
+    ensures { IfOk result (λ rr. rr ≡ listed now one.now) }
+{
+    Ok(Rr {
+        owner: one.rr.owner.copy(),
+        flush: false,
+        ttl: seconds_left(one, now),
+        rdata: one.rr.rdata.copy(alloc)?,
+    })
+}
+
+// The seconds of an uncut record's TTL that are left, rounded up.
+fn seconds_left(one: &Held, now: u64) -> u32
+    requires bound { now ≤ 2 ^ 53 }
+    requires heard { one.now.heard ≤ now }
+    requires uncut { IsTrue (is_uncut one.now) }
+    ensures { result ≡ (one.now.end - now + 999) / 1000 }
+{
+    let left = (1000 * u64::from(one.rr.ttl)).saturating_sub(now - one.heard);
+    ((left + 999) / 1000) as u32
+}
+
+// A record, where it fits a message alone, and nothing where it doesn't.
+fn if_it_fits(alloc: Global, rr: Rr) -> Result<Option<Rr>, AllocError>
+    ensures { IfOk result (λ fitting. fitting ≡ (if fits_alone rr then Some rr else None)) }
+{
+    let message = query_with(alloc, rr)?;
+    match write(alloc, &message, LONGEST_MESSAGE) {
+        Ok(_) => Ok(message.answers.into_vec().pop()),
+        Err(WriteError::TooLong) => Ok(None),
+        Err(WriteError::NoMemory) => Err(AllocError),
+    }
+}
+
+// A query without questions that lists one record.
+fn query_with(alloc: Global, rr: Rr) -> Result<Message, AllocError>
+    ensures { IfOk result (λ message. message ≡ query_with [] (rr ∷ []) false) }
+{
+    let mut answers = Rrs::new(alloc);
+    answers.push(rr)?;
+    Ok(Message {
+        id: 0,
+        response: false,
+        authoritative: false,
+        truncated: false,
+        opcode: 0,
+        rcode: 0,
+        questions: Questions::new(alloc),
+        answers,
+        authority: Rrs::new(alloc),
+        additional: Rrs::new(alloc),
+    })
+}

@@ -1,0 +1,134 @@
+// Queries that are packed: what each of their messages holds and how long it is.
+use crate::pack_query;
+use dns_message::{Message, Rrs, write};
+use dns_name::Name;
+use dns_record::{Bytes, Key, Rdata, Rr};
+use std::alloc::Global;
+use std::test::Fail;
+
+// The letters of the questions, those of the known answers with the lengths of their data, and for each message whether
+// more follows, how many questions and answers it has, and its length. A small letter is the name of that label under
+// `local`, a capital has a label of 63 bytes. A header takes 12 bytes, a question 4 beside its name, a record 10 beside
+// its name and data; a pointer takes 2.
+const QUERIES: [(&str, &[(char, usize)], &str); 12] = [
+    ("", &[('h', 1)], ""),
+    ("h", &[], "- 1 0 25\n"),
+    ("hi", &[('h', 1), ('i', 2)], "- 2 2 60\n"),
+    // Only what matches a question is listed.
+    ("h", &[('g', 1), ('h', 1), ('i', 1)], "- 1 1 38\n"),
+    // The packet is full, and the next answer begins another message.
+    ("h", &[('h', 1403), ('h', 1)], "tc 1 1 1440\n- 0 1 32\n"),
+    (
+        "h",
+        &[('h', 1403), ('h', 1), ('h', 1397)],
+        "tc 1 1 1440\ntc 0 1 32\n- 0 1 1428\n",
+    ),
+    (
+        "h",
+        &[('h', 1403), ('h', 1), ('h', 1396)],
+        "tc 1 1 1440\n- 0 2 1440\n",
+    ),
+    // The first answer doesn't fit beside the question.
+    ("h", &[('h', 1404)], "tc 1 0 25\n- 0 1 1435\n"),
+    // A record that passes the length alone goes alone.
+    (
+        "h",
+        &[('h', 1), ('h', 3000), ('h', 1)],
+        "tc 1 1 38\ntc 0 1 3031\n- 0 1 32\n",
+    ),
+    // A later question that would still fit doesn't come forward.
+    ("ABCDEFGHIJKLMNOPQRSTUb", &[], "- 20 0 1417\n- 2 0 95\n"),
+    // Each batch has its own known answers.
+    (
+        "ABCDEFGHIJKLMNOPQRSTUb",
+        &[('b', 4), ('A', 1)],
+        "- 20 1 1430\n- 2 1 111\n",
+    ),
+    (
+        "ABCDEFGHIJKLMNOPQRSTUb",
+        &[('A', 20), ('A', 1), ('b', 4)],
+        "tc 20 0 1417\n- 0 2 126\n- 2 1 111\n",
+    ),
+];
+
+#[test]
+fn queries_are_packed(rt: HostRuntime) -> Result<(), Fail> {
+    let alloc = rt.alloc();
+    for (letters, answers, written) in QUERIES {
+        let mut questions = Vec::new(alloc);
+        for letter in letters.chars() {
+            questions.push(Key {
+                name: name_of(alloc, letter)?,
+                kind: 255,
+            })?;
+        }
+        let mut known = Rrs::new(alloc);
+        for (letter, length) in answers {
+            known.push(record_of(alloc, *letter, *length)?)?;
+        }
+        let messages = pack_query(alloc, questions.as_slice(), &known)?;
+        let mut out = Vec::new(alloc);
+        for message in messages.as_slice() {
+            put_message(alloc, &mut out, message)?;
+        }
+        assert_eq!(rt; out.as_slice(), written.as_bytes(), "{letters}");
+    }
+    Ok(())
+}
+
+// A query for the address of `h.local` that lists one: in hexadecimal 000000000001000100000000 0168056c6f63616c0000010001
+// c00c000100010000003c00040a000001.
+const ASKED: [u8; 41] = [
+    0, 0, 0, 0, 0, 1, 0, 1, 0, 0, 0, 0, 1, 0x68, 5, 0x6c, 0x6f, 0x63, 0x61, 0x6c, 0, 0, 1, 0, 1,
+    0xc0, 0x0c, 0, 1, 0, 1, 0, 0, 0, 0x3c, 0, 4, 10, 0, 0, 1,
+];
+
+#[test]
+fn a_query_lists_an_address(rt: HostRuntime) -> Result<(), Fail> {
+    let alloc = rt.alloc();
+    let question = Key {
+        name: Name::parse_text("h.local").map_err(|_| "name")?,
+        kind: 1,
+    };
+    let mut known = Rrs::new(alloc);
+    known.push(Rr::parse_text(alloc, "h.local. 60 - A 10.0.0.1").map_err(|_| "record")?)?;
+    let messages = pack_query(alloc, &[question], &known)?.into_vec();
+    assert_eq!(rt; messages.len(), 1);
+    let written = write(alloc, &messages[0], 1440).map_err(|_| "length")?;
+    assert_eq!(rt; written.as_slice(), ASKED.as_slice());
+    Ok(())
+}
+
+fn name_of(alloc: Global, letter: char) -> Result<Name, Fail> {
+    let mut text = String::new(alloc);
+    if letter.is_ascii_uppercase() {
+        for _ in 0..62 {
+            text.push('x')?;
+        }
+    }
+    text.push(letter)?;
+    text.push_str(".local")?;
+    Ok(Name::parse_text(text.as_str()).map_err(|_| "name")?)
+}
+
+fn record_of(alloc: Global, letter: char, length: usize) -> Result<Rr, Fail> {
+    Ok(Rr {
+        owner: name_of(alloc, letter)?,
+        flush: false,
+        ttl: 60,
+        rdata: Rdata::Txt(Bytes::from_vec(vec![in alloc; 0u8; length]?)),
+    })
+}
+
+fn put_message(alloc: Global, out: &mut Vec<u8>, message: &Message) -> Result<(), Fail> {
+    let written = write(alloc, message, 8972).map_err(|_| "length")?;
+    let flag = if message.truncated { "tc" } else { "-" };
+    let line = format!(in alloc;
+        "{flag} {} {} {}\n",
+        message.questions.as_slice().len(),
+        message.answers.as_slice().len(),
+        written.as_slice().len()
+    )?;
+    out.extend_from_slice(line.as_bytes())?;
+    Ok(())
+}
