@@ -5,8 +5,8 @@ use Rattle.std.proofs.lemmas.Bool.{le-leb}
 use Rattle.dns_record.specs.declared.record.Rdata.TheVariants.{A, Aaaa, Ptr, Cname, Txt, Raw}
 use Rattle.dns_message.specs.declared.message.Message.{Message}
 use Rattle.dns_message.specs.declared.message.MessageError.{MessageError}
-use Rattle.dns_message.specs.declared.message.MessageError.TheVariants.{Truncated, BadPointer, BadLabel, LongName, BadRdata, TooLong, NoMemory}
-use Rattle.dns_message.specs.Reading.{◌>>=◌, holds_or, byte_at, byte_or_end, label_at, target_at, labels_at, name_at, name_within, name_up_to, fixed_within, srv_at, ns_at, nsec_at, u16_in, u32_in, u128_in, class_in, top_bit_in, mx_at, soa_at, number_data, rdata_at, data_end_at, record_at, question_at, all_at, sections_at, spelled, IsReadAs}
+use Rattle.dns_message.specs.declared.message.MessageError.TheVariants.{Truncated, BadPointer, BadLabel, LongName, BadRdata, TooLong}
+use Rattle.dns_message.specs.Reading.{◌>>=◌, holds_or, byte_at, byte_or_end, label_at, target_at, labels_at, name_at, name_within, name_up_to, srv_at, ns_at, nsec_at, u16_in, u32_in, u128_in, class_in, top_bit_in, mx_at, soa_at, rdata_at, data_end_at, record_at, question_at, all_at, sections_at, spelled, IsReadAs}
 
 -- the result is no fault of length
 pub record IsOther {X : Type 0} (result : Result X MessageError) : Type 0 where

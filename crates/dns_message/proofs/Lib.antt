@@ -7,6 +7,7 @@ pub mod Bounded
 pub mod Sequences
 pub mod Chunks
 pub mod NameTurns
+pub mod Ends
 pub mod Standing
 pub mod LabelSteps
 pub mod Tables

@@ -1,7 +1,6 @@
 -- One turn of reading a name.
-use Rattle.std.proofs.Common.{◌≡◌, ℕ, suc, ◌+◌, ◌-◌, ◌*◌, subst, ◌<◌, ◌≤◌, ◌++◌, List, [], ◌∷◌, ◌∙◌, Bool, true, false, cond, eqb, ltb, leb, length, refl, arith, ap, sym, append-nil, append_assoc, length-append, Option, Some, None, Result, Ok, Err}
+use Rattle.std.proofs.Common.{◌≡◌, ℕ, suc, ◌+◌, ◌-◌, subst, ◌<◌, ◌≤◌, ◌++◌, List, [], ◌∷◌, ◌∙◌, Bool, true, false, cond, ltb, length, refl, arith, ap, sym, append-nil, append_assoc, Option, Some, None, Result, Ok, Err}
 use Rattle.std.specs.Option.{unwrap_or, option_or, IfSome}
-use Rattle.std.specs.List.{slice_get}
 use Rattle.std.proofs.lemmas.Bool.{ne_eqb, lt-ltb, le-ltb}
 use Rattle.dns_name.specs.Names.{wire_of}
 use Rattle.dns_name.proofs.Wire.{length-wire_of-push, wire_some}

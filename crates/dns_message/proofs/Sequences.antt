@@ -1,6 +1,5 @@
 -- Reading so many things in a row, one by one.
-use Rattle.std.proofs.Common.{◌≡◌, ◌⊎◌, inl, inr, ℕ, zero, suc, ◌+◌, ◌-◌, ◌<◌, ◌++◌, List, [], ◌∷◌, ◌∙◌, refl, arith, ap, sym, subst, append-nil, append_assoc, Option, Some, None, Result, Ok, Err}
-use Rattle.std.specs.List.{cons_option}
+use Rattle.std.proofs.Common.{◌≡◌, inl, inr, ℕ, suc, ◌+◌, ◌-◌, ◌<◌, ◌++◌, List, [], ◌∷◌, ◌∙◌, refl, arith, ap, sym, subst, append-nil, append_assoc, Option, Some, None, Result, Ok, Err}
 use Rattle.dns_message.specs.declared.message.MessageError.{MessageError}
 use Rattle.dns_message.specs.declared.message.MessageError.TheVariants.{NoMemory}
 use Rattle.dns_message.specs.Reading.{◌>>=◌, all_at, IsReadAs}

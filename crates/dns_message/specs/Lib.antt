@@ -2,3 +2,4 @@ pub mod Reading
 pub mod Writing
 pub mod Packing
 pub mod Compressing
+pub mod Chains

@@ -1,9 +1,11 @@
 // The data of records, at offsets of a message. (RFC 1035 3.3, RFC 2782, RFC 3596 2.2, RFC 4034 4.1)
 ghost use Rattle.std.specs.Prelude.{◌≡◌, ◌+◌, ◌-◌, ◌<◌, ◌≤◌, ◌++◌, List, [], ◌∷◌, Ok, Err, length, slice_range, IfOk};
 ghost use Rattle.dns_name.specs.Names.{wire_of};
+ghost use Rattle.dns_message.specs.Chains.{AreEnds};
 ghost use Rattle.dns_message.specs.Reading.{name_within, name_up_to, rdata_at, srv_at, ns_at, nsec_at, mx_at, soa_at, number_data, fixed_within, IsReadAs};
 
 use crate::MessageError;
+use crate::chains::Chains;
 use crate::fields::{u16_at, u32_at, u128_at};
 use crate::names::read_name;
 use dns_name::Name;
@@ -15,11 +17,13 @@ use std::alloc::{AllocError, Global};
 pub(crate) fn read_rdata(
     alloc: Global,
     bytes: &[u8],
+    chains: &Chains,
     kind: u16,
     at: usize,
     stop: usize,
 ) -> Result<Rdata, MessageError>
     requires short { length bytes.now ≤ 8972 }
+    requires ends { AreEnds bytes.now chains.now }
     requires order { at ≤ stop }
     requires within { stop ≤ length bytes.now }
     ensures { IsReadAs result (rdata_at bytes.now kind at stop) }
@@ -28,13 +32,13 @@ pub(crate) fn read_rdata(
         1 if stop - at == 4 => Ok(Rdata::A(u32_at(bytes, at))),
         28 if stop - at == 16 => Ok(Rdata::Aaaa(u128_at(bytes, at))),
         1 | 28 => Err(MessageError::BadRdata),
-        12 => Ok(Rdata::Ptr(read_last_name(bytes, at, stop)?)),
-        5 => Ok(Rdata::Cname(read_last_name(bytes, at, stop)?)),
-        33 => read_srv(bytes, at, stop),
-        47 => read_nsec(alloc, bytes, at, stop),
-        2 => read_ns(alloc, bytes, at, stop),
-        15 => read_mx(alloc, bytes, at, stop),
-        6 => read_soa(alloc, bytes, at, stop),
+        12 => Ok(Rdata::Ptr(read_last_name(bytes, chains, at, stop)?)),
+        5 => Ok(Rdata::Cname(read_last_name(bytes, chains, at, stop)?)),
+        33 => read_srv(bytes, chains, at, stop),
+        47 => read_nsec(alloc, bytes, chains, at, stop),
+        2 => read_ns(alloc, bytes, chains, at, stop),
+        15 => read_mx(alloc, bytes, chains, at, stop),
+        6 => read_soa(alloc, bytes, chains, at, stop),
         16 => Ok(Rdata::Txt(copied(alloc, &bytes[at..stop])?)),
         kind => Ok(Rdata::Raw {
             kind,
@@ -45,12 +49,18 @@ pub(crate) fn read_rdata(
 
 // A name in data: it ends within them.
 #[tactic(auto, unfolding(crate::specs::Reading::name_within))]
-fn read_inner_name(bytes: &[u8], at: usize, stop: usize) -> Result<(Name, usize), MessageError>
-    requires { length bytes.now ≤ 8972 }
+fn read_inner_name(
+    bytes: &[u8],
+    chains: &Chains,
+    at: usize,
+    stop: usize,
+) -> Result<(Name, usize), MessageError>
+    requires short { length bytes.now ≤ 8972 }
+    requires ends { AreEnds bytes.now chains.now }
     ensures name { result ≡ name_within bytes.now at stop }
     ensures within { IfOk result (λ found. found.1 ≤ stop) }
 {
-    let (name, end) = read_name(bytes, at)?;
+    let (name, end) = read_name(bytes, chains, at)?;
     if end > stop {
         return Err(MessageError::BadRdata);
     }
@@ -59,11 +69,17 @@ fn read_inner_name(bytes: &[u8], at: usize, stop: usize) -> Result<(Name, usize)
 
 // A name with which data end.
 #[tactic(auto, unfolding(crate::specs::Reading::name_up_to))]
-fn read_last_name(bytes: &[u8], at: usize, stop: usize) -> Result<Name, MessageError>
-    requires { length bytes.now ≤ 8972 }
+fn read_last_name(
+    bytes: &[u8],
+    chains: &Chains,
+    at: usize,
+    stop: usize,
+) -> Result<Name, MessageError>
+    requires short { length bytes.now ≤ 8972 }
+    requires ends { AreEnds bytes.now chains.now }
     ensures { result ≡ name_up_to bytes.now at stop }
 {
-    let (name, end) = read_name(bytes, at)?;
+    let (name, end) = read_name(bytes, chains, at)?;
     if end != stop {
         return Err(MessageError::BadRdata);
     }
@@ -71,8 +87,9 @@ fn read_last_name(bytes: &[u8], at: usize, stop: usize) -> Result<Name, MessageE
 }
 
 #[tactic(auto, unfolding(crate::specs::Reading::srv_at))]
-fn read_srv(bytes: &[u8], at: usize, stop: usize) -> Result<Rdata, MessageError>
+fn read_srv(bytes: &[u8], chains: &Chains, at: usize, stop: usize) -> Result<Rdata, MessageError>
     requires short { length bytes.now ≤ 8972 }
+    requires ends { AreEnds bytes.now chains.now }
     requires order { at ≤ stop }
     requires within { stop ≤ length bytes.now }
     ensures { result ≡ srv_at bytes.now at stop }
@@ -80,7 +97,7 @@ fn read_srv(bytes: &[u8], at: usize, stop: usize) -> Result<Rdata, MessageError>
     if stop - at < 6 {
         return Err(MessageError::BadRdata);
     }
-    let target = read_last_name(bytes, at + 6, stop)?;
+    let target = read_last_name(bytes, chains, at + 6, stop)?;
     Ok(Rdata::Srv {
         priority: u16_at(bytes, at),
         weight: u16_at(bytes, at + 2),
@@ -90,12 +107,19 @@ fn read_srv(bytes: &[u8], at: usize, stop: usize) -> Result<Rdata, MessageError>
 }
 
 #[tactic(auto, unfolding(crate::specs::Reading::nsec_at))]
-fn read_nsec(alloc: Global, bytes: &[u8], at: usize, stop: usize) -> Result<Rdata, MessageError>
+fn read_nsec(
+    alloc: Global,
+    bytes: &[u8],
+    chains: &Chains,
+    at: usize,
+    stop: usize,
+) -> Result<Rdata, MessageError>
     requires short { length bytes.now ≤ 8972 }
+    requires ends { AreEnds bytes.now chains.now }
     requires within { stop ≤ length bytes.now }
     ensures { IsReadAs result (nsec_at bytes.now at stop) }
 {
-    let (next, end) = read_inner_name(bytes, at, stop)?;
+    let (next, end) = read_inner_name(bytes, chains, at, stop)?;
     Ok(Rdata::Nsec {
         next,
         bitmap: copied(alloc, &bytes[end..stop])?,
@@ -103,11 +127,18 @@ fn read_nsec(alloc: Global, bytes: &[u8], at: usize, stop: usize) -> Result<Rdat
 }
 
 #[tactic(auto, unfolding(crate::specs::Reading::ns_at))]
-fn read_ns(alloc: Global, bytes: &[u8], at: usize, stop: usize) -> Result<Rdata, MessageError>
-    requires { length bytes.now ≤ 8972 }
+fn read_ns(
+    alloc: Global,
+    bytes: &[u8],
+    chains: &Chains,
+    at: usize,
+    stop: usize,
+) -> Result<Rdata, MessageError>
+    requires short { length bytes.now ≤ 8972 }
+    requires ends { AreEnds bytes.now chains.now }
     ensures { IsReadAs result (ns_at bytes.now at stop) }
 {
-    let name = read_last_name(bytes, at, stop)?;
+    let name = read_last_name(bytes, chains, at, stop)?;
     Ok(Rdata::Raw {
         kind: 2,
         bytes: copied(alloc, name.as_wire())?,
@@ -115,8 +146,15 @@ fn read_ns(alloc: Global, bytes: &[u8], at: usize, stop: usize) -> Result<Rdata,
 }
 
 #[tactic(auto, unfolding(crate::specs::Reading::mx_at))]
-fn read_mx(alloc: Global, bytes: &[u8], at: usize, stop: usize) -> Result<Rdata, MessageError>
+fn read_mx(
+    alloc: Global,
+    bytes: &[u8],
+    chains: &Chains,
+    at: usize,
+    stop: usize,
+) -> Result<Rdata, MessageError>
     requires short { length bytes.now ≤ 8972 }
+    requires ends { AreEnds bytes.now chains.now }
     requires order { at ≤ stop }
     requires within { stop ≤ length bytes.now }
     ensures { IsReadAs result (mx_at bytes.now at stop) }
@@ -124,7 +162,7 @@ fn read_mx(alloc: Global, bytes: &[u8], at: usize, stop: usize) -> Result<Rdata,
     if stop - at < 2 {
         return Err(MessageError::BadRdata);
     }
-    let name = read_last_name(bytes, at + 2, stop)?;
+    let name = read_last_name(bytes, chains, at + 2, stop)?;
     Ok(Rdata::Raw {
         kind: 15,
         bytes: joined(alloc, &bytes[at..at + 2], name.as_wire(), &[])?,
@@ -132,13 +170,20 @@ fn read_mx(alloc: Global, bytes: &[u8], at: usize, stop: usize) -> Result<Rdata,
 }
 
 #[tactic(auto, unfolding(crate::specs::Reading::soa_at))]
-fn read_soa(alloc: Global, bytes: &[u8], at: usize, stop: usize) -> Result<Rdata, MessageError>
+fn read_soa(
+    alloc: Global,
+    bytes: &[u8],
+    chains: &Chains,
+    at: usize,
+    stop: usize,
+) -> Result<Rdata, MessageError>
     requires short { length bytes.now ≤ 8972 }
+    requires ends { AreEnds bytes.now chains.now }
     requires within { stop ≤ length bytes.now }
     ensures { IsReadAs result (soa_at bytes.now at stop) }
 {
-    let (server, end) = read_inner_name(bytes, at, stop)?;
-    let (mailbox, end) = read_inner_name(bytes, end, stop)?;
+    let (server, end) = read_inner_name(bytes, chains, at, stop)?;
+    let (mailbox, end) = read_inner_name(bytes, chains, end, stop)?;
     if stop - end != 20 {
         return Err(MessageError::BadRdata);
     }

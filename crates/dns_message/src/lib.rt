@@ -1,6 +1,7 @@
 //! Messages of the domain name system, as Multicast DNS uses them. (RFC 1035 4.1, RFC 6762 18)
 #![tactic(auto)]
 
+mod chains;
 mod compress;
 mod data;
 mod fields;

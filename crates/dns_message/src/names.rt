@@ -1,15 +1,23 @@
 // Names, at offsets of a message. (RFC 1035 4.1.4)
 ghost use Rattle.std.specs.Prelude.{◌≡◌, ◌+◌, ◌-◌, ◌<◌, ◌≤◌, ◌++◌, ℕ, List, [], ◌∷◌, Ok, Err, length, slice_range, nat_lt, if◌then◌else◌, IfOk, MatchResult};
 ghost use Rattle.dns_name.specs.Names.{wire_of};
+ghost use Rattle.dns_message.specs.Chains.{AreEnds};
 ghost use Rattle.dns_message.specs.Reading.{byte_at, name_at, label_at, target_at};
 
 use crate::MessageError;
+use crate::chains::Chains;
 use crate::fields::byte_in;
-use dns_name::{Label, Name};
+use dns_name::Name;
 
-/// The name at an offset, and the offset behind it. It takes no memory.
-pub(crate) fn read_name(bytes: &[u8], at: usize) -> Result<(Name, usize), MessageError>
-    requires { length bytes.now ≤ 8972 }
+/// The name at an offset, and the offset behind it; of a chain of pointers only the end is looked at, where it is kept.
+/// It takes no memory.
+pub(crate) fn read_name(
+    bytes: &[u8],
+    chains: &Chains,
+    at: usize,
+) -> Result<(Name, usize), MessageError>
+    requires short { length bytes.now ≤ 8972 }
+    requires ends { AreEnds bytes.now chains.now }
     ensures name { result ≡ name_at bytes.now at }
     ensures within { IfOk result (λ found. found.1 ≤ length bytes.now) }
 {
@@ -27,7 +35,7 @@ pub(crate) fn read_name(bytes: &[u8], at: usize) -> Result<(Name, usize), Messag
             push_label(&mut name, bytes, place + 1, usize::from(first))?;
             place += 1 + usize::from(first);
         } else {
-            start = target(bytes, start, place, first)?;
+            start = chains.end(target(bytes, start, place, first)?);
             end = end.or(Some(place + 2));
             place = start;
         }
@@ -52,19 +60,23 @@ fn push_label(name: &mut Name, bytes: &[u8], at: usize, size: usize) -> Result<(
     if name.wire_len() + size + 1 > 255 {
         return Err(MessageError::LongName);
     }
-    if let Some(label) = Label::new(&bytes[at..at + size]) {
-        name.push(&label);
-    }
+    name.push_bytes(&bytes[at..at + size]);
     Ok(())
 }
 
 // Where the pointer at an offset aims, which is below the start of the run of labels that it ends. A first byte of the
 // reserved forms begins no pointer.
 #[tactic(auto, unfolding(crate::specs::Reading::target_at))]
-fn target(bytes: &[u8], start: usize, at: usize, first: u8) -> Result<usize, MessageError>
+pub(crate) fn target(
+    bytes: &[u8],
+    start: usize,
+    at: usize,
+    first: u8,
+) -> Result<usize, MessageError>
     requires first { byte_at bytes.now at ≡ Ok first }
     requires long { 64 ≤ first }
     ensures target { result ≡ (if nat_lt first 192 then Err MessageError.BadLabel else target_at bytes.now start at) }
+    ensures below { IfOk result (λ target. target < start) }
     ensures within { IfOk result (λ _. at + 2 ≤ length bytes.now) }
 {
     if first < 192 {

@@ -4,6 +4,7 @@ ghost use Rattle.dns_message.specs.declared.message.Message.{Message};
 ghost use Rattle.dns_message.specs.Reading.{Spells, spelled, fault, fault_number, has_bit, IsReadAs};
 ghost use Rattle.dns_message.specs.Writing.{HasValidParts};
 
+use crate::chains::Chains;
 use crate::fields::u16_at;
 use crate::sections::{read_questions, read_records};
 use crate::{Message, MessageError};
@@ -40,10 +41,11 @@ fn read_short(alloc: Global, bytes: &[u8]) -> Result<Message, MessageError>
     if bytes.len() < 12 {
         return Err(MessageError::Truncated);
     }
-    let (questions, at) = read_questions(alloc, bytes, u16_at(bytes, 4), 12)?;
-    let (answers, at) = read_records(alloc, bytes, u16_at(bytes, 6), at)?;
-    let (authority, at) = read_records(alloc, bytes, u16_at(bytes, 8), at)?;
-    let (additional, _) = read_records(alloc, bytes, u16_at(bytes, 10), at)?;
+    let chains = Chains::of(alloc, bytes)?;
+    let (questions, at) = read_questions(alloc, bytes, &chains, u16_at(bytes, 4), 12)?;
+    let (answers, at) = read_records(alloc, bytes, &chains, u16_at(bytes, 6), at)?;
+    let (authority, at) = read_records(alloc, bytes, &chains, u16_at(bytes, 8), at)?;
+    let (additional, _) = read_records(alloc, bytes, &chains, u16_at(bytes, 10), at)?;
     let (high, low) = (bytes[2], bytes[3]);
     Ok(Message {
         id: u16_at(bytes, 0),

@@ -1,7 +1,9 @@
 // Questions and records, at offsets of a message. (RFC 1035 4.1.2 and 4.1.3, RFC 6762 10.2 and 18.12)
 ghost use Rattle.std.specs.Prelude.{◌≡◌, ◌+◌, ◌<◌, ◌≤◌, length, IfOk};
+ghost use Rattle.dns_message.specs.Chains.{AreEnds};
 ghost use Rattle.dns_message.specs.Reading.{question_at, record_at, data_end_at, all_at, IsReadAs};
 
+use crate::chains::Chains;
 use crate::data::read_rdata;
 use crate::fields::{u16_at, u32_at};
 use crate::names::read_name;
@@ -22,16 +24,18 @@ const TOP_BIT: u16 = 0x8000;
 pub(crate) fn read_questions(
     alloc: Global,
     bytes: &[u8],
+    chains: &Chains,
     count: u16,
     at: usize,
 ) -> Result<(Questions, usize), MessageError>
-    requires { length bytes.now ≤ 8972 }
+    requires short { length bytes.now ≤ 8972 }
+    requires ends { AreEnds bytes.now chains.now }
     ensures { IsReadAs result (all_at (question_at bytes.now) count at) }
 {
     let mut questions = Questions::new(alloc);
     let mut place = at;
     'questions: for read in 0..count {
-        let (question, end) = read_question(bytes, place)?;
+        let (question, end) = read_question(bytes, chains, place)?;
         if let Some(question) = question {
             questions.push(question)?;
         }
@@ -45,16 +49,18 @@ pub(crate) fn read_questions(
 pub(crate) fn read_records(
     alloc: Global,
     bytes: &[u8],
+    chains: &Chains,
     count: u16,
     at: usize,
 ) -> Result<(Rrs, usize), MessageError>
-    requires { length bytes.now ≤ 8972 }
+    requires short { length bytes.now ≤ 8972 }
+    requires ends { AreEnds bytes.now chains.now }
     ensures { IsReadAs result (all_at (record_at bytes.now) count at) }
 {
     let mut rrs = Rrs::new(alloc);
     let mut place = at;
     'records: for read in 0..count {
-        let (rr, end) = read_record(alloc, bytes, place)?;
+        let (rr, end) = read_record(alloc, bytes, chains, place)?;
         if let Some(rr) = rr {
             rrs.push(rr)?;
         }
@@ -64,11 +70,16 @@ pub(crate) fn read_records(
 }
 
 #[tactic(auto, unfolding(crate::specs::Reading::question_at))]
-fn read_question(bytes: &[u8], at: usize) -> Result<(Option<Question>, usize), MessageError>
-    requires { length bytes.now ≤ 8972 }
+fn read_question(
+    bytes: &[u8],
+    chains: &Chains,
+    at: usize,
+) -> Result<(Option<Question>, usize), MessageError>
+    requires short { length bytes.now ≤ 8972 }
+    requires ends { AreEnds bytes.now chains.now }
     ensures { result ≡ question_at bytes.now at }
 {
-    let (name, fields) = read_name(bytes, at)?;
+    let (name, fields) = read_name(bytes, chains, at)?;
     if bytes.len() - fields < 4 {
         return Err(MessageError::Truncated);
     }
@@ -83,17 +94,23 @@ fn read_question(bytes: &[u8], at: usize) -> Result<(Option<Question>, usize), M
 }
 
 #[tactic(auto, unfolding(crate::specs::Reading::record_at))]
-fn read_record(alloc: Global, bytes: &[u8], at: usize) -> Result<(Option<Rr>, usize), MessageError>
-    requires { length bytes.now ≤ 8972 }
+fn read_record(
+    alloc: Global,
+    bytes: &[u8],
+    chains: &Chains,
+    at: usize,
+) -> Result<(Option<Rr>, usize), MessageError>
+    requires short { length bytes.now ≤ 8972 }
+    requires ends { AreEnds bytes.now chains.now }
     ensures { IsReadAs result (record_at bytes.now at) }
 {
-    let (owner, fields) = read_name(bytes, at)?;
+    let (owner, fields) = read_name(bytes, chains, at)?;
     let stop = data_end(bytes, fields)?;
     let (kind, class) = (u16_at(bytes, fields), u16_at(bytes, fields + 2));
     if kind == OPT || class % TOP_BIT != INTERNET {
         return Ok((None, stop));
     }
-    let rdata = read_rdata(alloc, bytes, kind, fields + 10, stop)?;
+    let rdata = read_rdata(alloc, bytes, chains, kind, fields + 10, stop)?;
     let rr = Rr {
         owner,
         flush: class >= TOP_BIT,

@@ -1,16 +1,18 @@
-use Rattle.std.proofs.Common.{rules, ◌≡◌, ◌+◌, ◌-◌, ◌<◌, ◌≤◌, ◌++◌, ℕ, suc, zero, List, [], ◌∷◌, Ok, Err, None, length, take, drop, arith, sym, ap, ◌∙◌, refl, subst}
+use Rattle.std.proofs.Common.{◌≡◌, ◌+◌, ◌-◌, length, drop, arith, sym}
 use Rattle.std.proofs.lemmas.List.{length-take, length-drop}
 use Rattle.std.proofs.lemmas.Result.{err_from_is_err_and}
 use Rattle.std.specs.List.{slice_range}
-use Rattle.dns_message.specs.Reading.{name_at, label_at, target_at}
-use Rattle.dns_message.proofs.NameTurns.{IsUnderWay, turn_first, turn_past, turn_done, turn_label_fault, turn_label, turn_pointer_fault, turn_pointer, turn_over, turn_left, end_within}
+use Rattle.dns_message.proofs.NameTurns.{turn_first, turn_past, turn_done, turn_label_fault, turn_label, turn_pointer_fault, turn_pointer, turn_over, turn_left, end_within}
+use Rattle.dns_message.proofs.Ends.{enough_first, enough_left, enough_label, enough_pointer, turn_jump}
 use Rattle.dns_message.proofs.names.read_name.Goals as goal
-use Rattle.dns_message.proofs.names.read_name.Goals.{then-first-lt64+in_ok-push_label, else-first-lt64+in_ok-start}
+use Rattle.dns_message.proofs.names.read_name.Goals.{then-first-lt64+in_ok-push_label, else-first-lt64+in_ok-target}
 
 pub turns-init : goal.turns-init
 turns-init c = record {
   under_way = let all : length c.args.bytes.now + 129 - 0 ≡ length c.args.bytes.now + 129 = omega arith in rw (c.root-name.ensures, all) (turn_first c.args.bytes.now c.args.at);
   within = tt;
+  order = omega arith;
+  enough = λ h. rw c.root-name.ensures (enough_first (length c.args.bytes.now) c.args.at h);
 }
 
 pub returns-in_err-first-clause-name : goal.returns-in_err-first-clause-name
@@ -31,15 +33,16 @@ returns-in_err-push_label-clause-name c =
     rw (p.1, p.2)
     (turn_label_fault _ _ _ _ _ _ _ _ _ (turn_left _ c.turns.turn _ _ _ _ _ _ c.turns-test.true c.turns.invariant.under_way) (sym c.in_ok-first.ensures.value) (omega arith) c.if-first-lt64.true (rw size at c.in_err-push_label.ensures))
 
-pub returns-in_err-start-clause-name : goal.returns-in_err-start-clause-name
-returns-in_err-start-clause-name c =
-    let p = err_from_is_err_and c.from_residual-in_err-start.result c.from_residual-in_err-start.ensures.1 in
+pub returns-in_err-target-clause-name : goal.returns-in_err-target-clause-name
+returns-in_err-target-clause-name c =
+    let p = err_from_is_err_and c.from_residual-in_err-target.result c.from_residual-in_err-target.ensures.1 in
     rw (p.1, p.2)
-    (turn_pointer_fault _ _ _ _ _ _ _ _ _ (turn_left _ c.turns.turn _ _ _ _ _ _ c.turns-test.true c.turns.invariant.under_way) (sym c.in_ok-first.ensures.value) c.if-first-lt64.false (sym c.in_err-start.ensures.target))
+    (turn_pointer_fault _ _ _ _ _ _ _ _ _ (turn_left _ c.turns.turn _ _ _ _ _ _ c.turns-test.true c.turns.invariant.under_way) (sym c.in_ok-first.ensures.value) c.if-first-lt64.false (sym c.in_err-target.ensures.target))
 
 pub turns-preserved : goal.turns-preserved
 turns-preserved c =
     let turn = turn_left _ c.turns.turn _ _ _ _ _ _ c.turns-test.true c.turns.invariant.under_way in
+    let enough = enough_left _ c.turns.turn _ _ c.turns-test.true (c.turns.invariant.enough (omega (arith, c.in_ok-first.ensures.within, c.turns.invariant.order))) in
     elim c.if-first-lt64.branch [
       | then-first-lt64+in_ok-push_label w ↦
           let bytes = c.args.bytes.now in
@@ -53,12 +56,21 @@ turns-preserved c =
             under_way = rw (w.name-is, w.in_ok-push_label.ensures.1, w.end-is, w.start-is, place, size)
                 (turn_label _ _ _ _ _ _ _ _ _ turn (sym c.in_ok-first.ensures.value) (omega arith) w.if-first-lt64.true (rw size at read) whole);
             within = rw w.end-is c.turns.invariant.within;
+            order = omega arith;
+            enough = λ h. rw (w.name-is, w.in_ok-push_label.ensures.1, w.start-is, size)
+                (enough_label _ _ _ _ _ _ _ enough (omega arith) (rw size at read) whole);
           }
-      | else-first-lt64+in_ok-start w ↦
+      | else-first-lt64+in_ok-target w ↦
+          let chain = c.requires.ends.each w.in_ok-target.field-0 in
+          let low = w.in_ok-target.ensures.below in
           record {
-            under_way = rw (w.name-is, w.end-is, w.or-end.ensures, w.start-is, w.place-is)
-                (turn_pointer _ _ _ _ _ _ _ _ _ turn (sym c.in_ok-first.ensures.value) w.if-first-lt64.false (sym w.in_ok-start.ensures.target));
-            within = rw (w.end-is, w.or-end.ensures) (end_within _ _ _ c.turns.invariant.within w.in_ok-start.ensures.within);
+            under_way = rw (w.name-is, w.end-is, w.or-end.ensures, w.start-is, w.place-is, w.end-start.ensures)
+                (turn_jump _ _ _ _ _ _ _ _
+                (turn_pointer _ _ _ _ _ _ _ _ _ turn (sym c.in_ok-first.ensures.value) w.if-first-lt64.false (sym w.in_ok-target.ensures.target))
+                chain (enough_pointer _ _ _ _ _ enough low (omega arith)));
+            order = omega arith;
+            enough = λ h. rw (w.name-is, w.start-is, w.end-start.ensures) (enough_pointer _ _ _ _ _ enough low chain.below);
+            within = rw (w.end-is, w.or-end.ensures) (end_within _ _ _ c.turns.invariant.within w.in_ok-target.ensures.within);
           }
     ]
 

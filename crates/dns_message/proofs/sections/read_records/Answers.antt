@@ -1,6 +1,5 @@
-use Rattle.std.proofs.Common.{◌≡◌, inr, ℕ, ◌+◌, ◌-◌, ◌<◌, ◌≤◌, None, Some, Ok, Err, arith, sym}
+use Rattle.std.proofs.Common.{◌≡◌, inr, ◌-◌, arith}
 use Rattle.std.proofs.lemmas.Result.{err_from_is_err_and}
-use Rattle.dns_message.specs.Reading.{record_at}
 use Rattle.dns_message.proofs.Sequences.{one_left, all_read, one_refused, read_is, one_passed, one_kept}
 use Rattle.dns_message.proofs.sections.read_records.Goals as goal
 use Rattle.dns_message.proofs.sections.read_records.Goals.{in-Some+in_ok-push, in_default}
