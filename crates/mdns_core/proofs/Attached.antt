@@ -9,7 +9,7 @@ use Rattle.mdns_history.specs.declared.entry.Outcome.{Outcome}
 use Rattle.mdns_history.specs.declared.entry.Outcome.TheVariants as outcome
 use Rattle.mdns_history.specs.declared.entry.Entry.{Entry}
 use Rattle.mdns_history.specs.History.{latest}
-use Rattle.mdns_history.specs.InForce.{in_force}
+use Rattle.mdns_core.specs.InForce.{in_force}
 use Rattle.mdns_history.specs.Sessions.{opened, opened_count, detached, is_number, attaching, is_attached, attached_sessions}
 use Rattle.mdns_history.specs.Outcomes.{early_outcome}
 use Rattle.mdns_history.specs.Fitting.{IsLegal}

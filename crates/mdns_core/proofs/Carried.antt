@@ -13,7 +13,7 @@ use Rattle.mdns_history.specs.declared.entry.Outcome.{Outcome}
 use Rattle.mdns_history.specs.declared.entry.Entry.{Entry}
 use Rattle.mdns_history.specs.Hearings.{Hearing, hearings, counted_records, brought}
 use Rattle.mdns_history.specs.Sessions.{opened, accepted_call}
-use Rattle.mdns_history.specs.InForce.{in_force}
+use Rattle.mdns_core.specs.InForce.{in_force}
 use Rattle.mdns_history.specs.Fitting.{Fits, is_boot, last_moment}
 use Rattle.mdns_cache.specs.Lifetimes.{Holds}
 use Rattle.sd_answer.specs.Laws.{have_data}

@@ -8,7 +8,7 @@ use Rattle.dns_name.specs.Lists.{least, least_of}
 use Rattle.mdns_history.specs.declared.held.Held.{Held}
 use Rattle.mdns_history.specs.declared.entry.Entry.{Entry}
 use Rattle.mdns_history.specs.History.{now}
-use Rattle.mdns_history.specs.InForce.{in_force}
+use Rattle.mdns_core.specs.InForce.{in_force}
 use Rattle.mdns_history.specs.Hearings.{hearings}
 use Rattle.mdns_history.specs.Lifetimes.{is_live_at, held_from, renewals, live_of, live_records}
 use Rattle.mdns_history.specs.Groups.{host_of}

@@ -16,7 +16,7 @@ use Rattle.mdns_history.specs.declared.entry.Entry.{Entry}
 use Rattle.mdns_history.specs.Hearings.{brought, counted, counted_records, heard_in, is_refusal, hearing_of, Hearing, hearings}
 use Rattle.mdns_history.specs.Lifetimes.{is_too_full, is_live_at, live_of, live_records}
 use Rattle.mdns_history.specs.History.{now}
-use Rattle.mdns_history.specs.InForce.{in_force}
+use Rattle.mdns_core.specs.InForce.{in_force}
 use Rattle.mdns_history.specs.Items.{cut_marks, served_sessions, would_pass}
 use Rattle.mdns_history.specs.Fitting.{refusal_marks, with_outcome, boot_entry, IsLegalFrom, IsLegal}
 use Rattle.mdns_history.proofs.LifetimeSteps.{live_of-later}

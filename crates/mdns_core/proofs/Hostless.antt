@@ -16,7 +16,7 @@ use Rattle.mdns_history.specs.declared.entry.Outcome.{Outcome}
 use Rattle.mdns_history.specs.declared.entry.Outcome.TheVariants as outcome
 use Rattle.mdns_history.specs.declared.entry.Entry.{Entry}
 use Rattle.mdns_history.specs.History.{booted, config_of}
-use Rattle.mdns_history.specs.InForce.{in_force}
+use Rattle.mdns_core.specs.InForce.{in_force}
 use Rattle.mdns_history.specs.declared.operation.Operation.{Operation}
 use Rattle.mdns_history.specs.Sessions.{Accepted, has_op, by_op, is_number, detached, is_attached, is_cut, accepted_call, accepted_in, after_request, after_call, updated, operations_of, operation_request}
 use Rattle.mdns_history.specs.Groups.{groups, host_of, host_group, group_of, registration_from, registration_in, registered_count, is_there, ends_group, begun_in, names_of}

@@ -13,7 +13,7 @@ use Rattle.mdns_history.specs.declared.event.Event.{Event}
 use Rattle.mdns_history.specs.declared.event.Event.TheVariants as event
 use Rattle.mdns_history.specs.declared.entry.Outcome.TheVariants as outcome
 use Rattle.mdns_history.specs.declared.entry.Entry.{Entry}
-use Rattle.mdns_history.specs.InForce.{in_force}
+use Rattle.mdns_core.specs.InForce.{in_force}
 use Rattle.mdns_history.specs.Sessions.{has_op, opened_count, is_attached, attached_sessions, is_cut, operations_of, operation_request}
 use Rattle.mdns_history.specs.Groups.{Group, no_type, names_of, is_taken, host_of}
 use Rattle.mdns_history.specs.Outcomes.{most_sessions, most_operations, most_over_life, may_update, is_bad_reference, is_unsupported, is_refused, is_name_conflict, call_code, early_outcome}

@@ -7,7 +7,7 @@ use Rattle.sd_call.specs.Answers.{frames_len}
 use Rattle.mdns_history.specs.declared.config.Config.{Config}
 use Rattle.mdns_history.specs.declared.event.Event.{Event}
 use Rattle.mdns_history.specs.declared.entry.Entry.{Entry}
-use Rattle.mdns_history.specs.InForce.{in_force}
+use Rattle.mdns_core.specs.InForce.{in_force}
 use Rattle.mdns_history.specs.Sessions.{opened, opened_count, is_attached, attached_sessions, is_cut, operations_of}
 use Rattle.mdns_history.specs.Groups.{host_of}
 use Rattle.mdns_history.specs.Items.{session_items, taken_items, queue}

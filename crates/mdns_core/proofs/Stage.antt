@@ -7,7 +7,7 @@ use Rattle.mdns_history.specs.declared.mark.Mark.{Mark}
 use Rattle.mdns_history.specs.declared.entry.Sent.{Sent}
 use Rattle.mdns_history.specs.declared.entry.Entry.{Entry}
 use Rattle.mdns_history.specs.History.{now}
-use Rattle.mdns_history.specs.InForce.{in_force}
+use Rattle.mdns_core.specs.InForce.{in_force}
 use Rattle.mdns_history.specs.Sending.{tick_sends}
 use Rattle.mdns_history.specs.Fitting.{bare_entry, refusal_marks, event_sends, noted, with_cuts, with_items, with_outcome, next_entry, last_moment, is_boot, Fits, IsLegal}
 use Rattle.mdns_history.proofs.Determined.{next_entry-fits}

@@ -8,7 +8,7 @@ use Rattle.sd_call.specs.Replay.{replay}
 use Rattle.mdns_history.specs.declared.config.Config.{Config}
 use Rattle.mdns_history.specs.declared.config.HostConfig.{HostConfig}
 use Rattle.mdns_history.specs.declared.entry.Entry.{Entry}
-use Rattle.mdns_history.specs.InForce.{in_force}
+use Rattle.mdns_core.specs.InForce.{in_force}
 use Rattle.mdns_history.specs.Hearings.{Hearing, hearings, heard_in}
 use Rattle.mdns_history.specs.Lifetimes.{live_of, live_records}
 use Rattle.mdns_history.specs.Sessions.{is_attached, attached_sessions, is_cut}

@@ -13,7 +13,7 @@ use Rattle.mdns_history.specs.declared.entry.Sent.{Sent}
 use Rattle.mdns_history.specs.declared.entry.Outcome.{Outcome}
 use Rattle.mdns_history.specs.declared.entry.Entry.{Entry}
 use Rattle.mdns_history.specs.History.{now}
-use Rattle.mdns_history.specs.InForce.{in_force}
+use Rattle.mdns_core.specs.InForce.{in_force}
 use Rattle.mdns_history.specs.Hearings.{hearings, hearing_of, brought, counted_records}
 use Rattle.mdns_history.specs.Lifetimes.{is_too_full, live_of, live_records}
 use Rattle.mdns_history.specs.Sessions.{opened, opened_count}

@@ -1,3 +1,4 @@
+pub mod InForce
 pub mod State
 pub mod Changes
 pub mod Codes

@@ -8,7 +8,7 @@ ghost use Rattle.mdns_history.specs.declared.entry.Entry.{Entry};
 ghost use Rattle.mdns_history.specs.Sessions.{opened, is_attached, is_cut};
 ghost use Rattle.mdns_history.specs.Items.{session_items};
 ghost use Rattle.mdns_history.specs.Replays.{answer_sets};
-ghost use Rattle.mdns_history.specs.InForce.{in_force};
+ghost use Rattle.mdns_core.specs.InForce.{in_force};
 ghost use Rattle.mdns_history.specs.Fitting.{Fits, boot_entry, is_boot};
 ghost use Rattle.mdns_history.specs.Due.{NextDue};
 ghost use Rattle.mdns_core.specs.Codes.{has_number};

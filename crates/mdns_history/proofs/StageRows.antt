@@ -1,20 +1,20 @@
--- Worked rows of the daemon with the duties that are in force, and of a response that carries a question.
+-- Worked rows of a daemon without any duty, and of a response that carries a question.
 use Rattle.std.proofs.Common.{◌≡◌, List, [], ◌∷◌, ◌++◌, refl, codes, true, false}
 use Rattle.std.specs.Fmt.{digits}
 use Rattle.mdns_history.proofs.AllOpen.{all_open}
 use Rattle.mdns_history.specs.declared.entry.Entry.{Entry}
 use Rattle.mdns_history.specs.declared.event.Event.TheVariants as event
 use Rattle.mdns_history.specs.EntryText.{line}
-use Rattle.mdns_history.specs.InForce.{in_force}
+use Rattle.mdns_history.specs.InForce.{no_duties}
 use Rattle.mdns_history.specs.Due.{is_idle}
 use Rattle.mdns_history.proofs.Played.{at, played, played_by, booted, plain_config, other, query_a, hears, ticks, notes}
 
 -- a record of two seconds, heard at 1000
-abbrev run_in_force : List Entry
-run_in_force = played_by in_force (booted plain_config) (query_a ++ ticks 20 ∷ hears 1000 0x80 2 1 ∷ ticks 2999 ∷ [])
+abbrev run_without : List Entry
+run_without = played_by no_duties (booted plain_config) (query_a ++ ticks 20 ∷ hears 1000 0x80 2 1 ∷ ticks 2999 ∷ [])
 
 -- asked for nothing, the record comes and goes
-row_in_force : notes (played_by in_force run_in_force (ticks 3000 ∷ [])) ≡
+row_without : notes (played_by no_duties run_without (ticks 3000 ∷ [])) ≡
     line (codes "0")
     ++ line (codes " = opened 1")
     ++ line (codes "0")
@@ -25,12 +25,12 @@ row_in_force : notes (played_by in_force run_in_force (ticks 3000 ∷ [])) ≡
     ++ line (codes "3000")
     ++ line (codes " < 1 rem 1 A 192.0.2.1")
 unfolding all_open digits
-row_in_force = refl
+row_without = refl
 
 -- a tick has nothing to do before the record ends
-row_in_force_due : is_idle in_force run_in_force 2999 ∷ is_idle in_force run_in_force 3000 ∷ [] ≡ true ∷ false ∷ []
+row_without_due : is_idle no_duties run_without 2999 ∷ is_idle no_duties run_without 3000 ∷ [] ≡ true ∷ false ∷ []
 unfolding all_open digits
-row_in_force_due = refl
+row_without_due = refl
 
 -- a response with the question for a.local
 abbrev run_response : List Entry

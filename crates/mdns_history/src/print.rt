@@ -6,7 +6,7 @@ ghost use Rattle.mdns_history.specs.EntryText.{entry_text, head_line, mark_line,
 use crate::print_event::put_event;
 use crate::print_sent::put_sends;
 use crate::{Cause, Entry, Given, Mark, Outcome};
-use dns_record::{Bytes, put_kind, put_name};
+use dns_record::{Bytes, Key, put_kind, put_name};
 use mdns_base::put_decimal;
 use sd_call::{Item, put_code, put_item};
 use std::alloc::{AllocError, Global};
@@ -81,12 +81,7 @@ fn put_mark(out: &mut Vec<u8>, mark: &Mark) -> Result<(), AllocError>
             Ok(())
         }
         Mark::Asked { question, cause } => {
-            out.extend_from_slice(b"asked ")?;
-            put_name(out, &question.name)?;
-            out.push(b' ')?;
-            put_kind(out, question.kind)?;
-            out.push(b' ')?;
-            put_cause(out, *cause)?;
+            put_asked(out, question, *cause)?;
             Ok(())
         }
         Mark::Announced { group } => {
@@ -98,6 +93,19 @@ fn put_mark(out: &mut Vec<u8>, mark: &Mark) -> Result<(), AllocError>
             Ok(())
         }
     }
+}
+
+// The mark of a question that was asked.
+fn put_asked(out: &mut Vec<u8>, question: &Key, cause: Cause) -> Result<(), AllocError>
+    ensures { OnOk result (out.new.items ≡ out.old.items ++ mark_text (Mark.Asked question.now cause)) }
+{
+    out.extend_from_slice(b"asked ")?;
+    put_name(out, &question.name)?;
+    out.push(b' ')?;
+    put_kind(out, question.kind)?;
+    out.push(b' ')?;
+    put_cause(out, cause)?;
+    Ok(())
 }
 
 // A word and a number behind it.

@@ -4,9 +4,10 @@ ghost use Rattle.mdns_history.specs.EntryText.{event_text, host_text, v6_text, f
 
 use crate::{Event, HostConfig};
 use mdns_base::{Host, put_decimal, put_hex, put_ipv4, put_ipv6};
-use sd_call::{put_label, put_request};
+use sd_call::{Request, put_label, put_request};
 use std::alloc::AllocError;
 
+/// Puts the text of an event. Refused only for want of memory.
 pub(crate) fn put_event(out: &mut Vec<u8>, event: &Event) -> Result<(), AllocError>
     ensures { OnOk result (out.new.items ≡ out.old.items ++ event_text event.now) }
 {
@@ -31,19 +32,11 @@ pub(crate) fn put_event(out: &mut Vec<u8>, event: &Event) -> Result<(), AllocErr
             op,
             request,
         } => {
-            out.extend_from_slice(b"call ")?;
-            put_decimal(out, *session)?;
-            out.push(b' ')?;
-            put_decimal(out, u64::from(*op))?;
-            out.push(b' ')?;
-            put_request(out, request)?;
+            put_call(out, *session, *op, request)?;
             Ok(())
         }
         Event::Hear { from, bytes } => {
-            out.extend_from_slice(b"hear ")?;
-            put_from(out, *from)?;
-            out.push(b' ')?;
-            put_hex(out, bytes.as_slice())?;
+            put_heard(out, *from, bytes.as_slice())?;
             Ok(())
         }
         Event::Tick => {
@@ -58,6 +51,30 @@ pub(crate) fn put_event(out: &mut Vec<u8>, event: &Event) -> Result<(), AllocErr
             Ok(())
         }
     }
+}
+
+// The call of a session.
+fn put_call(out: &mut Vec<u8>, session: u64, op: u32, request: &Request) -> Result<(), AllocError>
+    ensures { OnOk result (out.new.items ≡ out.old.items ++ event_text (Event.Call session op request.now)) }
+{
+    out.extend_from_slice(b"call ")?;
+    put_decimal(out, session)?;
+    out.push(b' ')?;
+    put_decimal(out, u64::from(op))?;
+    out.push(b' ')?;
+    put_request(out, request)?;
+    Ok(())
+}
+
+// A packet that was heard.
+fn put_heard(out: &mut Vec<u8>, from: Host, bytes: &[u8]) -> Result<(), AllocError>
+    ensures { OnOk result (out.new.items ≡ out.old.items ++ event_text (Event.Hear from bytes.now)) }
+{
+    out.extend_from_slice(b"hear ")?;
+    put_from(out, from)?;
+    out.push(b' ')?;
+    put_hex(out, bytes)?;
+    Ok(())
 }
 
 fn put_host(out: &mut Vec<u8>, host: &Option<HostConfig>) -> Result<(), AllocError>
@@ -87,7 +104,7 @@ fn put_v6(out: &mut Vec<u8>, v6: Option<u128>) -> Result<(), AllocError>
     }
 }
 
-// An address and a port.
+/// Puts an address and a port. Refused only for want of memory.
 pub(crate) fn put_from(out: &mut Vec<u8>, host: Host) -> Result<(), AllocError>
     ensures { OnOk result (out.new.items ≡ out.old.items ++ from_text host) }
 {

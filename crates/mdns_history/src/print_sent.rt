@@ -10,6 +10,7 @@ use dns_record::{Question, Rr, put_kind, put_name, put_record};
 use mdns_base::{Dest, put_decimal};
 use std::alloc::AllocError;
 
+/// Puts the lines of the messages that an entry sends. Refused only for want of memory.
 pub(crate) fn put_sends(out: &mut Vec<u8>, sends: &[Sent]) -> Result<(), AllocError>
     ensures { OnOk result (out.new.items ≡ out.old.items ++ flat_map sent_lines sends.now) }
 {

@@ -19,7 +19,7 @@ use Rattle.mdns_history.specs.Outcomes.{early_outcome}
 use Rattle.mdns_history.specs.Sending.{tick_sends}
 use Rattle.mdns_script.specs.declared.command.Command.{Command}
 use Rattle.mdns_script.specs.declared.command.Command.TheVariants.{Daemon, At, Attach, Event as Happening}
-use Rattle.mdns_history.specs.InForce.{in_force}
+use Rattle.mdns_core.specs.InForce.{in_force}
 use Rattle.mdns_history.specs.Fitting.{Fits, boot_entry, is_boot, last_moment, next_entry}
 use Rattle.mdns_history.specs.Due.{IsNextDue, NextDue, is_idle}
 use Rattle.mdns_core.specs.State.{State, Stands}

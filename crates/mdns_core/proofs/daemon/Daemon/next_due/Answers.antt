@@ -1,6 +1,6 @@
 use Rattle.std.proofs.Common.{◌≡◌, ◌∙◌, ◌<◌, IfSome, ap, subst, sym}
 use Rattle.std.specs.Prelude.{ℕ, Option}
-use Rattle.mdns_history.specs.InForce.{in_force}
+use Rattle.mdns_core.specs.InForce.{in_force}
 use Rattle.mdns_history.specs.Due.{NextDue}
 use Rattle.mdns_cache.specs.Lifetimes.{next_end_of}
 use Rattle.mdns_core.specs.State.{State}
