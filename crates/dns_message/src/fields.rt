@@ -4,7 +4,7 @@ ghost use Rattle.dns_message.specs.Reading.{byte_at, u16_in, u32_in, u128_in};
 
 use crate::MessageError;
 
-// The byte at an offset, Truncated past the end.
+/// The byte at an offset, Truncated past the end.
 pub(crate) fn byte_in(bytes: &[u8], at: usize) -> Result<u8, MessageError>
     ensures value { result ≡ byte_at bytes.now at }
     ensures within { IfOk result (λ _. at < length bytes.now) }
@@ -15,6 +15,7 @@ pub(crate) fn byte_in(bytes: &[u8], at: usize) -> Result<u8, MessageError>
     }
 }
 
+/// The number of two bytes at an offset.
 #[tactic(auto, using(crate::proofs::Chunks::range_chunk))]
 pub(crate) fn u16_at(bytes: &[u8], at: usize) -> u16
     requires { at + 2 ≤ length bytes.now }
@@ -24,6 +25,7 @@ pub(crate) fn u16_at(bytes: &[u8], at: usize) -> u16
     u16::from_be_bytes(*number)
 }
 
+/// The number of four bytes at an offset.
 #[tactic(auto, using(crate::proofs::Chunks::range_chunk))]
 pub(crate) fn u32_at(bytes: &[u8], at: usize) -> u32
     requires { at + 4 ≤ length bytes.now }
@@ -33,6 +35,7 @@ pub(crate) fn u32_at(bytes: &[u8], at: usize) -> u32
     u32::from_be_bytes(*number)
 }
 
+/// The number of 16 bytes at an offset.
 pub(crate) fn u128_at(bytes: &[u8], at: usize) -> u128
     requires { at + 16 ≤ length bytes.now }
     ensures { result ≡ u128_in bytes.now at }

@@ -64,8 +64,8 @@ fn push_label(name: &mut Name, bytes: &[u8], at: usize, size: usize) -> Result<(
     Ok(())
 }
 
-// Where the pointer at an offset aims, which is below the start of the run of labels that it ends. A first byte of the
-// reserved forms begins no pointer.
+/// Where the pointer at an offset aims, which is below the start of the run of labels that it ends. A first byte of the
+/// reserved forms begins no pointer.
 #[tactic(auto, unfolding(crate::specs::Reading::target_at))]
 pub(crate) fn target(
     bytes: &[u8],

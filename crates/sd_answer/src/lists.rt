@@ -48,7 +48,7 @@ impl Answers {
         self.vec.as_slice()
     }
 
-    // Puts the answers into order, of those of the same bytes the first alone. Refused only for want of memory.
+    /// Puts the answers into order, of those of the same bytes the first alone. Refused only for want of memory.
     pub(crate) fn order(&mut self) -> Result<(), AllocError>
         ensures { OnOk result (self.new ≡ ordered answer_cmp self.old) }
     {
