@@ -162,6 +162,29 @@ def hostile():
     return bytes(4) + len(questions).to_bytes(2, "big") + bytes(6) + b"".join(questions)
 
 
+def labelled():
+    """The same, where each name is a label of one byte and a pointer to the name of the one before, up to 125 labels, then anew."""
+    questions = [b"\0\0\1\0\1"]
+    at, last = 12 + 5, 12
+    while at + 8 <= 8972:
+        questions.append(b"\1a" + (0xC000 | last).to_bytes(2, "big") + b"\0\1\0\1")
+        last, at = 12 if len(questions) % 126 == 0 else at, at + 8
+    return bytes(4) + len(questions).to_bytes(2, "big") + bytes(6) + b"".join(questions)
+
+
+def longest():
+    """Data with 126 labels of one byte, a pointer before and behind each, and records whose owners are pointers to the last."""
+    data, last, base = b"\0", 12 + 11, 12 + 11
+    for _ in range(126):
+        label = base + len(data)
+        data += b"\1a" + (0xC000 | last).to_bytes(2, "big") + (0xC000 | label).to_bytes(2, "big")
+        last = base + len(data) - 2
+    records = [b"\0\0\x63\0\1" + bytes(4) + len(data).to_bytes(2, "big") + data]
+    for _ in range((8972 - 12 - len(records[0])) // 12):
+        records.append((0xC000 | last).to_bytes(2, "big") + b"\0\x63\0\1" + bytes(6))
+    return header(len(records)) + b"".join(records)
+
+
 ROWS = (
     ("two equal names of 24 bytes compared, case aside", 0, None, 250),
     ("two address records of one owner ordered", 1, None, 600),
@@ -171,6 +194,8 @@ ROWS = (
     ("a response of 10 records with plain owners of 12 bytes read", 5, plain(), 12_000),
     ("the same compressed", 5, compressed(), 14_000),
     ("8,972 bytes of a hostile chain of pointers read", 5, hostile(), 3_000_000),
+    ("the same with a label before each pointer", 5, labelled(), None),
+    ("8,972 bytes with owners of 126 labels, each behind a pointer", 5, longest(), None),
 )
 
 
@@ -209,7 +234,8 @@ def main():
         print("| What | Instructions | Wanted |\n|---|---|---|")
         for label, what, bytes_in, most in ROWS:
             each = (instructions(program, what, bytes_in, 11) - instructions(program, what, bytes_in, 1)) // 10
-            print(f"| {label} | {each:,} | at most {most:,} |", flush=True)
+            wanted = f"at most {most:,}" if most else ""
+            print(f"| {label} | {each:,} | {wanted} |", flush=True)
 
 
 main()

@@ -1,15 +1,13 @@
 -- Chains of pointers: turns that are enough, and where a chain ends.
-use Rattle.std.proofs.Common.{◌≡◌, ℕ, zero, suc, ◌+◌, ◌-◌, ◌*◌, ◌<◌, ◌≤◌, ◌++◌, List, [], ◌∷◌, ◌∙◌, ⊎_elim, Bool, true, false, cond, eqb, ltb, length, get_or, refl, arith, length-append, ap, sym, subst, Option, Some, None, Result, Ok, Err}
+use Rattle.std.proofs.Common.{◌≡◌, ℕ, zero, suc, ◌+◌, ◌-◌, ◌*◌, ◌<◌, ◌≤◌, ◌++◌, List, [], ◌∷◌, ◌∙◌, Bool, true, false, cond, eqb, ltb, length, refl, arith, ap, sym, subst, Option, Some, None, Result, Ok, Err}
 use Rattle.std.specs.Option.{unwrap_or, option_or}
 use Rattle.std.specs.Prelude.{slice_index}
-use Rattle.std.proofs.lemmas.Bool.{ltb-true, ltb-false, ne_eqb, le-ltb, cases_lt}
-use Rattle.std.proofs.lemmas.List.{get_or_append_left, get_or_past}
-use Rattle.std.proofs.Math.Seq.{get_or-append_seam}
+use Rattle.std.proofs.lemmas.Bool.{ltb-true, ltb-false, ne_eqb, le-ltb}
 use Rattle.dns_name.proofs.Wire.{length-wire_of-push, wire_some}
 use Rattle.dns_message.specs.declared.message.MessageError.{MessageError}
 use Rattle.dns_message.specs.declared.message.MessageError.TheVariants.{Truncated, BadPointer, LongName}
 use Rattle.dns_message.specs.Reading.{◌>>=◌, NameAt, labels_at, label_at, target_at, byte_at}
-use Rattle.dns_message.specs.Chains.{AreEnough, labels_in, IsEndOf, AreEnds}
+use Rattle.dns_message.specs.Chains.{AreEnough, labels_in, IsEndOf}
 use Rattle.dns_message.proofs.NameTurns.{behind, used_by, IsUnderWay}
 
 -- the same at each value gives the same
@@ -79,9 +77,7 @@ kept : (r : Result NameAt MessageError) (stop : ℕ) → labels_in (r >>= λ res
 kept (Ok found) stop = refl
 kept (Err e) stop = refl
 
-pub own_end : (bytes : List ℕ) (start : ℕ) → IsEndOf bytes start start
-own_end bytes start = record { below = omega arith; alike = λ turns used h. refl }
-
+-- the end of the chain behind a pointer
 pub end_behind : (bytes : List ℕ) (start first target end : ℕ) → byte_at bytes start ≡ Ok first → 192 ≤ first → target_at bytes start start ≡ Ok target
     → IsEndOf bytes target end → IsEndOf bytes start end
 end_behind bytes start first target end b high t e = record { below = omega (arith, target_below bytes start start target t, e.below); alike = alike }
@@ -95,24 +91,6 @@ end_behind bytes start first target end b high t e = record { below = omega (ari
         let others : AreEnough turns end used = omega arith in
         ap labels_in (pointer_turn turns bytes start used first target b high t) ∙ kept (labels_at turns bytes target target used) (start + 2)
         ∙ e.alike turns used some ∙ ap labels_in (one_more turns bytes end end used others)
-
--- what is kept while offset after offset is looked at
-pub ends_none : (bytes : List ℕ) → AreEnds bytes []
-ends_none bytes = record { each = λ start. own_end bytes start }
-
-pub ends_push : (bytes ends : List ℕ) (end : ℕ) → AreEnds bytes ends → IsEndOf bytes (length ends) end → AreEnds bytes (ends ++ end ∷ [])
-ends_push bytes ends end all one = record { each = λ start. ⊎_elim (before start) (λ (h : length ends ≤ start). ⊎_elim (past start) (here start h) (cases_lt (length ends) start)) (cases_lt start (length ends)) }
-  where
-    before : (start : ℕ) → start < length ends → IsEndOf bytes start (get_or (ends ++ end ∷ []) start start)
-    before start h = rw (get_or_append_left ends (end ∷ []) start start h) (all.each start)
-
-    past : (start : ℕ) → length ends < start → IsEndOf bytes start (get_or (ends ++ end ∷ []) start start)
-    past start h = rw (get_or_past (ends ++ end ∷ []) start start (omega (arith, length-append ends (end ∷ [])))) (own_end bytes start)
-
-    here : (start : ℕ) → length ends ≤ start → start ≤ length ends → IsEndOf bytes start (get_or (ends ++ end ∷ []) start start)
-    here start h k =
-        let e : length ends ≡ start = omega arith in
-        subst (λ (n : ℕ). IsEndOf bytes n (get_or (ends ++ end ∷ []) n n)) e (rw (get_or-append_seam ends end [] (length ends)) one)
 
 -- The turns that are left while a name is read.
 pub enough_first : (size at : ℕ) → at < size → AreEnough (size + 129 - 0) at 0
