@@ -1,0 +1,16 @@
+//! Which questions are due to be asked: the series of each, and the refreshes of the records that answer it. (RFC 6762 5.2)
+#![tactic(auto)]
+
+mod asker;
+mod due;
+mod keys;
+mod next;
+mod points;
+mod tracked;
+mod users;
+
+pub use asker::Asker;
+pub use tracked::Tracked;
+
+#[cfg(test)]
+mod tests;

@@ -1,0 +1,67 @@
+// When a question is next due. (RFC 6762 5.2)
+ghost use Rattle.std.specs.Prelude.{◌≡◌, map, filter, min, IsTrue, if◌then◌else◌};
+ghost use Rattle.dns_name.specs.Lists.{least_of, least};
+ghost use Rattle.mdns_history.specs.Asking.{refresh_points};
+ghost use Rattle.mdns_question.specs.Next.{is_wanted, is_open, open_in, next_of};
+
+use crate::Tracked;
+use crate::points::{is_open, is_wanted, refresh_points};
+use mdns_history::Held;
+
+/// The first moment at which one of the questions is due; `None` exactly where there is no question.
+pub fn next_due(questions: &[Tracked], held: &[Held]) -> Option<u64>
+    ensures { result ≡ least (map (next_of held.now) questions.now) }
+{
+    let (first, rest) = questions.split_first()?;
+    let mut next = next_of(first, held);
+    for one in rest {
+        next = next.min(next_of(one, held));
+    }
+    Some(next)
+}
+
+// The first moment at which a question is due.
+fn next_of(one: &Tracked, held: &[Held]) -> u64
+    ensures { result ≡ next_of held.now one.now }
+{
+    let mut next = one.next;
+    for told in held {
+        next = next_with(one, told, next);
+    }
+    next
+}
+
+// The least of a moment and of the refresh points of a record that call for an asking.
+fn next_with(one: &Tracked, told: &Held, earliest: u64) -> u64
+    ensures { result ≡ least_of earliest (open_in one.now told.now) }
+{
+    if is_wanted(one, told) {
+        next_among(one, told, earliest)
+    } else {
+        earliest
+    }
+}
+
+// The same of a record that answers the question.
+#[tactic(auto, using(crate::proofs::Ends::wanted_uncut))]
+fn next_among(one: &Tracked, told: &Held, earliest: u64) -> u64
+    requires { IsTrue (is_wanted one.now told.now) }
+    ensures { result ≡ least_of earliest (filter (is_open one.now told.now) (refresh_points told.now)) }
+{
+    let mut next = earliest;
+    let points = refresh_points(told);
+    for point in &points {
+        next = next_at(one, told, *point, next);
+    }
+    next
+}
+
+fn next_at(one: &Tracked, told: &Held, point: u64, earliest: u64) -> u64
+    ensures { result ≡ (if is_open one.now told.now point then min earliest point else earliest) }
+{
+    if is_open(one, told, point) {
+        earliest.min(point)
+    } else {
+        earliest
+    }
+}

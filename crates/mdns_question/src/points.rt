@@ -1,0 +1,67 @@
+// The refresh points of a record, and which of them call for an asking. (RFC 6762 5.2)
+ghost use Rattle.std.specs.Prelude.{◌≡◌, ◌+◌, ◌*◌, IsTrue};
+ghost use Rattle.std.specs.Option.{option_to_list};
+ghost use Rattle.mdns_history.specs.Lifetimes.{is_uncut};
+ghost use Rattle.mdns_history.specs.Asking.{refresh_points, calls_at, is_behind};
+ghost use Rattle.mdns_question.specs.Tracking.{active_of};
+ghost use Rattle.mdns_question.specs.Next.{is_wanted, is_open};
+
+use crate::Tracked;
+use dns_record::matches;
+use mdns_history::Held;
+
+/// Whether the record answers the question, and its end is that of its TTL.
+pub fn is_wanted(one: &Tracked, told: &Held) -> bool
+    ensures { result ≡ is_wanted one.now told.now }
+{
+    matches(&one.key, &told.rr) && is_uncut(told)
+}
+
+// Whether the record's end is that of its TTL.
+fn is_uncut(told: &Held) -> bool
+    ensures { result ≡ is_uncut told.now }
+{
+    let ttl = u64::from(told.rr.ttl);
+    told.heard <= told.end && told.end - told.heard == 1000 * ttl
+}
+
+/// The refresh points of a record whose end is that of its TTL: at 80, 85, 90 and 95 percent of the TTL, and up to two
+/// percent later. (RFC 6762 5.2)
+#[tactic(auto, using(crate::proofs::Ends::jitter_within, crate::proofs::Ends::uncut_end))]
+pub fn refresh_points(told: &Held) -> [u64; 4]
+    requires { IsTrue (is_uncut told.now) }
+    ensures { result ≡ refresh_points told.now }
+{
+    let _end = told.end;
+    let ttl = u64::from(told.rr.ttl);
+    let jitter = u64::from(told.word) % (20 * ttl + 1);
+    [
+        told.heard + ttl * 800 + jitter,
+        told.heard + ttl * 850 + jitter,
+        told.heard + ttl * 900 + jitter,
+        told.heard + ttl * 950 + jitter,
+    ]
+}
+
+/// Whether a refresh point has come, and is later than the start and the last asking.
+pub fn calls_at(one: &Tracked, point: u64, now: u64) -> bool
+    ensures { result ≡ calls_at (active_of one.now) (option_to_list one.now.last) now point }
+{
+    point <= now && one.start < point && is_behind(point, one.last)
+}
+
+/// Whether a refresh point lies in the record's life, and is later than the start and the last asking.
+pub fn is_open(one: &Tracked, told: &Held, point: u64) -> bool
+    ensures { result ≡ is_open one.now told.now point }
+{
+    point < told.end && one.start < point && is_behind(point, one.last)
+}
+
+fn is_behind(point: u64, last: Option<u64>) -> bool
+    ensures { result ≡ is_behind point (option_to_list last) }
+{
+    match last {
+        Some(last) => last < point,
+        None => true,
+    }
+}
