@@ -32,3 +32,4 @@ pub mod Queued
 pub mod Found
 pub mod HeardPackets
 pub mod Carried
+pub mod Among

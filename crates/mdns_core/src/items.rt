@@ -1,11 +1,12 @@
 // What an event brings to a session: the reply to its call, what its operations have no more, and what they have newly.
 ghost use Rattle.std.specs.Prelude.{◌≡◌, ◌++◌, ◌∷◌, [], map, IfOk, OnOk, IsTrue, Option};
 ghost use Rattle.std.specs.List.{list_any, flat_map};
+ghost use Rattle.std.specs.List.Sorted.{IsSorted};
 ghost use Rattle.std.specs.Option.{option_to_list};
 ghost use Rattle.dns_name.specs.Lists.{without};
 ghost use Rattle.dns_record.specs.Records.{matches};
 ghost use Rattle.sd_call.specs.declared.item.Item.TheVariants as item;
-ghost use Rattle.sd_call.specs.Answers.{answer_eq};
+ghost use Rattle.sd_call.specs.Answers.{answer_cmp, answer_eq};
 ghost use Rattle.sd_call.specs.Requests.{well_formed};
 ghost use Rattle.mdns_history.specs.Questions.{keys_of};
 ghost use Rattle.mdns_history.specs.Answers.{answers_over, matching};
@@ -70,6 +71,7 @@ fn put_removes(
     had: &[Answer],
     has: &[Answer],
 ) -> Result<(), AllocError>
+    requires { IsSorted answer_cmp has.now }
     ensures { OnOk result (items.new ≡ items.old ++ map (λ answer. item.Remove op answer) (without answer_eq had.now has.now)) }
 {
     for answer in had {
@@ -89,6 +91,7 @@ fn put_adds(
     has: &[Answer],
     had: &[Answer],
 ) -> Result<(), AllocError>
+    requires { IsSorted answer_cmp had.now }
     ensures { OnOk result (items.new ≡ items.old ++ map (λ answer. item.Add op answer) (without answer_eq has.now had.now)) }
 {
     for answer in has {
@@ -100,12 +103,14 @@ fn put_adds(
     Ok(())
 }
 
-// Whether an answer of the same bytes is among others.
-#[tactic(auto, unfolding(sd_call::specs::Answers::answer_eq))]
+// Whether an answer of the same bytes is among others, which are in order.
 fn is_among(answer: &Answer, others: &[Answer]) -> bool
+    requires { IsSorted answer_cmp others.now }
     ensures { result ≡ list_any (answer_eq answer.now) others.now }
 {
-    others.iter().any(|other| answer_cmp(answer, other).is_eq())
+    others
+        .binary_search_by(|other| answer_cmp(other, answer))
+        .is_ok()
 }
 
 // What the operation of a number had, nothing where there was none.

@@ -1,13 +1,16 @@
-use Rattle.std.proofs.Common.{◌≡◌, ◌++◌, ◌∙◌, List, sym, ap, map, append_assoc}
+use Rattle.std.proofs.Common.{◌≡◌, ◌++◌, ◌∙◌, List, sym, ap, subst, map, append_assoc}
 use Rattle.std.specs.List.{flat_map}
+use Rattle.std.specs.List.Sorted.{IsSorted}
 use Rattle.dns_name.specs.Lists.{without}
 use Rattle.sd_call.specs.declared.answer.Answer.{Answer}
 use Rattle.sd_call.specs.declared.item.Item.{Item}
 use Rattle.sd_call.specs.declared.item.Item.TheVariants as item
-use Rattle.sd_call.specs.Answers.{answer_eq}
+use Rattle.sd_call.specs.Answers.{answer_cmp, answer_eq}
 use Rattle.mdns_history.specs.Answers.{answers_over}
 use Rattle.mdns_core.specs.Changes.{had, lost, gained}
 use Rattle.mdns_core.specs.Next.{rrs_of}
+use Rattle.sd_answer.proofs.Puts.{answers-sorted}
+use Rattle.mdns_core.proofs.Among.{had-sorted}
 use Rattle.mdns_core.proofs.Nexts.{flat_map-next, formed-next}
 use Rattle.mdns_core.proofs.items.items_between.Goals as goal
 
@@ -27,3 +30,11 @@ loop-operation-preserved c =
           ∙ sym (flat_map-next (gained c.args.before.now (rrs_of c.args.earlier.now) (rrs_of c.args.later.now)) c.args.after.now c.loop-operation.operation-index c.operation-item.result c.loop-operation-test.true c.operation-item.is);
       formed = (formed-next c.args.after.now c.loop-operation.operation-index c.operation-item.result c.loop-operation-test.true c.operation-item.is c.loop-operation.invariant.formed).1;
     }
+
+pub put_removes-requires : goal.put_removes-requires
+put_removes-requires c =
+    subst (IsSorted answer_cmp) (sym (c.as_slice-in-loop-operation.ensures ∙ c.in_ok-has.ensures)) (answers-sorted c.operation-item.result.request (rrs_of c.args.later.now))
+
+pub put_adds-requires : goal.put_adds-requires
+put_adds-requires c =
+    subst (IsSorted answer_cmp) (sym (c.as_slice-in-loop-operation-3.ensures ∙ c.in_ok-had.ensures)) (had-sorted c.args.before.now (rrs_of c.args.earlier.now) c.operation-item.result.op)
