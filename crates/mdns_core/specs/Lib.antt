@@ -2,6 +2,7 @@ pub mod InForce
 pub mod State
 pub mod Changes
 pub mod Codes
+pub mod Asked
 pub mod Kept
 pub mod Settling
 pub mod Next

@@ -4,12 +4,14 @@ use Rattle.std.specs.List.{find}
 use Rattle.std.specs.Option.{unwrap_or}
 use Rattle.std.specs.List.Sorted.{IsPermutation}
 use Rattle.dns_record.specs.declared.record.Rr.{Rr}
+use Rattle.dns_record.specs.declared.record.Key.{Key}
 use Rattle.sd_call.specs.declared.item.Item.{Item}
 use Rattle.mdns_history.specs.declared.event.Event.{Event}
 use Rattle.mdns_history.specs.declared.event.Event.TheVariants as event
 use Rattle.mdns_history.specs.declared.held.Held.{Held}
 use Rattle.mdns_history.specs.declared.mark.Mark.{Mark}
 use Rattle.mdns_history.specs.declared.mark.Mark.TheVariants as mark
+use Rattle.mdns_history.specs.declared.mark.Cause.{Cause}
 use Rattle.mdns_history.specs.declared.entry.Outcome.{Outcome}
 use Rattle.mdns_history.specs.declared.entry.Outcome.TheVariants as outcome
 use Rattle.mdns_history.specs.declared.entry.Entry.{Entry}
@@ -19,9 +21,11 @@ use Rattle.mdns_history.specs.Sessions.{opened}
 use Rattle.mdns_history.specs.Outcomes.{items_or_empty}
 use Rattle.mdns_history.specs.Fitting.{bad_mark}
 use Rattle.mdns_cache.specs.Lifetimes.{hearings_at}
+use Rattle.mdns_question.specs.Standing.{mark_of}
 use Rattle.mdns_core.specs.declared.change.SessionChange.{SessionChange}
 use Rattle.mdns_core.specs.State.{Session, State}
 use Rattle.mdns_core.specs.Codes.{kept_outcome, has_number}
+use Rattle.mdns_core.specs.Asked.{asked_for, sent_for, questions_after}
 use Rattle.mdns_core.specs.Settling.{change_for, cuts_of, gifts_of, all_settled, remaining, with_opened}
 
 -- the records of what is held
@@ -65,28 +69,34 @@ abbrev pub sessions_after : Event → List Session → List Session
 sessions_after (event.Take session max) sessions = taken_from session max sessions
 sessions_after _ sessions = sessions
 
+-- the questions that an event asks, where these marks refuse its packet and these records are live after it
+abbrev pub asked_then : State → ℕ → Event → List Mark → List Held → List (Key × Cause)
+asked_then state moment event refusal later = asked_for state.questions later moment refusal event
+
 -- the entry of an event with the mark of a packet that was refused, where these records are live after it
 abbrev pub entry_for : State → ℕ → ℕ → Event → List Mark → List Held → Entry
 entry_for state moment word event refusal later =
     let changes = changes_for state event later in
+    let asked = asked_then state moment event refusal later in
     record {
       moment = moment;
       word = word;
       event = event;
-      marks = refusal ++ cuts_of changes;
-      sent = [];
+      marks = refusal ++ map mark_of asked ++ cuts_of changes;
+      sent = sent_for later moment event asked;
       given = gifts_of changes;
       outcome = outcome_then event (kept_outcome state.opened state.sessions event) (sessions_then state event changes);
     }
 
--- what is kept after an event, where these records are live after it
-abbrev pub state_after : State → ℕ → Event → List Held → State
-state_after state moment event later =
+-- what is kept after an event, where these marks refuse its packet and these records are live after it
+abbrev pub state_after : State → ℕ → ℕ → Event → List Mark → List Held → State
+state_after state moment word event refusal later =
     record {
       last = moment;
       opened = unwrap_or (opened (kept_outcome state.opened state.sessions event)) state.opened;
       sessions = sessions_after event (sessions_then state event (changes_for state event later));
       held = later;
+      questions = questions_after state.sessions moment word event (kept_outcome state.opened state.sessions event) (asked_then state moment event refusal later) state.questions;
     }
 
 -- the mark of a packet that is refused: there would be too many records, or it spells no message

@@ -1,6 +1,8 @@
 -- What a daemon keeps, and the histories that it stands for.
-use Rattle.std.specs.Prelude.{◌≡◌, ℕ, Bool, true, List, map, Option, None}
+use Rattle.std.specs.Prelude.{◌≡◌, ℕ, ◌++◌, max, Bool, true, List, map, Option, None}
 use Rattle.std.specs.List.Sorted.{IsPermutation}
+use Rattle.std.specs.Option.{option_map}
+use Rattle.dns_name.specs.Lists.{least}
 use Rattle.sd_call.specs.declared.item.Item.{Item}
 use Rattle.mdns_history.specs.declared.config.HostConfig.{HostConfig}
 use Rattle.mdns_history.specs.declared.held.Held.{Held}
@@ -13,6 +15,10 @@ use Rattle.mdns_history.specs.Sessions.{opened_count, attached_sessions, operati
 use Rattle.mdns_history.specs.Groups.{host_of}
 use Rattle.mdns_history.specs.Items.{queue}
 use Rattle.mdns_history.specs.Fitting.{IsLegal}
+use Rattle.mdns_question.specs.declared.tracked.Tracked.{Tracked}
+use Rattle.mdns_question.specs.Contents.{Contents}
+use Rattle.mdns_question.specs.Next.{next_of}
+use Rattle.mdns_question.specs.Standing as asking
 use Rattle.sd_answer.specs.Laws.{have_data}
 
 -- an attached session: its live operations by number, whether it was cut, and the items that are queued for it
@@ -28,6 +34,15 @@ pub record State : Type 0 where
   pub opened : ℕ
   pub sessions : List Session
   pub held : List Held
+  pub questions : List Tracked
+
+-- what an asker keeps that has these questions and was told of these records
+abbrev pub asker_of : List Tracked → List Held → Contents
+asker_of questions held = record { questions = questions; held = held; spare = 0 }
+
+-- the first moment, from the last one on, at which a held record ends or a question is due
+abbrev pub due_of : State → Option ℕ
+due_of state = option_map (max state.last) (least (map (λ one. one.end) state.held ++ map (next_of state.held) state.questions))
 
 -- a session as a history has it
 abbrev pub session_in : List Entry → ℕ → Session
@@ -45,5 +60,6 @@ pub record Stands (state : State) (history : List Entry) : Type 0 where
   pub last : state.last ≡ now history
   pub opened : state.opened ≡ opened_count history
   pub sessions : state.sessions ≡ sessions_in history
+  pub asking : asking.Stands (asker_of state.questions state.held) history
   pub records : IsPermutation state.held (live_records history (now history))
   pub typed : have_data (map (λ (held : Held). held.rr) state.held) ≡ true
