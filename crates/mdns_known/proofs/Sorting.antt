@@ -24,7 +24,7 @@ module _ {X : Type 0} (cmp : X → X → Ordering) (o : IsTotalOrder cmp) where
   lt_is Equal e = absurd (cc)
   lt_is Greater e = absurd (cc)
 
-  eq_is : (r : Ordering) → is_eq r ≡ true → r ≡ Equal
+  pub eq_is : (r : Ordering) → is_eq r ≡ true → r ≡ Equal
   eq_is Less e = absurd (cc)
   eq_is Equal e = refl
   eq_is Greater e = absurd (cc)

@@ -1,7 +1,7 @@
 -- The known answers of a question, over records that are held. (RFC 6762 7.1)
 use Rattle.std.specs.Prelude.{ℕ, Bool, true, not, ◌&&◌, List, [], ◌∷◌, map, filter}
-use Rattle.std.specs.List.{list_any}
-use Rattle.dns_name.specs.Lists.{sorted_by}
+use Rattle.std.specs.List.{list_any, flat_map}
+use Rattle.dns_name.specs.Lists.{sorted_by, ordered}
 use Rattle.dns_record.specs.declared.record.Rr.{Rr}
 use Rattle.dns_record.specs.declared.record.Key.{Key}
 use Rattle.dns_record.specs.Records.{matches, same, record_cmp}
@@ -16,6 +16,10 @@ is_listed question moment one = (matches question one.rr && is_uncut one && is_h
 -- the known answers of a question over held records, as they are listed, in record order
 unfoldable pub known_of : Key → List Held → ℕ → List Rr
 known_of question held moment = sorted_by record_cmp (map (listed moment) (filter (is_listed question moment) held))
+
+-- the known answers of several questions: those of each of them, each once, in record order
+unfoldable pub all_known_of : List Key → List Held → ℕ → List Rr
+all_known_of questions held moment = ordered record_cmp (flat_map (λ question. known_of question held moment) questions)
 
 -- no two held records are the same
 abbrev pub stand_once : List Held → Bool

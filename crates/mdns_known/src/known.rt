@@ -34,8 +34,8 @@ pub fn known_answers(
     in_list(alloc, known)
 }
 
-// The same records as a list of a message.
-fn in_list(alloc: Global, records: Vec<Rr>) -> Result<Rrs, AllocError>
+/// The same records as a list of a message. Refused only for want of memory.
+pub fn in_list(alloc: Global, records: Vec<Rr>) -> Result<Rrs, AllocError>
     ensures { IfOk result (λ rrs. rrs ≡ records.items) }
 {
     let mut rrs = Rrs::new(alloc);

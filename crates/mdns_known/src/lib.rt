@@ -1,12 +1,14 @@
 //! Known answers: which held records a query lists, and which listed records silence a reply. (RFC 6762 7.1)
 #![tactic(auto)]
 
+mod all;
 mod known;
 mod laws;
 mod listing;
 mod order;
 mod suppression;
 
+pub use all::all_known_answers;
 pub use known::known_answers;
 pub use laws::known_answers_of_live_records;
 pub use suppression::suppresses;

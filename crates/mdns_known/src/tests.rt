@@ -1,5 +1,5 @@
 // Held records, and how they are listed as known answers.
-use crate::{known_answers, suppresses};
+use crate::{all_known_answers, known_answers, suppresses};
 use dns_message::Rrs;
 use dns_name::Name;
 use dns_record::{Bytes, Key, Rdata, Rr, put_record};
@@ -74,13 +74,41 @@ fn known_answers_are_listed(rt: HostRuntime) -> Result<(), Fail> {
             held.push(held_at(rr, *heard, *end))?;
         }
         let known = listed_at(alloc, held.as_slice(), 10_000)?;
-        let mut out = Vec::new(alloc);
-        for rr in known.as_slice() {
-            put_record(&mut out, rr)?;
-            out.push(b'\n')?;
-        }
+        let out = text_of(alloc, &known)?;
         assert_eq!(rt; out.as_slice(), written.as_bytes(), "{written}");
     }
+    Ok(())
+}
+
+// A record that answers several of the questions is listed once.
+#[test]
+fn several_questions_have_each_answer_once(rt: HostRuntime) -> Result<(), Fail> {
+    let alloc = rt.alloc();
+    let questions = [
+        key("b.local", 1)?,
+        key("a.local", 1)?,
+        key("a.local", 255)?,
+        key("c.local", 255)?,
+    ];
+    let mut held = Vec::new(alloc);
+    for text in [
+        "a.local. 120 - PTR x.local.",
+        "a.local. 120 - A 10.0.0.2",
+        "b.local. 120 - PTR x.local.",
+        "b.local. 120 - A 10.0.0.1",
+        "d.local. 120 - A 10.0.0.1",
+    ] {
+        let rr = Rr::parse_text(alloc, text).map_err(|_| "record")?;
+        held.push(held_at(rr, 0, 120_000))?;
+    }
+    let held = held.as_slice();
+    assert!(rt; held.iter().all(|one| one.heard == 0));
+    let known = all_known_answers(alloc, &questions, held, 0)?;
+    let out = text_of(alloc, &known)?;
+    assert_eq!(rt;
+        out.as_slice(),
+        b"a.local. 120 - A 10.0.0.2\na.local. 120 - PTR x.local.\nb.local. 120 - A 10.0.0.1\n".as_slice()
+    );
     Ok(())
 }
 
@@ -155,13 +183,27 @@ fn held_at(rr: Rr, heard: u64, end: u64) -> Held {
     }
 }
 
+fn key(name: &str, kind: u16) -> Result<Key, Fail> {
+    Ok(Key {
+        name: Name::parse_text(name).map_err(|_| "name")?,
+        kind,
+    })
+}
+
+// The known answers of the question ANY of `a.local`.
 fn listed_at(alloc: Global, held: &[Held], now: u64) -> Result<Rrs, Fail> {
-    let question = Key {
-        name: Name::parse_text("a.local").map_err(|_| "name")?,
-        kind: 255,
-    };
     if now > 10_000 || held.iter().any(|one| one.heard > now) {
         return Err("moment".into());
     }
-    Ok(known_answers(alloc, &question, held, now)?)
+    Ok(known_answers(alloc, &key("a.local", 255)?, held, now)?)
+}
+
+// Each record with a line feed.
+fn text_of(alloc: Global, rrs: &Rrs) -> Result<Vec<u8>, Fail> {
+    let mut out = Vec::new(alloc);
+    for rr in rrs.as_slice() {
+        put_record(&mut out, rr)?;
+        out.push(b'\n')?;
+    }
+    Ok(out)
 }

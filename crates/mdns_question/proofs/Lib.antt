@@ -5,3 +5,4 @@ pub mod Counted
 pub mod Loops
 pub mod Told
 pub mod Earliest
+pub mod Following

@@ -1,3 +1,4 @@
 pub mod Contents
 pub mod Tracking
 pub mod Next
+pub mod Standing

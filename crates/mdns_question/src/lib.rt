@@ -4,12 +4,14 @@
 mod asker;
 mod due;
 mod keys;
+mod law;
 mod next;
 mod points;
 mod tracked;
 mod users;
 
 pub use asker::Asker;
+pub use law::askings_follow_the_history;
 pub use tracked::Tracked;
 
 #[cfg(test)]
