@@ -16,6 +16,7 @@ pub mod Idle
 pub mod Ticks
 pub mod Due
 pub mod Nexts
+pub mod Tracked
 pub mod Asked
 pub mod KeptOutcome
 pub mod KeptChanges
