@@ -1,5 +1,6 @@
 pub mod OperationPlaces
 pub mod Stage
+pub mod Duties
 pub mod Heard
 pub mod NumberLists
 pub mod Attached
