@@ -4,6 +4,8 @@ pub mod Duties
 pub mod Heard
 pub mod Hears
 pub mod AskedFor
+pub mod Askings
+pub mod AskedAfter
 pub mod NumberLists
 pub mod Attached
 pub mod Hostless
