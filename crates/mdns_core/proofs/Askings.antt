@@ -37,8 +37,8 @@ pub record Asks (past : List Entry) (moment word : ℕ) (ev : Event) (asked : Li
   pub move : IsMove past ev entry
   pub time : entry.moment ≡ moment
   pub drawn : entry.word ≡ word
-  pub asked : (key : Key) → has_mark (is_asking key) entry ≡ list_any (λ due. key_eq key due.0) asked
-  pub counted : (key : Key) → has_mark (is_series_asking key) entry ≡ list_any (λ due. key_eq key due.0 && is_counted due.1) asked
+  pub marks : (key : Key) → has_mark (is_asking key) entry ≡ list_any (λ due. key_eq key due.0) asked
+  pub series : (key : Key) → has_mark (is_series_asking key) entry ≡ list_any (λ due. key_eq key due.0 && is_counted due.1) asked
 
 -- a question with the cause that is chosen for it, if one is
 abbrev pub chosen : (Tracked → Option Cause) → Tracked → Option (Key × Cause)
