@@ -38,3 +38,4 @@ pub mod Found
 pub mod HeardPackets
 pub mod Carried
 pub mod Among
+pub mod Askings
