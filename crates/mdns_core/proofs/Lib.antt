@@ -2,6 +2,8 @@ pub mod OperationPlaces
 pub mod Stage
 pub mod Duties
 pub mod Heard
+pub mod Hears
+pub mod AskedFor
 pub mod NumberLists
 pub mod Attached
 pub mod Hostless

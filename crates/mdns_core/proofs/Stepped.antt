@@ -60,38 +60,6 @@ module _ (history : List Entry) (moment word : ℕ) (ev : Event) where
   abbrev entry_with : Outcome → List SessionChange → List Mark → Entry
   entry_with o cs refusal = entry_of moment word ev (refusal ++ cuts_of cs) [] (gifts_of cs) (outcome_then ev o (then_sessions o cs))
 
-  full-is : is_full moment word ev (hearings history) ≡ is_too_full (bare history moment word ev) history
-  full-is = sym (is_too_full-is history moment word ev)
-
-  heard-is : heard_with moment word ev (hearings history) ≡ heard_now history moment word ev ++ hearings history
-  heard-is =
-      ap (λ b. cond b (hearings history) (hearings_at moment word (counted_records (brought ev)) ++ hearings history)) full-is
-      ∙ of (is_too_full (bare history moment word ev) history)
-    where
-      of : (b : Bool) → cond b (hearings history) (hearings_at moment word (counted_records (brought ev)) ++ hearings history)
-          ≡ reverse (map (hearing_of (bare history moment word ev)) (cond b [] (counted_records (brought ev)))) ++ hearings history
-      of true = refl
-      of false = refl
-
-  refusal-is : refusal_of (is_full moment word ev (hearings history)) ev ≡ refusal_marks (bare history moment word ev) history ev
-  refusal-is = ap (λ b. refusal_of b ev) full-is ∙ of ev (is_too_full (bare history moment word ev) history) refl
-    where
-      of : (e : Event) (b : Bool) → is_too_full (bare history moment word ev) history ≡ b → refusal_of b e ≡ refusal_marks (bare history moment word ev) history e
-      of (event.Boot config) true h = refl
-      of (event.Boot config) false h = refl
-      of event.Attach true h = refl
-      of event.Attach false h = refl
-      of (event.Detach session) true h = refl
-      of (event.Detach session) false h = refl
-      of (event.Call session op request) true h = refl
-      of (event.Call session op request) false h = refl
-      of (event.Hear from bytes) true h = rw h refl
-      of (event.Hear from bytes) false h = rw h refl
-      of event.Tick true h = refl
-      of event.Tick false h = refl
-      of (event.Take session max) true h = refl
-      of (event.Take session max) false h = refl
-
   module _ (legal : IsLegal in_force history) (hostless : host_of history ≡ None) (no_boot : is_boot ev ≡ false) where
     outcome-is : (entry_after history moment word ev).outcome ≡ outcome_then ev early (then_sessions early changes)
     outcome-is = of ev refl
@@ -137,14 +105,6 @@ module _ (history : List Entry) (moment word : ℕ) (ev : Event) where
         of (event.Hear from bytes) h = sessions-untaken history moment word (event.Hear from bytes) legal hostless refl refl
         of event.Tick h = sessions-untaken history moment word event.Tick legal hostless refl refl
         of (event.Take session max) h = taken-sessions history moment word session max legal hostless
-
-    records-is : live_of (heard_with moment word ev (hearings history)) moment ≡ live_records (entry_after history moment word ev ∷ history) moment
-    unfolding live_records
-    records-is = ap (λ hs. live_of hs moment) (heard-is ∙ sym (hearings-next history moment word ev))
-
-    records-marked : live_of (heard_with moment word ev (hearings history)) moment ≡ live_records (marked history moment word ev ∷ history) moment
-    unfolding live_records
-    records-marked = ap (λ hs. live_of hs moment) (heard-is ∙ sym (hearings-marked history moment word ev))
 
     moment-is : (entry_after history moment word ev).moment ≡ moment
     moment-is = ap (λ x. x.moment) (entry_is history moment word ev)
