@@ -18,6 +18,7 @@ pub mod Limits
 pub mod Operations
 pub mod After
 pub mod Idle
+pub mod Waiting
 pub mod Ticks
 pub mod Due
 pub mod Nexts
