@@ -91,10 +91,10 @@ module _ (past : List Entry) (moment word : ℕ) (ev : Event) where
   pub asks-next : (asked : List (Key × Cause)) → map mark_of asked ≡ duty_marks past moment word ev → Asks past moment word ev asked (entry_after past moment word ev)
   asks-next asked same = record {
     move = move-next;
-    at_moment = ap (λ e. e.moment) (entry_is past moment word ev);
-    with_word = ap (λ e. e.word) (entry_is past moment word ev);
-    marked = λ key. duty_passes (is_asking key) refl (λ number. refl) (λ n. refl) ∙ ap (list_any (is_asking key)) (sym same) ∙ any_of_marks (is_asking key) asked;
-    counted = λ key. duty_passes (is_series_asking key) refl (λ number. refl) (λ n. refl) ∙ ap (list_any (is_series_asking key)) (sym same) ∙ any_of_marks (is_series_asking key) asked;
+    time = ap (λ e. e.moment) (entry_is past moment word ev);
+    drawn = ap (λ e. e.word) (entry_is past moment word ev);
+    marks = λ key. duty_passes (is_asking key) refl (λ number. refl) (λ n. refl) ∙ ap (list_any (is_asking key)) (sym same) ∙ any_of_marks (is_asking key) asked;
+    series = λ key. duty_passes (is_series_asking key) refl (λ number. refl) (λ n. refl) ∙ ap (list_any (is_series_asking key)) (sym same) ∙ any_of_marks (is_series_asking key) asked;
   }
 
 -- the questions that an event asks are chosen among those that are kept

@@ -4,7 +4,6 @@ pub mod Duties
 pub mod Heard
 pub mod Hears
 pub mod AskedFor
-pub mod Askings
 pub mod AskedAfter
 pub mod NumberLists
 pub mod Attached

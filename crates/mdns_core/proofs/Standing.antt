@@ -11,7 +11,8 @@ use Rattle.mdns_history.specs.declared.entry.Entry.{Entry}
 use Rattle.mdns_core.specs.InForce.{in_force}
 use Rattle.mdns_history.specs.Hearings.{Hearing, hearings, heard_in}
 use Rattle.mdns_history.specs.Lifetimes.{is_live_at, live_of, live_records}
-use Rattle.mdns_history.specs.Sessions.{is_attached, attached_sessions, is_cut}
+use Rattle.mdns_history.specs.Sessions.{is_attached, attached_sessions, is_cut, operations}
+use Rattle.mdns_history.specs.Questions.{Active, active_questions}
 use Rattle.mdns_history.specs.Items.{session_items}
 use Rattle.mdns_history.specs.Replays.{answer_sets}
 use Rattle.mdns_history.specs.Fitting.{boot_entry, last_moment, is_host_label}
@@ -32,7 +33,7 @@ use Rattle.mdns_core.proofs.KeptOutcome.{found-session}
 
 -- the state of a daemon that was just booted
 abbrev pub booted_state : ℕ → State
-booted_state moment = record { last = moment; opened = 0; sessions = []; held = [] }
+booted_state moment = record { last = moment; opened = 0; sessions = []; held = []; questions = [] }
 
 none_live : (moment word : ℕ) (config : Config) → live_records (boot_entry moment word config ∷ []) moment ≡ []
 unfolding live_records live_of hearings heard_in
@@ -42,6 +43,10 @@ none_attached : (moment word : ℕ) (config : Config) → attached_sessions (boo
 unfolding attached_sessions
 none_attached moment word config = refl
 
+none_active : (moment word : ℕ) (config : Config) → ◌≡◌ {A = List Active} [] (active_questions (boot_entry moment word config ∷ []))
+unfolding active_questions operations attached_sessions
+none_active moment word config = refl
+
 -- A daemon that was just booted without a host stands for the history of its boot.
 pub stands-boot : (moment word : ℕ) (config : Config) → moment ≤ last_moment → ◌≡◌ {A = Option HostConfig} config.host None → Stands (booted_state moment) (boot_entry moment word config ∷ [])
 stands-boot moment word config in_time hostless = record {
@@ -50,6 +55,7 @@ stands-boot moment word config in_time hostless = record {
   last = refl;
   opened = refl;
   sessions = sym (ap (map (session_in (boot_entry moment word config ∷ []))) (none_attached moment word config));
+  asking = record { questions = none_active moment word config; each = tt };
   records = subst (λ live. IsPermutation [] live) (sym (none_live moment word config)) (IsPermutation-refl []);
   typed = refl;
 }
