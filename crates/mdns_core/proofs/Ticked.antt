@@ -1,9 +1,9 @@
 -- After a tick nothing is due by then: each question that was due has been asked, and each held record is live. And each question keeps a gap in its series.
-use Rattle.std.proofs.Common.{◌≡◌, ℕ, ◌+◌, ◌*◌, ◌<◌, ◌==◌, min, max, Bool, true, false, cond, not, ◌&&◌, ◌||◌, ◌⊎◌, inl, inr, List, [], ◌∷◌, ◌++◌, map, nat_le, Option, Some, None, IfSome, refl, ap, ◌∙◌, sym, subst, arith}
+use Rattle.std.proofs.Common.{◌≡◌, ℕ, ◌+◌, ◌*◌, ◌<◌, ◌==◌, min, max, Bool, true, false, cond, not, ◌&&◌, ◌||◌, ◌⊎◌, inl, inr, List, [], ◌∷◌, ◌++◌, map, nat_le, Some, None, IfSome, refl, ap, ◌∙◌, sym, arith}
 use Rattle.std.specs.Prelude.{filter, nat_lt}
 use Rattle.std.specs.List.{list_any, list_all, flat_map, filter_map, cons_option, AllByRecursion}
 use Rattle.std.specs.Ordering.{is_lt}
-use Rattle.std.specs.Option.{option_map, option_to_list}
+use Rattle.std.specs.Option.{option_map}
 use Rattle.std.proofs.lemmas.Slice.Eq.{bytes_eq-Decides}
 use Rattle.dns_name.specs.Lists.{least, least_of, insert_by}
 use Rattle.dns_name.specs.Names.{folded, wire_of, folded_eq}
@@ -23,7 +23,7 @@ use Rattle.mdns_history.specs.Asking.{is_counted, series_gap, refresh_points, ca
 use Rattle.mdns_history.specs.Due.{is_nothing}
 use Rattle.mdns_cache.specs.Lifetimes.{AllLive}
 use Rattle.mdns_question.specs.declared.tracked.Tracked.{Tracked}
-use Rattle.mdns_question.specs.Tracking.{active_of, is_for, tracked_cmp, is_used, used_more, used_less, begun, with_user, without_user, longest_gap, asked_at, noted, with_asking, fresh_of, is_refreshed, due_cause, due_with, due_at}
+use Rattle.mdns_question.specs.Tracking.{active_of, is_for, tracked_cmp, is_used, used_more, used_less, begun, with_user, without_user, longest_gap, asked_at, noted, with_asking, fresh_of, is_refreshed, due_with, due_at}
 use Rattle.mdns_question.specs.Next.{next_of}
 use Rattle.mdns_core.specs.State.{Session, State, asker_of, due_of}
 use Rattle.mdns_core.specs.Asked.{asked_for, begun_keys, ended_keys, all_begun, all_ended, all_asked, questions_after}
