@@ -1,11 +1,10 @@
 -- The entry that follows asks the questions that are chosen by what is kept, and what is kept of questions after it stands for the history with it.
-use Rattle.std.proofs.Common.{◌≡◌, ℕ, Bool, true, false, cond, not, ◌&&◌, ◌||◌, List, [], ◌∷◌, ◌++◌, map, Option, Some, None, refl, ap, subst, ◌∙◌, sym}
+use Rattle.std.proofs.Common.{◌≡◌, ℕ, Bool, true, false, cond, not, ◌&&◌, ◌||◌, List, [], ◌∷◌, map, Option, Some, None, refl, ap, subst, ◌∙◌, sym}
 use Rattle.std.specs.Prelude.{filter}
 use Rattle.std.specs.List.{list_any, filter_map, cons_option}
 use Rattle.std.specs.Option.{option_map, option_map_or}
 use Rattle.std.proofs.lemmas.List.Folds.{list_any-append}
 use Rattle.dns_record.specs.declared.record.Key.{Key}
-use Rattle.dns_record.specs.Records.{key_eq}
 use Rattle.dns_message.specs.Reading.{spelled, fault_of}
 use Rattle.mdns_history.specs.declared.event.Event.{Event}
 use Rattle.mdns_history.specs.declared.event.Event.TheVariants as event
@@ -18,8 +17,8 @@ use Rattle.mdns_history.specs.declared.entry.Entry.{Entry}
 use Rattle.mdns_history.specs.Hearings.{Heard, hearings, brought}
 use Rattle.mdns_history.specs.History.{has_mark}
 use Rattle.mdns_history.specs.Lifetimes.{is_too_full}
-use Rattle.mdns_history.specs.Sessions.{opened, detached, accepted_call, accepted_in, attached_sessions, is_cut}
-use Rattle.mdns_history.specs.Asking.{is_counted, is_asking, is_series_asking}
+use Rattle.mdns_history.specs.Sessions.{is_cut}
+use Rattle.mdns_history.specs.Asking.{is_asking, is_series_asking}
 use Rattle.mdns_history.specs.Outcomes.{early_outcome}
 use Rattle.mdns_history.specs.Fitting.{refusal_marks, IsLegal}
 use Rattle.mdns_history.proofs.CallFacts.{opened-late}
@@ -29,7 +28,7 @@ use Rattle.mdns_question.specs.Tracking.{due_cause}
 use Rattle.mdns_question.specs.Standing.{Stands, mark_of}
 use Rattle.mdns_core.specs.InForce.{in_force}
 use Rattle.mdns_core.specs.State.{asker_of, sessions_in}
-use Rattle.mdns_core.specs.Asked.{is_asked_by, heard_for, heard_unless, asked_for, questions_after}
+use Rattle.mdns_core.specs.Asked.{is_asked_by, heard_unless, asked_for, questions_after}
 use Rattle.mdns_core.specs.Next.{IsHeard}
 use Rattle.mdns_core.proofs.Stage.{bare, duty_marks, noted_marks, giving, entry_after, entry_is}
 use Rattle.mdns_core.proofs.Hostless.{accepted-late}

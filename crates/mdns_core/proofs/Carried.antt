@@ -1,5 +1,5 @@
 -- What a step carries out is the entry that fits, and what is then kept stands for the history with it.
-use Rattle.std.proofs.Common.{◌≡◌, ℕ, ◌≤◌, ◌++◌, Bool, true, false, cond, not, List, [], ◌∷◌, map, drop, Option, Some, None, refl, ap, subst, ◌∙◌, sym}
+use Rattle.std.proofs.Common.{◌≡◌, ℕ, ◌≤◌, ◌++◌, Bool, true, false, cond, List, [], ◌∷◌, map, drop, Option, Some, None, ap, subst, ◌∙◌, sym}
 use Rattle.std.specs.Prelude.{filter, ◌==◌}
 use Rattle.std.specs.Option.{unwrap_or}
 use Rattle.dns_record.specs.declared.record.Rr.{Rr}
@@ -25,8 +25,8 @@ use Rattle.mdns_core.specs.declared.change.SessionChange.{SessionChange}
 use Rattle.mdns_core.specs.State.{Session, State, Stands}
 use Rattle.mdns_core.specs.Codes.{kept_outcome}
 use Rattle.mdns_core.specs.Asked.{asked_for, sent_for, questions_after}
-use Rattle.mdns_core.specs.Settling.{change_for, cuts_of, gifts_of, settled, all_settled, remaining, opened_session, with_opened, shifted}
-use Rattle.mdns_core.specs.Next.{rrs_of, changes_for, sessions_then, outcome_then, taken_from, sessions_after, entry_for, state_after, IsHeard}
+use Rattle.mdns_core.specs.Settling.{change_for, cuts_of, gifts_of, all_settled, remaining, opened_session, with_opened, shifted}
+use Rattle.mdns_core.specs.Next.{rrs_of, changes_for, outcome_then, taken_from, sessions_after, entry_for, state_after, IsHeard}
 use Rattle.mdns_core.specs.Kept.{HaveWellFormed, IsWellFormedCall}
 use Rattle.mdns_core.proofs.Formed.{formed-called}
 use Rattle.mdns_core.proofs.Stepped.{stepped}
