@@ -33,4 +33,5 @@ pub mod Found
 pub mod HeardPackets
 pub mod Carried
 pub mod Among
+pub mod KeyLists
 pub mod Askings
