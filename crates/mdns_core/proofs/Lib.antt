@@ -34,4 +34,5 @@ pub mod HeardPackets
 pub mod Carried
 pub mod Among
 pub mod KeyLists
+pub mod KeyUses
 pub mod Askings
