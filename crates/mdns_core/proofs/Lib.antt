@@ -35,4 +35,5 @@ pub mod Carried
 pub mod Among
 pub mod KeyLists
 pub mod KeyUses
+pub mod ActiveKeys
 pub mod Askings
