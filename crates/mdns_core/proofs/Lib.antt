@@ -20,6 +20,7 @@ pub mod Idle
 pub mod Waiting
 pub mod Ticks
 pub mod Due
+pub mod Ticked
 pub mod Nexts
 pub mod Asked
 pub mod KeptOutcome
