@@ -1,11 +1,10 @@
 -- The entry that follows asks the questions that are chosen by what is kept, and what is kept of questions after it stands for the history with it.
-use Rattle.std.proofs.Common.{◌≡◌, ℕ, Bool, true, false, cond, not, ◌&&◌, ◌||◌, List, [], ◌∷◌, ◌++◌, map, Option, Some, None, refl, ap, subst, ◌∙◌, sym}
+use Rattle.std.proofs.Common.{◌≡◌, ℕ, Bool, true, false, cond, not, ◌&&◌, ◌||◌, List, [], ◌∷◌, map, Option, Some, None, refl, ap, ◌∙◌, sym}
 use Rattle.std.specs.Prelude.{filter}
 use Rattle.std.specs.List.{list_any, filter_map, cons_option}
 use Rattle.std.specs.Option.{option_map, option_map_or}
 use Rattle.std.proofs.lemmas.List.Folds.{list_any-append}
 use Rattle.dns_record.specs.declared.record.Key.{Key}
-use Rattle.dns_record.specs.Records.{key_eq}
 use Rattle.dns_message.specs.Reading.{spelled, fault_of}
 use Rattle.mdns_history.specs.declared.event.Event.{Event}
 use Rattle.mdns_history.specs.declared.event.Event.TheVariants as event
@@ -18,24 +17,22 @@ use Rattle.mdns_history.specs.declared.entry.Entry.{Entry}
 use Rattle.mdns_history.specs.Hearings.{Heard, hearings, brought}
 use Rattle.mdns_history.specs.History.{has_mark}
 use Rattle.mdns_history.specs.Lifetimes.{is_too_full}
-use Rattle.mdns_history.specs.Sessions.{opened, detached, accepted_call, accepted_in, attached_sessions, is_cut}
-use Rattle.mdns_history.specs.Asking.{is_counted, is_asking, is_series_asking}
+use Rattle.mdns_history.specs.Sessions.{is_cut}
+use Rattle.mdns_history.specs.Asking.{is_asking, is_series_asking}
 use Rattle.mdns_history.specs.Outcomes.{early_outcome}
 use Rattle.mdns_history.specs.Fitting.{refusal_marks, IsLegal}
-use Rattle.mdns_history.proofs.CallFacts.{opened-late}
-use Rattle.mdns_history.proofs.LegalReplay.{detached-late}
 use Rattle.mdns_question.specs.declared.tracked.Tracked.{Tracked}
 use Rattle.mdns_question.specs.Tracking.{due_cause}
 use Rattle.mdns_question.specs.Standing.{Stands, mark_of}
 use Rattle.mdns_core.specs.InForce.{in_force}
 use Rattle.mdns_core.specs.State.{asker_of, sessions_in}
-use Rattle.mdns_core.specs.Asked.{is_asked_by, heard_for, heard_unless, asked_for, questions_after}
+use Rattle.mdns_core.specs.Asked.{is_asked_by, heard_unless, asked_for, questions_after}
 use Rattle.mdns_core.specs.Next.{IsHeard}
-use Rattle.mdns_core.proofs.Stage.{bare, duty_marks, noted_marks, giving, entry_after, entry_is}
-use Rattle.mdns_core.proofs.Hostless.{accepted-late}
+use Rattle.mdns_core.proofs.Stage.{bare, duty_marks, noted_marks, entry_after, entry_is}
 use Rattle.mdns_core.proofs.Shape.{attached, passes_now, marks-next}
 use Rattle.mdns_core.proofs.AskedFor.{marks-asked}
-use Rattle.mdns_core.proofs.Askings.{may_ask, IsMove, Asks, chosen, IsChosen, askings-next}
+use Rattle.mdns_core.proofs.ActiveKeys.{move-next}
+use Rattle.mdns_core.proofs.Askings.{may_ask, Asks, chosen, IsChosen, askings-next}
 
 -- a test that no mark of a refusal passes
 refusal_passes_none : (test : Mark → Bool) → test mark.Full ≡ false → ((number : ℕ) → test (mark.Bad number) ≡ false) →
@@ -80,17 +77,9 @@ module _ (past : List Entry) (moment word : ℕ) (ev : Event) where
       or_false true = refl
       or_false false = refl
 
-  -- the entry that follows is of its event, with the outcome that the history decides
-  pub move-next : IsMove past ev (entry_after past moment word ev)
-  move-next = subst (IsMove past ev) (sym (entry_is past moment word ev)) (record {
-    accepts = accepted-late ev (early_outcome ev past) (giving past moment word ev ∷ past);
-    ends = detached-late ev (early_outcome ev past) (giving past moment word ev ∷ past);
-    opens = opened-late ev past (giving past moment word ev ∷ past);
-  })
-
   pub asks-next : (asked : List (Key × Cause)) → map mark_of asked ≡ duty_marks past moment word ev → Asks past moment word ev asked (entry_after past moment word ev)
   asks-next asked same = record {
-    move = move-next;
+    move = move-next past moment word ev;
     time = ap (λ e. e.moment) (entry_is past moment word ev);
     drawn = ap (λ e. e.word) (entry_is past moment word ev);
     marks = λ key. duty_passes (is_asking key) refl (λ number. refl) (λ n. refl) ∙ ap (list_any (is_asking key)) (sym same) ∙ any_of_marks (is_asking key) asked;

@@ -25,12 +25,11 @@ use Rattle.mdns_history.specs.declared.mark.Mark.TheVariants as mark
 use Rattle.mdns_history.specs.declared.entry.Entry.{Entry}
 use Rattle.mdns_history.specs.Hearings.{Hearing, Heard, hearings, brought, counted, counted_records}
 use Rattle.mdns_history.specs.Lifetimes.{is_too_full, is_live_at, held_from, renewals, live_of, live_records}
-use Rattle.mdns_history.specs.Questions.{active_questions}
 use Rattle.mdns_history.specs.Asking.{asks_openly, known_answers, series_due, tick_askings, heard_askings}
 use Rattle.mdns_history.specs.Asking as history_asking
 use Rattle.mdns_history.specs.Sending.{to_all, key_in_mark}
 use Rattle.mdns_history.specs.Fitting.{admitted}
-use Rattle.mdns_known.specs.Known.{known_of, all_known_of}
+use Rattle.mdns_known.specs.Known.{known_of}
 use Rattle.mdns_known.proofs.Live.{of_live_records}
 use Rattle.mdns_known.proofs.Union.{are_of_live_records}
 use Rattle.mdns_question.specs.declared.tracked.Tracked.{Tracked}
@@ -39,7 +38,7 @@ use Rattle.mdns_question.specs.Standing.{IsTracked, Stands, mark_of}
 use Rattle.mdns_question.proofs.Following.{due_follows}
 use Rattle.mdns_core.specs.State.{asker_of}
 use Rattle.mdns_core.specs.Asked.{is_asked_by, heard_unless, asked_for, sent_for}
-use Rattle.mdns_core.specs.Next.{refusal_of, is_full, heard_with, IsHeard}
+use Rattle.mdns_core.specs.Next.{refusal_of, heard_with, IsHeard}
 use Rattle.mdns_core.proofs.Stage.{sent_by, bare, duty_marks}
 use Rattle.mdns_core.proofs.Hears.{unheard, full-is}
 

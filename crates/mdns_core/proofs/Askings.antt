@@ -10,7 +10,6 @@ use Rattle.mdns_history.specs.declared.mark.Cause.{Cause}
 use Rattle.mdns_history.specs.declared.held.Held.{Held}
 use Rattle.mdns_history.specs.declared.entry.Entry.{Entry}
 use Rattle.mdns_history.specs.History.{has_mark}
-use Rattle.mdns_history.specs.Sessions.{opened, detached, accepted_call, accepted_in}
 use Rattle.mdns_history.specs.Asking.{is_counted, is_asking, is_series_asking}
 use Rattle.mdns_history.specs.Outcomes.{early_outcome}
 use Rattle.mdns_history.specs.Fitting.{IsLegal}
@@ -19,18 +18,13 @@ use Rattle.mdns_question.specs.Standing as asking
 use Rattle.mdns_core.specs.InForce.{in_force}
 use Rattle.mdns_core.specs.State.{asker_of, sessions_in}
 use Rattle.mdns_core.specs.Asked.{questions_after}
+use Rattle.mdns_core.proofs.KeyUses.{IsMove}
 
 -- whether an event may ask questions: a tick, or a packet that is heard
 abbrev pub may_ask : Event → Bool
 may_ask (event.Hear from bytes) = true
 may_ask event.Tick = true
 may_ask _ = false
-
--- An entry is of an event with the outcome that the history decides, as far as sessions and calls see it.
-pub record IsMove (past : List Entry) (ev : Event) (entry : Entry) : Type 0 where
-  pub accepts : accepted_in entry ≡ accepted_call ev (early_outcome ev past)
-  pub ends : detached entry.event entry.outcome ≡ detached ev (early_outcome ev past)
-  pub opens : opened entry.outcome ≡ opened (early_outcome ev past)
 
 -- An entry is such a move at a moment, with a word, and its marks of askings are those of these questions.
 pub record Asks (past : List Entry) (moment word : ℕ) (ev : Event) (asked : List (Key × Cause)) (entry : Entry) : Type 0 where

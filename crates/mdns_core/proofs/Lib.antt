@@ -40,4 +40,7 @@ pub mod Found
 pub mod HeardPackets
 pub mod Carried
 pub mod Among
+pub mod KeyLists
+pub mod KeyUses
+pub mod ActiveKeys
 pub mod Askings

@@ -8,7 +8,6 @@ use Rattle.dns_message.specs.Reading.{spelled, fault_of}
 use Rattle.sd_call.specs.declared.item.Item.{Item}
 use Rattle.mdns_history.specs.declared.event.Event.{Event}
 use Rattle.mdns_history.specs.declared.event.Event.TheVariants as event
-use Rattle.mdns_history.specs.declared.mark.Mark.{Mark}
 use Rattle.mdns_history.specs.declared.mark.Mark.TheVariants as mark
 use Rattle.mdns_history.specs.declared.entry.Entry.{Entry}
 use Rattle.mdns_history.specs.History.{has_mark}
