@@ -1,6 +1,6 @@
 // The daemon: it keeps the records that are live and the sessions that are attached, and gives these what changes.
-ghost use Rattle.std.specs.Prelude.{◌≡◌, ◌<◌, ◌≤◌, ◌^◌, ◌∷◌, ◌++◌, [], ℕ, List, length, vec_len, vec_capacity, IfOk, IfSome, OnOk, OnErr, Option, Some, None, true, false};
-ghost use Rattle.std.specs.Option.{is_some, unwrap_or};
+ghost use Rattle.std.specs.Prelude.{◌≡◌, ◌<◌, ◌≤◌, ◌^◌, ◌∷◌, ◌++◌, [], ℕ, List, max, length, vec_len, vec_capacity, IfOk, IfSome, OnOk, OnErr, Option, Some, None, true, false};
+ghost use Rattle.std.specs.Option.{is_some, option_map, unwrap_or};
 ghost use Rattle.std.specs.List.{find};
 ghost use Rattle.sd_call.specs.Replay.{replay};
 ghost use Rattle.mdns_history.specs.declared.config.HostConfig.{HostConfig};
@@ -118,8 +118,8 @@ impl Daemon {
         ensures value { result ≡ due_of self.now }
         ensures due { (history : List Entry) → Stands self.now history → NextDue in_force history result }
     {
-        let due = earlier(self.cache.next_end(), self.asker.next_due())?;
-        Some(due.max(self.last))
+        let due = earlier(self.cache.next_end(), self.asker.next_due());
+        not_before(self.last, due)
     }
 
     /// Does one event at `now`, in milliseconds, and answers its entry: for every history that the daemon stands for it is
@@ -192,6 +192,14 @@ impl Daemon {
             outcome,
         })
     }
+}
+
+// A moment that may be there, but none before the last one.
+fn not_before(last: u64, due: Option<u64>) -> Option<u64>
+    ensures { result ≡ option_map (max last) due }
+{
+    let due = due?;
+    Some(last.max(due))
 }
 
 // The earlier of two moments that may be there.

@@ -1,18 +1,26 @@
-use Rattle.std.proofs.Common.{◌≡◌, ◌∙◌, ◌<◌, IfSome, ap, subst, sym}
-use Rattle.std.specs.Prelude.{ℕ, Option}
+use Rattle.std.proofs.Common.{◌≡◌, ◌∙◌, ◌++◌, max, List, map, Option, Some, ap, subst, sym, arith}
+use Rattle.std.specs.Prelude.{ℕ}
+use Rattle.std.specs.Option.{option_map}
+use Rattle.dns_name.specs.Lists.{least}
 use Rattle.mdns_core.specs.InForce.{in_force}
 use Rattle.mdns_history.specs.Due.{NextDue}
-use Rattle.mdns_cache.specs.Lifetimes.{next_end_of}
-use Rattle.mdns_core.specs.State.{State}
+use Rattle.mdns_history.specs.declared.held.Held.{Held}
+use Rattle.mdns_question.specs.Next.{next_of}
+use Rattle.mdns_core.specs.State.{State, due_of}
+use Rattle.mdns_core.specs.Kept.{sessions_of}
 use Rattle.mdns_core.proofs.Standing.{due-stands}
-use Rattle.mdns_core.proofs.Due.{least_end-later}
+use Rattle.mdns_core.proofs.Carried.{kept}
 use Rattle.mdns_core.proofs.daemon.Daemon.next_due.Goals as goal
+
+pub returns-clause-value : goal.returns-clause-value
+returns-clause-value c =
+    let ends : List ℕ = map (λ one. one.end) c.self.inside.cache.held in
+    let nexts : List ℕ = map (next_of c.self.inside.cache.held) c.self.inside.asker.questions in
+    let least_is : c.earlier-due.result ≡ least (ends ++ nexts) =
+    c.earlier-due.ensures ends nexts c.next_end.ensures.least
+    (c.next_due.ensures.least ∙ ap (λ (held : List Held). least (map (next_of held) c.self.inside.asker.questions)) c.self.invariant.5) in
+    c.not_before.ensures ∙ ap (option_map (max c.self.inside.last)) least_is ∙ ap due_of c.self.view_is
 
 pub returns-clause-due : goal.returns-clause-due
 returns-clause-due c = λ history stands.
-    subst (λ (o : Option ℕ). NextDue in_force history o) (sym (c.next_end.ensures.least ∙ ap (λ (s : State). next_end_of s.held) c.self.view_is)) (due-stands c.args.self.now history stands)
-
-pub returns-clause-later : goal.returns-clause-later
-returns-clause-later c =
-    subst (λ (s : State). IfSome c.next_end.result (λ due. s.last < due)) c.self.view_is
-    (subst (λ (o : Option ℕ). IfSome o (λ due. c.self.inside.last < due)) (sym c.next_end.ensures.least) (least_end-later c.self.inside.last c.self.inside.cache.held c.self.invariant.3))
+    subst (λ (o : Option ℕ). NextDue in_force history o) (sym (returns-clause-value c)) (due-stands c.args.self.now history stands)

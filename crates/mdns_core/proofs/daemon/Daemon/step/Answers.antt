@@ -1,11 +1,15 @@
 use Rattle.std.proofs.Common.{◌≡◌, ◌∙◌, ◌≤◌, ap, subst, sym, map, List}
+use Rattle.mdns_history.specs.declared.event.Event.{Event}
+use Rattle.mdns_question.specs.declared.tracked.Tracked.{Tracked}
 use Rattle.mdns_core.specs.declared.session.SessionState.{SessionState}
 use Rattle.mdns_core.specs.declared.change.SessionChange.{SessionChange}
 use Rattle.mdns_core.specs.State.{Session, State, Stands}
 use Rattle.mdns_core.specs.Codes.{kept_outcome}
+use Rattle.mdns_core.specs.Asked.{asked_for, questions_after}
 use Rattle.mdns_core.specs.Settling.{change_for, shifted}
 use Rattle.mdns_core.specs.Next.{rrs_of, outcome_then, sessions_after}
-use Rattle.mdns_core.specs.Kept.{sessions_of, AreFit, HaveWellFormed}
+use Rattle.mdns_core.specs.Kept.{sessions_of, AreFit, HaveWellFormed, HaveGaps}
+use Rattle.mdns_core.proofs.Ticked.{gaps_kept, due-ticked}
 use Rattle.mdns_core.proofs.Settled.{planned-fit}
 use Rattle.mdns_core.proofs.Standing.{replayed-stands}
 use Rattle.mdns_core.proofs.Carried.{IsCarriedOut, carried, formed-left, kept}
@@ -22,8 +26,8 @@ carry_out-outcome-requires-clause-fit g c =
 pub returns-clause-fits : goal.returns-clause-fits
 returns-clause-fits g c = λ history stands.
     let ss : List Session = sessions_of c.self.inside.sessions.items in
-    let state : State = kept c.self.inside.last c.self.inside.opened ss c.self.inside.cache.held in
-    let out : IsCarriedOut state c.args.now c.args.word c.args.event c.in_ok-plan.plan.cache.held c.in_ok-plan.plan.marks c.new.result c.in_ok-plan.plan.given c.carry_out-outcome.result c.opened_then-self-inside.result (sessions_of c.carry_out-outcome.new.sessions.items) =
+    let state : State = kept c.self.inside.last c.self.inside.opened ss c.self.inside.cache.held c.self.inside.asker.questions in
+    let out : IsCarriedOut state c.args.now c.args.word c.args.event c.in_ok-plan.plan.cache.held c.in_ok-plan.plan.marks c.in_ok-plan.plan.sent c.in_ok-plan.plan.given c.carry_out-outcome.result c.opened_then-self-inside.result (sessions_of c.carry_out-outcome.new.sessions.items) c.in_ok-plan.plan.asker.questions =
     record {
       refusal = c.in_ok-plan.ensures.refusal;
       outcome = c.in_ok-plan.plan.outcome;
@@ -34,15 +38,18 @@ returns-clause-fits g c = λ history stands.
       changed = c.in_ok-plan.ensures.changes
           ∙ ap (λ (xs : List SessionState). map (change_for c.args.event c.in_ok-plan.plan.outcome (rrs_of c.self.inside.cache.held) (rrs_of c.in_ok-plan.plan.cache.held)) (sessions_of xs)) c.deref.ensures.value;
       marked = c.in_ok-plan.ensures.marks;
-      unsent = c.new.ensures;
+      sends = c.in_ok-plan.ensures.sent;
       gifts = c.in_ok-plan.ensures.given;
       late = c.carry_out-outcome.ensures.outcome
           ∙ ap (λ (xs : List Session). outcome_then c.args.event c.in_ok-plan.plan.outcome (shifted c.args.event c.in_ok-plan.plan.outcome xs c.in_ok-plan.plan.changes.items)) c.prepare.ensures.same;
       remains = c.carry_out-outcome.ensures.sessions
           ∙ ap (λ (xs : List Session). sessions_after c.args.event (shifted c.args.event c.in_ok-plan.plan.outcome xs c.in_ok-plan.plan.changes.items)) c.prepare.ensures.same;
       counted = c.opened_then-self-inside.ensures;
+      follows = c.in_ok-plan.ensures.tracked
+          ∙ ap (λ (xs : List SessionState). questions_after (sessions_of xs) c.args.now c.args.word c.args.event c.in_ok-plan.plan.outcome
+          (asked_for c.self.inside.asker.questions c.in_ok-plan.plan.cache.held c.args.now c.in_ok-plan.ensures.refusal c.args.event) c.self.inside.asker.questions) c.deref.ensures.value;
     } in
-    carried state c.args.now c.args.word c.args.event c.in_ok-plan.plan.cache.held c.in_ok-plan.plan.marks c.new.result c.in_ok-plan.plan.given c.carry_out-outcome.result c.opened_then-self-inside.result (sessions_of c.carry_out-outcome.new.sessions.items)
+    carried state c.args.now c.args.word c.args.event c.in_ok-plan.plan.cache.held c.in_ok-plan.plan.marks c.in_ok-plan.plan.sent c.in_ok-plan.plan.given c.carry_out-outcome.result c.opened_then-self-inside.result (sessions_of c.carry_out-outcome.new.sessions.items) c.in_ok-plan.plan.asker.questions
     out (subst (λ (s : State). s.last ≤ c.args.now) (sym c.self.view_is) c.requires.later) c.requires.bound c.requires.no_boot history (subst (λ (s : State). Stands s history) (sym c.self.view_is) stands)
 
 pub returns-clause-replayed : goal.returns-clause-replayed
@@ -64,4 +71,15 @@ invariant_of-self-2 g c =
       c.in_ok-plan.ensures.limit,
       c.in_ok-plan.ensures.within,
       c.in_ok-plan.ensures.live,
+      c.in_ok-plan.ensures.past,
+      c.in_ok-plan.ensures.told,
+      subst HaveGaps (sym c.in_ok-plan.ensures.tracked) (gaps_kept _ c.args.now c.args.word c.args.event c.in_ok-plan.plan.outcome _ c.self.inside.asker.questions c.self.invariant.6),
     )
+
+pub returns-clause-ticked : goal.returns-clause-ticked
+returns-clause-ticked g c = λ tick.
+    let state : State = kept c.args.now c.opened_then-self-inside.result (sessions_of c.carry_out-outcome.new.sessions.items) c.in_ok-plan.plan.cache.held c.in_ok-plan.plan.asker.questions in
+    let followed : Event → List Tracked = λ ev. questions_after (sessions_of c.deref.result.now) c.args.now c.args.word ev c.in_ok-plan.plan.outcome
+    (asked_for c.self.inside.asker.questions c.in_ok-plan.plan.cache.held c.args.now c.in_ok-plan.ensures.refusal ev) c.self.inside.asker.questions in
+    due-ticked state (sessions_of c.deref.result.now) c.args.word c.in_ok-plan.plan.outcome c.in_ok-plan.ensures.refusal c.self.inside.asker.questions c.in_ok-plan.ensures.live c.self.invariant.6
+    (c.in_ok-plan.ensures.tracked ∙ ap followed tick)
