@@ -66,7 +66,7 @@ same_last j k e [] = refl
 same_last j k e (entry ∷ past) =
     ap (λ o. option_or o (last_at (begun_with j) past)) (same_begun j k e entry past) ∙ ap (λ o. option_or (begun_with k entry past) o) (same_last j k e past)
 
-found_passes : (p : Key → Bool) (ks : List Key) (k : Key) → find p ks ≡ Some k → p k ≡ true
+pub found_passes : (p : Key → Bool) (ks : List Key) (k : Key) → find p ks ≡ Some k → p k ≡ true
 found_passes p [] k h = absurd (cc)
 found_passes p (j ∷ ks) k h = of (p j) refl h (found_passes p ks k)
   where
