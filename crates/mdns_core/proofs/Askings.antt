@@ -16,19 +16,19 @@ use Rattle.mdns_history.specs.declared.entry.Entry.{Entry}
 use Rattle.mdns_history.specs.declared.entry.Outcome.{Outcome}
 use Rattle.mdns_history.specs.History.{has_mark, last_at, moment_if}
 use Rattle.mdns_history.specs.Sessions.{Accepted, accepted_call, accepted_in}
-use Rattle.mdns_history.specs.Questions.{Active, key_of, keys_of, address_keys, browse_keys, resolve_keys, is_active, begins_asking, active_from, begun_with, active_questions}
+use Rattle.mdns_history.specs.Questions.{Active, key_of, keys_of, browse_keys, resolve_keys, is_active, begins_asking, active_from, begun_with, active_questions}
 use Rattle.mdns_history.specs.Asking.{is_counted, is_asking, is_series_asking, series_moments, asking_moments, series_gap, series_due, next_in_series}
 use Rattle.mdns_history.specs.Outcomes.{early_outcome}
 use Rattle.mdns_history.specs.Fitting.{IsLegal}
 use Rattle.mdns_question.specs.declared.tracked.Tracked.{Tracked}
-use Rattle.mdns_question.specs.Tracking.{active_of, begun, is_used, asked_at}
+use Rattle.mdns_question.specs.Tracking.{active_of, begun, asked_at}
 use Rattle.mdns_question.specs.Standing.{uses, IsTracked}
 use Rattle.mdns_question.specs.Standing as asking
 use Rattle.mdns_question.proofs.Following.{begun_follows, kept_follows, asked_follows}
 use Rattle.mdns_core.specs.InForce.{in_force}
 use Rattle.mdns_core.specs.State.{Session, asker_of, sessions_in}
 use Rattle.mdns_core.specs.Asked.{begun_keys, ended_keys, all_begun, all_ended, all_asked, questions_after}
-use Rattle.mdns_core.proofs.KeyLists.{IsStrict, looked, if_passes, key_eq-same, looked_found, looked_same, same_looked, all_looked, found_holds, strict_map, strict_unmap, looked_map}
+use Rattle.mdns_core.proofs.KeyLists.{IsStrict, looked, key_eq-same, looked_found, looked_same, same_looked, all_looked, found_holds, strict_map, strict_unmap, looked_map}
 pub use Rattle.mdns_core.proofs.KeyUses.{IsMove}
 use Rattle.mdns_core.proofs.KeyUses.{times, uses-next}
 use Rattle.mdns_core.proofs.ActiveKeys.{key_in, strict_active, looked_active, active_used, same_uses, goes_on, begins, begun_found, found_counted, found_passes, active_begun}

@@ -1,5 +1,5 @@
 -- What users and askings make of the tracked question that is found for a question.
-use Rattle.std.proofs.Common.{◌≡◌, ℕ, zero, suc, ◌+◌, ◌-◌, ◌<◌, ◌≤◌, Bool, true, false, cond, ◌&&◌, ◌||◌, List, [], ◌∷◌, map, Option, Some, None, refl, ap, ◌∙◌, sym, subst, arith}
+use Rattle.std.proofs.Common.{◌≡◌, ℕ, suc, ◌+◌, ◌-◌, ◌<◌, Bool, true, false, cond, ◌&&◌, ◌||◌, List, [], ◌∷◌, map, Option, Some, None, refl, ap, ◌∙◌, sym, subst, arith}
 use Rattle.std.specs.Prelude.{filter, nat_lt}
 use Rattle.std.specs.List.{list_any, find, filter_map, cons_option}
 use Rattle.std.specs.Option.{option_map, option_map_or, is_some, option_to_list}
@@ -13,7 +13,7 @@ use Rattle.mdns_history.specs.Questions.{Active}
 use Rattle.mdns_question.specs.declared.tracked.Tracked.{Tracked}
 use Rattle.mdns_question.specs.Tracking.{active_of, is_for, tracked_cmp, begun, used_more, used_less, is_used, with_user, without_user, with_asking, noted, asked_at}
 use Rattle.mdns_core.specs.Asked.{all_begun, all_ended, all_asked}
-use Rattle.mdns_core.proofs.KeyLists.{IsStrict, looked, has_key, before_all, if_passes, key_eq-itself, key_eq-same, key_eq-turned, looked_found, looked_none, looked_has, looked_same, none_same, strict_inserted, looked_inserted, strict_map, looked_map, strict_filter, looked_filter}
+use Rattle.mdns_core.proofs.KeyLists.{IsStrict, looked, has_key, if_passes, key_eq-itself, key_eq-same, key_eq-turned, looked_found, looked_none, looked_has, looked_same, none_same, strict_inserted, looked_inserted, strict_map, looked_map, strict_filter, looked_filter}
 use Rattle.mdns_core.proofs.KeyUses.{times}
 
 -- the question of a tracked one
