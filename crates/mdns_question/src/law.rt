@@ -1,7 +1,9 @@
 // Laws of the definitions: what a history's next entry makes of the questions that an asker keeps.
-ghost use Rattle.std.specs.Prelude.{◌≡◌, ℕ, true, false, List, ◌∷◌, map, filter};
+ghost use Rattle.std.specs.Prelude.{◌≡◌, ℕ, true, false, List, ◌∷◌, Some, map, filter, if◌then◌else◌};
+ghost use Rattle.std.specs.Option.{option_map};
 ghost use Rattle.std.specs.List.Sorted.{IsPermutation};
 ghost use Rattle.dns_record.specs.declared.record.Key.{Key};
+ghost use Rattle.dns_record.specs.Records.{key_eq};
 ghost use Rattle.mdns_history.specs.declared.mark.Cause.{Cause};
 ghost use Rattle.mdns_history.specs.declared.entry.Entry.{Entry};
 ghost use Rattle.mdns_history.specs.History.{has_mark};
@@ -10,7 +12,8 @@ ghost use Rattle.mdns_history.specs.Questions.{begins_asking};
 ghost use Rattle.mdns_history.specs.Asking.{is_counted, is_asking, is_series_asking, tick_askings};
 ghost use Rattle.mdns_question.specs.declared.tracked.Tracked.{Tracked};
 ghost use Rattle.mdns_question.specs.Contents.{Contents};
-ghost use Rattle.mdns_question.specs.Tracking.{begun, asked_at, due_at};
+ghost use Rattle.mdns_question.specs.Tracking.{begun, asked_at, noted, with_user, without_user, with_asking, due_at};
+ghost use Rattle.mdns_question.specs.Lookups.{kept_of, AreKept, one_more, one_less};
 ghost use Rattle.mdns_question.specs.Standing.{uses, IsTracked, Stands, mark_of};
 
 /// Where the questions that are kept stand for a history, and the told records that are live are the history's, what is
@@ -29,4 +32,22 @@ pub fn askings_follow_the_history()
     ensures kept { (one : Tracked) (entry : Entry) (past : List Entry) → IsTracked past one
         → begins_asking one.key entry past ≡ false → uses one.key (entry ∷ past) ≡ uses one.key past
         → has_mark (is_asking one.key) entry ≡ false → IsTracked (entry ∷ past) one }
+{}
+
+/// What `start`, `stop` and `asked` make of each question, one by one: of another question they change nothing. Each
+/// question has a user and is there once, before and behind.
+pub fn questions_stand_apart()
+    ensures started { (moment word : ℕ) (question : Key) (tracked : List Tracked) (other : Key)
+        → kept_of other (with_user moment word question tracked)
+        ≡ (if key_eq other question then Some (one_more moment word question (kept_of other tracked)) else kept_of other tracked) }
+    ensures stopped { (question : Key) (tracked : List Tracked) → AreKept tracked → (other : Key)
+        → kept_of other (without_user question tracked)
+        ≡ (if key_eq other question then one_less (kept_of other tracked) else kept_of other tracked) }
+    ensures asked { (moment : ℕ) (question : Key) (cause : Cause) (tracked : List Tracked) (other : Key)
+        → kept_of other (with_asking moment question cause tracked) ≡ option_map (noted moment question cause) (kept_of other tracked) }
+    ensures after_start { (moment word : ℕ) (question : Key) (tracked : List Tracked) → AreKept tracked
+        → AreKept (with_user moment word question tracked) }
+    ensures after_stop { (question : Key) (tracked : List Tracked) → AreKept tracked → AreKept (without_user question tracked) }
+    ensures after_asking { (moment : ℕ) (question : Key) (cause : Cause) (tracked : List Tracked) → AreKept tracked
+        → AreKept (with_asking moment question cause tracked) }
 {}
