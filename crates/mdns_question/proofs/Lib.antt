@@ -7,3 +7,4 @@ pub mod Told
 pub mod Earliest
 pub mod Following
 pub mod Lookups
+pub mod Order

@@ -20,7 +20,7 @@ use Rattle.mdns_question.specs.Lookups.{kept_of, AreKept, one_more, one_less}
 
 -- questions are one exactly where they tie in their order, which is total
 
-key_cmp-total : IsTotalOrder key_cmp
+pub key_cmp-total : IsTotalOrder key_cmp
 unfolding key_cmp name_cmp
 key_cmp-total = then_total (on_total (λ (k : Key). wire_of (folded k.name)) nat_list_cmp_total) (on_total (λ (k : Key). k.kind) nat_cmp_total)
 
@@ -38,23 +38,23 @@ eq_number a b = of (nat_lt a b) refl (a == b) refl
     of false h true k = refl
     of false h false k = refl
 
-key_eq-ties : (left right : Key) → key_eq left right ≡ is_eq (key_cmp left right)
+pub key_eq-ties : (left right : Key) → key_eq left right ≡ is_eq (key_cmp left right)
 unfolding key_eq key_cmp folded_eq name_cmp
 key_eq-ties left right =
     ap (λ b. b && (left.kind == right.kind)) (sym (is_eq-slice_cmp (wire_of (folded left.name)) (wire_of (folded right.name))))
     ∙ ap (λ b. is_eq (slice_cmp nat_cmp (wire_of (folded left.name)) (wire_of (folded right.name))) && b) (sym (eq_number left.kind right.kind))
     ∙ sym (eq_then (slice_cmp nat_cmp (wire_of (folded left.name)) (wire_of (folded right.name))) (nat_cmp left.kind right.kind))
 
-is_equal : (r : Ordering) → is_eq r ≡ true → r ≡ Equal
+pub is_equal : (r : Ordering) → is_eq r ≡ true → r ≡ Equal
 is_equal Less e = absurd (cc)
 is_equal Equal e = refl
 is_equal Greater e = absurd (cc)
 
 -- what is one with a question is one with the same questions
-along : (x y z : Key) → key_eq x y ≡ true → key_eq x z ≡ key_eq y z
+pub along : (x y z : Key) → key_eq x y ≡ true → key_eq x z ≡ key_eq y z
 along x y z e = key_eq-ties x z ∙ ap is_eq (key_cmp-total.congr x y z (is_equal (key_cmp x y) (sym (key_eq-ties x y) ∙ e))) ∙ sym (key_eq-ties y z)
 
-turned : (x y : Key) → key_eq x y ≡ key_eq y x
+pub turned : (x y : Key) → key_eq x y ≡ key_eq y x
 turned x y = key_eq-ties x y ∙ ap is_eq (key_cmp-total.antisymm x y) ∙ of (key_cmp y x) ∙ sym (key_eq-ties y x)
   where
     of : (r : Ordering) → is_eq (ordering_reverse r) ≡ is_eq r
@@ -63,7 +63,7 @@ turned x y = key_eq-ties x y ∙ ap is_eq (key_cmp-total.antisymm x y) ∙ of (k
     of Greater = refl
 
 -- two that are one with a third are one
-both : (x y z : Key) → key_eq x y ≡ true → key_eq x z ≡ true → key_eq y z ≡ true
+pub both : (x y z : Key) → key_eq x y ≡ true → key_eq x z ≡ true → key_eq y z ≡ true
 both x y z e f = sym (along x y z e) ∙ f
 
 -- finding
@@ -80,7 +80,7 @@ any-map : {X : Type 0} (p : X → Bool) (f : X → X) → ((x : X) → p (f x) �
 any-map p f same [] = refl
 any-map p f same (x ∷ xs) = ap (λ b. b || list_any p (map f xs)) (same x) ∙ ap (λ b. p x || b) (any-map p f same xs)
 
-find-passes : {X : Type 0} (p : X → Bool) (xs : List X) (x : X) → find p xs ≡ Some x → p x ≡ true
+pub find-passes : {X : Type 0} (p : X → Bool) (xs : List X) (x : X) → find p xs ≡ Some x → p x ≡ true
 find-passes p [] x e = absurd (cc)
 find-passes p (y ∷ xs) x e = of (p y) refl e (find-passes p xs x)
   where
@@ -88,7 +88,7 @@ find-passes p (y ∷ xs) x e = of (p y) refl e (find-passes p xs x)
     of true h k ih = let same : y ≡ x = cc in ap p (sym same) ∙ h
     of false h k ih = ih k
 
-find-none : {X : Type 0} (p : X → Bool) (xs : List X) → list_any p xs ≡ false → find p xs ≡ None
+pub find-none : {X : Type 0} (p : X → Bool) (xs : List X) → list_any p xs ≡ false → find p xs ≡ None
 find-none p [] e = refl
 find-none p (x ∷ xs) e = of (p x) e (find-none p xs)
   where
@@ -96,7 +96,7 @@ find-none p (x ∷ xs) e = of (p x) e (find-none p xs)
     of true h ih = absurd (cc)
     of false h ih = ih h
 
-none-found : {X : Type 0} (p : X → Bool) (xs : List X) → find p xs ≡ None → list_any p xs ≡ false
+pub none-found : {X : Type 0} (p : X → Bool) (xs : List X) → find p xs ≡ None → list_any p xs ≡ false
 none-found p [] e = refl
 none-found p (x ∷ xs) e = of (p x) e (none-found p xs)
   where
@@ -111,7 +111,7 @@ any-along x y (one ∷ tracked) e = ap (λ b. b || list_any (is_for x) tracked) 
 
 -- an asking
 
-noted_key : (moment : ℕ) (question : Key) (cause : Cause) (one : Tracked) → (noted moment question cause one).key ≡ one.key
+pub noted_key : (moment : ℕ) (question : Key) (cause : Cause) (one : Tracked) → (noted moment question cause one).key ≡ one.key
 noted_key moment question why one = of (is_for question one) (is_counted why) _ _ refl refl
   where
     of : (b d : Bool) (x y : Tracked) → x.key ≡ one.key → y.key ≡ one.key → (cond b (cond d x y) one).key ≡ one.key

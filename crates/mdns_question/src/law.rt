@@ -8,12 +8,13 @@ ghost use Rattle.mdns_history.specs.declared.mark.Cause.{Cause};
 ghost use Rattle.mdns_history.specs.declared.entry.Entry.{Entry};
 ghost use Rattle.mdns_history.specs.History.{has_mark};
 ghost use Rattle.mdns_history.specs.Lifetimes.{is_live_at, live_records};
-ghost use Rattle.mdns_history.specs.Questions.{begins_asking};
+ghost use Rattle.mdns_history.specs.Questions.{begins_asking, active_questions};
 ghost use Rattle.mdns_history.specs.Asking.{is_counted, is_asking, is_series_asking, tick_askings};
 ghost use Rattle.mdns_question.specs.declared.tracked.Tracked.{Tracked};
 ghost use Rattle.mdns_question.specs.Contents.{Contents};
-ghost use Rattle.mdns_question.specs.Tracking.{begun, asked_at, noted, with_user, without_user, with_asking, due_at};
+ghost use Rattle.mdns_question.specs.Tracking.{active_of, begun, asked_at, noted, with_user, without_user, with_asking, due_at};
 ghost use Rattle.mdns_question.specs.Lookups.{kept_of, AreKept, one_more, one_less};
+ghost use Rattle.mdns_question.specs.Order.{AreInOrder, active_at};
 ghost use Rattle.mdns_question.specs.Standing.{uses, IsTracked, Stands, mark_of};
 
 /// Where the questions that are kept stand for a history, and the told records that are live are the history's, what is
@@ -50,4 +51,19 @@ pub fn questions_stand_apart()
     ensures after_stop { (question : Key) (tracked : List Tracked) → AreKept tracked → AreKept (without_user question tracked) }
     ensures after_asking { (moment : ℕ) (question : Key) (cause : Cause) (tracked : List Tracked) → AreKept tracked
         → AreKept (with_asking moment question cause tracked) }
+{}
+
+/// Questions that are in order, and each of which is what a history says of it, are the history's active questions. What
+/// `start`, `stop` and `asked` make of questions in order is in order.
+pub fn questions_in_order_are_the_active_ones()
+    ensures active { (tracked : List Tracked) (history : List Entry) → AreInOrder (map (λ one. one.key) tracked)
+        → ((question : Key) → option_map active_of (kept_of question tracked) ≡ active_at question history)
+        → map active_of tracked ≡ active_questions history }
+    ensures after_start { (moment word : ℕ) (question : Key) (tracked : List Tracked) → AreInOrder (map (λ one. one.key) tracked)
+        → AreInOrder (map (λ one. one.key) (with_user moment word question tracked)) }
+    ensures after_stop { (question : Key) (tracked : List Tracked) → AreInOrder (map (λ one. one.key) tracked)
+        → AreInOrder (map (λ one. one.key) (without_user question tracked)) }
+    ensures after_asking { (moment : ℕ) (question : Key) (cause : Cause) (tracked : List Tracked)
+        → AreInOrder (map (λ one. one.key) tracked)
+        → AreInOrder (map (λ one. one.key) (with_asking moment question cause tracked)) }
 {}
