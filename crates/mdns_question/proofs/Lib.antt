@@ -8,3 +8,4 @@ pub mod Earliest
 pub mod Following
 pub mod Lookups
 pub mod Order
+pub mod Activity

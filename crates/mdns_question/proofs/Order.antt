@@ -19,7 +19,7 @@ use Rattle.mdns_question.specs.declared.tracked.Tracked.{Tracked}
 use Rattle.mdns_question.specs.Tracking.{is_for, is_used, active_of, tracked_cmp, used_more, used_less, noted, begun, with_user, without_user, with_asking}
 use Rattle.mdns_question.specs.Lookups.{kept_of}
 use Rattle.mdns_question.specs.Order.{AreInOrder, active_at}
-use Rattle.mdns_question.proofs.Lookups.{key_cmp-total, key_eq-ties, along, turned, both, is_equal, noted_key, none-found, find-passes, find-none}
+use Rattle.mdns_question.proofs.Lookups.{key_cmp-total, key_eq-ties, along, turned, is_equal, noted_key, find-passes, find-none}
 
 -- the order of two questions
 
@@ -233,8 +233,8 @@ last_along : (q r : Key) (history : List Entry) → key_eq q r ≡ true → last
 unfolding is_active
 last_along q r history e =
     ap (λ (t : Key → Bool). last_at (λ entry past.
-        cond (list_any (λ operation. list_any t (keys_of operation.request)) (operations (entry ∷ past)) && not (list_any (λ operation. list_any t (keys_of operation.request)) (operations past)))
-        (option_map (active_from entry) (option_and_then (λ call. find t (keys_of call.request)) (accepted_in entry))) None) history)
+    cond (list_any (λ operation. list_any t (keys_of operation.request)) (operations (entry ∷ past)) && not (list_any (λ operation. list_any t (keys_of operation.request)) (operations past)))
+    (option_map (active_from entry) (option_and_then (λ call. find t (keys_of call.request)) (accepted_in entry))) None) history)
     (λ i z. along q r z e i)
 
 -- the keys of active questions
@@ -368,8 +368,8 @@ assembled tracked history h same =
     (subst AreInOrder (sym (keys_alike tracked)) h)
     (AreInOrder-given begun gives alike (ordered key_cmp asked) (AreInOrder-ordered asked))
     (λ q. found_kept q tracked ∙ same q
-        ∙ ap (λ b. cond b (begun q) None) (sym (any-flat (key_eq q) (operations history)) ∙ sym (any-ordered q asked))
-        ∙ sym (found_given begun gives alike (ordered key_cmp asked) (AreInOrder-ordered asked) q))
+    ∙ ap (λ b. cond b (begun q) None) (sym (any-flat (key_eq q) (operations history)) ∙ sym (any-ordered q asked))
+    ∙ sym (found_given begun gives alike (ordered key_cmp asked) (AreInOrder-ordered asked) q))
 
 -- order is kept
 

@@ -1,5 +1,5 @@
 // Laws of the definitions: what a history's next entry makes of the questions that an asker keeps.
-ghost use Rattle.std.specs.Prelude.{◌≡◌, ℕ, true, false, List, ◌∷◌, Some, map, filter, if◌then◌else◌};
+ghost use Rattle.std.specs.Prelude.{◌≡◌, ℕ, nat_lt, true, false, List, ◌∷◌, Some, None, map, filter, if◌then◌else◌};
 ghost use Rattle.std.specs.Option.{option_map};
 ghost use Rattle.std.specs.List.Sorted.{IsPermutation};
 ghost use Rattle.dns_record.specs.declared.record.Key.{Key};
@@ -8,7 +8,7 @@ ghost use Rattle.mdns_history.specs.declared.mark.Cause.{Cause};
 ghost use Rattle.mdns_history.specs.declared.entry.Entry.{Entry};
 ghost use Rattle.mdns_history.specs.History.{has_mark};
 ghost use Rattle.mdns_history.specs.Lifetimes.{is_live_at, live_records};
-ghost use Rattle.mdns_history.specs.Questions.{begins_asking, active_questions};
+ghost use Rattle.mdns_history.specs.Questions.{Active, is_active, begins_asking, begun_with, active_questions};
 ghost use Rattle.mdns_history.specs.Asking.{is_counted, is_asking, is_series_asking, tick_askings};
 ghost use Rattle.mdns_question.specs.declared.tracked.Tracked.{Tracked};
 ghost use Rattle.mdns_question.specs.Contents.{Contents};
@@ -66,4 +66,17 @@ pub fn questions_in_order_are_the_active_ones()
     ensures after_asking { (moment : ℕ) (question : Key) (cause : Cause) (tracked : List Tracked)
         → AreInOrder (map (λ one. one.key) tracked)
         → AreInOrder (map (λ one. one.key) (with_asking moment question cause tracked)) }
+{}
+
+/// A question is active exactly where a live operation uses it. Behind an entry it is the one that began with it, or else
+/// the one before, while it is used.
+pub fn activity_follows_the_uses()
+    ensures used { (question : Key) (history : List Entry) → is_active question history ≡ nat_lt 0 (uses question history) }
+    ensures begun { (question : Key) (entry : Entry) (past : List Entry) (active : Active)
+        → is_active question (entry ∷ past) ≡ true → begun_with question entry past ≡ Some active
+        → active_at question (entry ∷ past) ≡ Some active }
+    ensures kept { (question : Key) (entry : Entry) (past : List Entry) → begins_asking question entry past ≡ false
+        → is_active question (entry ∷ past) ≡ true → active_at question (entry ∷ past) ≡ active_at question past }
+    ensures ended { (question : Key) (entry : Entry) (past : List Entry) → is_active question (entry ∷ past) ≡ false
+        → active_at question (entry ∷ past) ≡ None }
 {}
