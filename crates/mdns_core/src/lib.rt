@@ -13,3 +13,6 @@ mod session;
 mod settle;
 
 pub use daemon::Daemon;
+
+#[cfg(test)]
+mod tests;

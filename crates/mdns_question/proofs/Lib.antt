@@ -6,3 +6,6 @@ pub mod Loops
 pub mod Told
 pub mod Earliest
 pub mod Following
+pub mod Lookups
+pub mod Order
+pub mod Activity
