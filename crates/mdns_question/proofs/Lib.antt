@@ -9,3 +9,4 @@ pub mod Following
 pub mod Lookups
 pub mod Order
 pub mod Activity
+pub mod Keeping

@@ -23,10 +23,10 @@ use Rattle.mdns_question.proofs.Lookups.{key_cmp-total, key_eq-ties, along, turn
 
 -- the order of two questions
 
-abbrev before : Key → Key → Bool
+abbrev pub before : Key → Key → Bool
 before x y = is_lt (key_cmp x y)
 
-itself : (x : Key) → key_eq x x ≡ true
+pub itself : (x : Key) → key_eq x x ≡ true
 itself x = key_eq-ties x x ∙ ap is_eq (tied_itself key_cmp-total x)
 
 is_less : (r : Ordering) → is_lt r ≡ true → r ≡ Less
@@ -81,7 +81,7 @@ none_from_all p q gives (x ∷ xs) h = of (p x) refl h (none_from_all p q gives 
     of false e k ih = absurd (cc)
 
 -- behind a question in order none is one with it
-none_behind : (key : Key) (keys : List Key) → list_all (before key) keys ≡ true → (q : Key) → key_eq q key ≡ true → list_any (key_eq q) keys ≡ false
+pub none_behind : (key : Key) (keys : List Key) → list_all (before key) keys ≡ true → (q : Key) → key_eq q key ≡ true → list_any (key_eq q) keys ≡ false
 none_behind key keys h q e = none_from_all (before key) (key_eq q) (λ x f. along q key x e ∙ before_apart key x f) keys h
 
 all-insert : (p : Key → Bool) (key : Key) (keys : List Key) → p key ≡ true → list_all p keys ≡ true → list_all p (insert_by key_cmp key keys) ≡ true
@@ -340,7 +340,7 @@ same_found (x ∷ xs) (y ∷ ys) h k same = of (key_eq x.key y.key) refl (λ l. 
 
 -- the questions that are kept
 
-abbrev tracked_key : Tracked → Key
+abbrev pub tracked_key : Tracked → Key
 tracked_key one = one.key
 
 keys_alike : (tracked : List Tracked) → map key_in (map active_of tracked) ≡ map tracked_key tracked
@@ -386,7 +386,7 @@ map-alike : (f : Tracked → Tracked) → ((one : Tracked) → (f one).key ≡ o
 map-alike f same [] = refl
 map-alike f same (one ∷ tracked) = ap (λ k. k ∷ map tracked_key (map f tracked)) (same one) ∙ ap (λ l. one.key ∷ l) (map-alike f same tracked)
 
-any-tracked : (q : Key) (tracked : List Tracked) → list_any (key_eq q) (map tracked_key tracked) ≡ list_any (is_for q) tracked
+pub any-tracked : (q : Key) (tracked : List Tracked) → list_any (key_eq q) (map tracked_key tracked) ≡ list_any (is_for q) tracked
 any-tracked q [] = refl
 any-tracked q (one ∷ tracked) = ap (λ b. is_for q one || b) (any-tracked q tracked)
 

@@ -4,3 +4,4 @@ pub mod Next
 pub mod Standing
 pub mod Lookups
 pub mod Order
+pub mod Keeping

@@ -15,6 +15,7 @@ ghost use Rattle.mdns_question.specs.Contents.{Contents};
 ghost use Rattle.mdns_question.specs.Tracking.{active_of, begun, asked_at, noted, with_user, without_user, with_asking, due_at};
 ghost use Rattle.mdns_question.specs.Lookups.{kept_of, AreKept, one_more, one_less};
 ghost use Rattle.mdns_question.specs.Order.{AreInOrder, active_at};
+ghost use Rattle.mdns_question.specs.Keeping.{IsKept};
 ghost use Rattle.mdns_question.specs.Standing.{uses, IsTracked, Stands, mark_of};
 
 /// Where the questions that are kept stand for a history, and the told records that are live are the history's, what is
@@ -53,12 +54,14 @@ pub fn questions_stand_apart()
         → AreKept (with_asking moment question cause tracked) }
 {}
 
-/// Questions that are in order, and each of which is what a history says of it, are the history's active questions. What
-/// `start`, `stop` and `asked` make of questions in order is in order.
+/// Questions that are in order, and each of which is what a history says of it, are the history's active questions, and
+/// stand for it. What `start`, `stop` and `asked` make of questions in order is in order.
 pub fn questions_in_order_are_the_active_ones()
     ensures active { (tracked : List Tracked) (history : List Entry) → AreInOrder (map (λ one. one.key) tracked)
         → ((question : Key) → option_map active_of (kept_of question tracked) ≡ active_at question history)
         → map active_of tracked ≡ active_questions history }
+    ensures stands { (contents : Contents) (history : List Entry) → AreInOrder (map (λ one. one.key) contents.questions)
+        → ((question : Key) → IsKept history question (kept_of question contents.questions)) → Stands contents history }
     ensures after_start { (moment word : ℕ) (question : Key) (tracked : List Tracked) → AreInOrder (map (λ one. one.key) tracked)
         → AreInOrder (map (λ one. one.key) (with_user moment word question tracked)) }
     ensures after_stop { (question : Key) (tracked : List Tracked) → AreInOrder (map (λ one. one.key) tracked)
