@@ -9,19 +9,13 @@ use std::alloc::{AllocError, Global};
 use std::process::Abort;
 use std::test::Fail;
 
-// A session that asks for the addresses of a name, and what that prints.
+// A session that asks for the addresses of a name, and what that tells.
 const ASKED: &str = "daemon 1\nopen 1\ncall 1 1 1 query A a.local\n";
 
-const ASKED_OUTPUT: &str = "@0 d1 w0 boot 10.0.0.1
-@0 d1 w0 open
- = opened 1
-@0 d1 w0 call 1 1 query A a.local.
- < 1 reply 1 start 0
- = code 0
-";
+const ASKED_TOLD: &str = "0 = opened 1\n0 < 1 reply 1 start 0\n0 = code 0\n";
 
 // Packets, by the words that stand for them in the rows.
-const PACKETS: [(&str, &str); 10] = [
+const PACKETS: [(&str, &str); 11] = [
     (
         "<first>",
         "10.0.0.9 5353 0000840000000001000000000161056c6f63616c0000010001000000780004c0000201",
@@ -59,163 +53,126 @@ const PACKETS: [(&str, &str); 10] = [
         "10.0.0.9 5353 0000840000000001000000010161056c6f63616c0000018001000000780004c000020100002905a0000000000000",
     ),
     (
+        "<query>",
+        "10.0.0.8 5353 0000000000010000000000000161056c6f63616c0000010001",
+    ),
+    (
         "<elsewhere>",
         "10.0.0.9 5354 0000840000000001000000000161056c6f63616c0000018001000000780004c0000201",
     ),
 ];
 
-// What follows the question in the script and in its transcript.
+// What follows the question in a script, and what is told from then on.
 const ROWS: [(&str, &str); 15] = [
     // A record ends when its TTL has passed, and no millisecond before.
     (
         "at 1000\nhear 1 <first flush>\nat 121000\n",
-        "@1000 d1 w0 hear <first flush>
- < 1 add 1 A 192.0.2.1
-@121000 d1 w0 tick
- < 1 rem 1 A 192.0.2.1
+        "1000 < 1 add 1 A 192.0.2.1
+121000 < 1 rem 1 A 192.0.2.1
 ",
     ),
     (
         "at 1000\nhear 1 <first flush>\nat 120999\n",
-        "@1000 d1 w0 hear <first flush>
- < 1 add 1 A 192.0.2.1
+        "1000 < 1 add 1 A 192.0.2.1
 ",
     ),
     // A goodbye ends it a second later, and isn't an answer itself.
     (
         "at 1000\nhear 1 <first>\nat 5000\nhear 1 <goodbye>\nat 9000\n",
-        "@1000 d1 w0 hear <first>
- < 1 add 1 A 192.0.2.1
-@5000 d1 w0 hear <goodbye>
-@6000 d1 w0 tick
- < 1 rem 1 A 192.0.2.1
+        "1000 < 1 add 1 A 192.0.2.1
+6000 < 1 rem 1 A 192.0.2.1
 ",
     ),
     (
         "at 1000\nhear 1 <goodbye>\nat 9000\n",
-        "@1000 d1 w0 hear <goodbye>
-",
+        "",
     ),
     // A second goodbye changes nothing, a renewal takes it back.
     (
         "at 1000\nhear 1 <first>\nat 5000\nhear 1 <goodbye>\nat 5500\nhear 1 <goodbye>\nat 9000\n",
-        "@1000 d1 w0 hear <first>
- < 1 add 1 A 192.0.2.1
-@5000 d1 w0 hear <goodbye>
-@5500 d1 w0 hear <goodbye>
-@6000 d1 w0 tick
- < 1 rem 1 A 192.0.2.1
+        "1000 < 1 add 1 A 192.0.2.1
+6000 < 1 rem 1 A 192.0.2.1
 ",
     ),
     (
         "at 1000\nhear 1 <first>\nat 5000\nhear 1 <goodbye>\nat 5500\nhear 1 <first>\nat 125500\n",
-        "@1000 d1 w0 hear <first>
- < 1 add 1 A 192.0.2.1
-@5000 d1 w0 hear <goodbye>
-@5500 d1 w0 hear <first>
-@125500 d1 w0 tick
- < 1 rem 1 A 192.0.2.1
+        "1000 < 1 add 1 A 192.0.2.1
+125500 < 1 rem 1 A 192.0.2.1
 ",
     ),
     // A flush ends what was heard more than a second before it.
     (
         "at 1000\nhear 1 <first>\nat 2000\nhear 1 <second flush>\nat 9000\n",
-        "@1000 d1 w0 hear <first>
- < 1 add 1 A 192.0.2.1
-@2000 d1 w0 hear <second flush>
- < 1 add 1 A 192.0.2.2
+        "1000 < 1 add 1 A 192.0.2.1
+2000 < 1 add 1 A 192.0.2.2
 ",
     ),
     (
         "at 1000\nhear 1 <first>\nat 2001\nhear 1 <second flush>\nat 9000\n",
-        "@1000 d1 w0 hear <first>
- < 1 add 1 A 192.0.2.1
-@2001 d1 w0 hear <second flush>
- < 1 add 1 A 192.0.2.2
-@3001 d1 w0 tick
- < 1 rem 1 A 192.0.2.1
+        "1000 < 1 add 1 A 192.0.2.1
+2001 < 1 add 1 A 192.0.2.2
+3001 < 1 rem 1 A 192.0.2.1
 ",
     ),
     (
         "at 1000\nhear 1 <first>\nhear 1 <second>\nat 5000\nhear 1 <second flush>\nat 125000\n",
-        "@1000 d1 w0 hear <first>
- < 1 add 1 A 192.0.2.1
-@1000 d1 w0 hear <second>
- < 1 add 1 A 192.0.2.2
-@5000 d1 w0 hear <second flush>
-@6000 d1 w0 tick
- < 1 rem 1 A 192.0.2.1
-@125000 d1 w0 tick
- < 1 rem 1 A 192.0.2.2
+        "1000 < 1 add 1 A 192.0.2.1
+1000 < 1 add 1 A 192.0.2.2
+6000 < 1 rem 1 A 192.0.2.1
+125000 < 1 rem 1 A 192.0.2.2
 ",
     ),
     // Four records, the last named by three pointers one behind the other; a pointer forward, and one to itself.
     (
         "at 1000\nhear 1 <four>\n",
-        "@1000 d1 w0 hear <four>
- < 1 add 1 A 192.0.2.1
- < 1 add 1 A 192.0.2.2
- < 1 add 1 A 192.0.2.3
- < 1 add 1 A 192.0.2.4
+        "1000 < 1 add 1 A 192.0.2.1
+1000 < 1 add 1 A 192.0.2.2
+1000 < 1 add 1 A 192.0.2.3
+1000 < 1 add 1 A 192.0.2.4
 ",
     ),
     (
         "at 1000\nhear 1 <forward>\nhear 1 <itself>\n",
-        "@1000 d1 w0 hear <forward>
- ! bad 2
-@1000 d1 w0 hear <itself>
- ! bad 2
+        "1000 ! bad 2
+1000 ! bad 2
 ",
     ),
     // An OPT record as additional one, and a response from another port.
     (
         "at 1000\nhear 1 <option>\n",
-        "@1000 d1 w0 hear <option>
- < 1 add 1 A 192.0.2.1
+        "1000 < 1 add 1 A 192.0.2.1
 ",
     ),
     (
         "at 1000\nhear 1 <elsewhere>\n",
-        "@1000 d1 w0 hear <elsewhere>
-",
+        "",
     ),
     // Items are taken once, and none of a session that was closed.
     (
         "take 1 1 5\ntake 1 1 5\nclose 1 1\ntake 1 1 5\nclose 1 1\n",
-        "@0 d1 w0 take 1 5
- = items 1
-  reply 1 start 0
-@0 d1 w0 take 1 5
- = empty
-@0 d1 w0 close 1
- = ended
-@0 d1 w0 take 1 5
- = closed
-@0 d1 w0 close 1
- = closed
+        "0 = items 1
+0  reply 1 start 0
+0 = empty
+0 = ended
+0 = closed
+0 = closed
 ",
     ),
     // A number in use, no such operation, no registration, no service type, a name elsewhere, no host.
     (
         "call 1 1 1 query A a.local\ncall 1 1 9 stop\ncall 1 1 1 update -\ncall 1 1 2 browse ipp._tcp\ncall 1 1 2 query A example.com\ncall 1 1 2 register P _ipp._tcp 631 auto -\n",
-        "@0 d1 w0 call 1 1 query A a.local.
- < 1 reply 1 start -65549
- = code -65549
-@0 d1 w0 call 1 9 stop
- < 1 reply 9 stop -65541
- = code -65541
-@0 d1 w0 call 1 1 update -
- < 1 reply 1 update -65541
- = code -65541
-@0 d1 w0 call 1 2 browse ipp._tcp
- < 1 reply 2 start -65540
- = code -65540
-@0 d1 w0 call 1 2 query A example.com.
- < 1 reply 2 start -65544
- = code -65544
-@0 d1 w0 call 1 2 register P _ipp._tcp 631 auto -
- < 1 reply 2 start -65544
- = code -65544
+        "0 < 1 reply 1 start -65549
+0 = code -65549
+0 < 1 reply 9 stop -65541
+0 = code -65541
+0 < 1 reply 1 update -65541
+0 = code -65541
+0 < 1 reply 2 start -65540
+0 = code -65540
+0 < 1 reply 2 start -65544
+0 = code -65544
+0 < 1 reply 2 start -65544
+0 = code -65544
 ",
     ),
 ];
@@ -248,13 +205,127 @@ fn expect(
     Ok(())
 }
 
+// Runs a script to its end, which must print lines with these beginnings so, each behind its moment.
+fn expect_lines(
+    rt: &impl Abort,
+    alloc: Global,
+    script: &str,
+    beginnings: &[&str],
+    lines: &str,
+) -> Result<(), Fail> {
+    let mut source = MemSource::new(Vec::from_slice(alloc, script.as_bytes())?, Vec::new(alloc));
+    let mut sink = MemSink::new(alloc, Vec::new(alloc));
+    assert_eq!(rt; run_script(alloc, &mut source, &mut sink), 0, "{script}");
+    let transcript = str::from_utf8(sink.bytes()).map_err(|_| "text")?;
+    let found = lines_with(alloc, transcript, beginnings)?;
+    assert_eq!(rt; found.as_str(), lines, "{script}");
+    Ok(())
+}
+
+// The lines of a transcript that begin so, each behind the moment of its entry.
+fn lines_with(
+    alloc: Global,
+    transcript: &str,
+    beginnings: &[&str],
+) -> Result<String, AllocError> {
+    let mut found = String::new(alloc);
+    let mut moment = "";
+    for line in transcript.lines() {
+        if let Some(head) = line.strip_prefix('@') {
+            moment = head.split(' ').next().unwrap_or(head);
+        } else if beginnings.iter().any(|begin| line.starts_with(*begin)) {
+            found.push_str(moment)?;
+            found.push_str(line)?;
+            found.push('\n')?;
+        }
+    }
+    Ok(found)
+}
+
 #[test]
 fn rows(rt: HostRuntime) -> Result<(), Fail> {
     let alloc = rt.alloc();
     for (lines, effect) in ROWS {
         let script = spelled_out(alloc, &format!(in alloc; "{ASKED}{lines}")?)?;
-        let output = spelled_out(alloc, &format!(in alloc; "{ASKED_OUTPUT}{effect}")?)?;
-        expect(&rt, alloc, &script, &output, 0)?;
+        let told = format!(in alloc; "{ASKED_TOLD}{effect}")?;
+        let beginnings = [" <", " =", " ! bad", "  reply"];
+        expect_lines(&rt, alloc, &script, &beginnings, &told)?;
+    }
+    Ok(())
+}
+
+// Scripts, and which questions they ask.
+const ASKINGS: [(&str, &str); 5] = [
+    // The series: a second, and twice as long each time, an hour at most.
+    (
+        "daemon 1\nopen 1\ncall 1 1 1 browse _ipp._tcp\nat 7695020\n",
+        "20 ! asked _ipp._tcp.local. PTR series
+1020 ! asked _ipp._tcp.local. PTR series
+3020 ! asked _ipp._tcp.local. PTR series
+7020 ! asked _ipp._tcp.local. PTR series
+15020 ! asked _ipp._tcp.local. PTR series
+31020 ! asked _ipp._tcp.local. PTR series
+63020 ! asked _ipp._tcp.local. PTR series
+127020 ! asked _ipp._tcp.local. PTR series
+255020 ! asked _ipp._tcp.local. PTR series
+511020 ! asked _ipp._tcp.local. PTR series
+1023020 ! asked _ipp._tcp.local. PTR series
+2047020 ! asked _ipp._tcp.local. PTR series
+4095020 ! asked _ipp._tcp.local. PTR series
+7695020 ! asked _ipp._tcp.local. PTR series
+",
+    ),
+    // The word of the call moves the first asking.
+    (
+        "daemon 1\nopen 1\nword 100\ncall 1 1 1 browse _ipp._tcp\nword 5\nat 1000\n",
+        "120 ! asked _ipp._tcp.local. PTR series
+",
+    ),
+    // A record is refreshed four times in its last fifth, while its question has an operation.
+    (
+        "daemon 1\nopen 1\ncall 1 1 1 query A a.local\nat 1000\nhear 1 <first flush>\nat 121000\n",
+        "20 ! asked a.local. A series
+1020 ! asked a.local. A series
+3020 ! asked a.local. A series
+7020 ! asked a.local. A series
+15020 ! asked a.local. A series
+31020 ! asked a.local. A series
+63020 ! asked a.local. A series
+97000 ! asked a.local. A refresh
+103000 ! asked a.local. A refresh
+109000 ! asked a.local. A refresh
+115000 ! asked a.local. A refresh
+",
+    ),
+    (
+        "daemon 1\nopen 1\ncall 1 1 1 query A a.local\nat 1000\nhear 1 <first flush>\nat 100000\ncall 1 1 1 stop\nat 121000\n",
+        "20 ! asked a.local. A series
+1020 ! asked a.local. A series
+3020 ! asked a.local. A series
+7020 ! asked a.local. A series
+15020 ! asked a.local. A series
+31020 ! asked a.local. A series
+63020 ! asked a.local. A series
+97000 ! asked a.local. A refresh
+",
+    ),
+    // Another's query within the second before an asking stands for it.
+    (
+        "daemon 1\nopen 1\ncall 1 1 1 query A a.local\nat 1000\nhear 1 <first>\nat 2900\nhear 1 <query>\nat 7020\n",
+        "20 ! asked a.local. A series
+1020 ! asked a.local. A series
+2900 ! asked a.local. A heard
+6900 ! asked a.local. A series
+",
+    ),
+];
+
+#[test]
+fn askings(rt: HostRuntime) -> Result<(), Fail> {
+    let alloc = rt.alloc();
+    for (script, asked) in ASKINGS {
+        let script = spelled_out(alloc, script)?;
+        expect_lines(&rt, alloc, &script, &[" ! asked"], asked)?;
     }
     Ok(())
 }
