@@ -12,7 +12,7 @@ use Rattle.mdns_history.specs.declared.held.Held.{Held}
 use Rattle.mdns_history.specs.Hearings.{Hearing}
 use Rattle.mdns_history.specs.Lifetimes.{live_of, is_live_at, cuts, held_from, renewals}
 use Rattle.mdns_history.proofs.LifetimeSteps.{live_of-later, live_of-renewal, live_of-goodbye}
-use Rattle.mdns_cache.specs.Lifetimes.{Holds, Stands, AllLive, hearing_at, hearings_at, renewed, shortened, is_other, after_hearing, after_hearings}
+use Rattle.mdns_cache.specs.Lifetimes.{Holds, Stands, AllLive, AllHeard, hearing_at, hearings_at, renewed, shortened, is_other, after_hearing, after_hearings}
 use Rattle.mdns_cache.proofs.ListLemmas.{IsPermutation-filter, filter_all, filter_less, each-append, each-filter, each-passes, each-map, each-weaker}
 
 same_itself : (rr : Rr) → same rr rr ≡ true
@@ -58,6 +58,16 @@ AllLive-after_hearing hearing held live = of (nat_lt 0 hearing.rr.ttl) refl
         each-append _ (map (shortened hearing) (filter (is_other hearing) held)) (renewed hearing ∷ []) (cut _ (each-filter _ (is_other hearing) held live)) (omega (arith, positive), tt)
     of false e = cut held live
 
+pub AllHeard-after_hearing : (hearing : Hearing) (held : List Held) → AllHeard hearing.moment held → AllHeard hearing.moment (after_hearing held hearing)
+AllHeard-after_hearing hearing held heard = of (nat_lt 0 hearing.rr.ttl)
+  where
+    cut : (hs : List Held) → AllHeard hearing.moment hs → AllHeard hearing.moment (map (shortened hearing) hs)
+    cut hs h = each-map _ _ (shortened hearing) (λ one k. k) hs h
+
+    of : (b : Bool) → AllHeard hearing.moment (cond b (map (shortened hearing) (filter (is_other hearing) held) ++ renewed hearing ∷ []) (map (shortened hearing) held))
+    of true = each-append _ (map (shortened hearing) (filter (is_other hearing) held)) (renewed hearing ∷ []) (cut _ (each-filter _ (is_other hearing) held heard)) (omega arith, tt)
+    of false = cut held heard
+
 -- THE STEP: one more hearing, where nothing held has ended
 pub Holds-after_hearing : (hearing : Hearing) (held : List Held) (past : List Hearing) → AllLive hearing.moment held → Holds held past hearing.moment →
     Holds (after_hearing held hearing) (hearing ∷ past) hearing.moment
@@ -87,6 +97,11 @@ pub AllLive-after_hearings : (moment word : ℕ) (rrs : List Rr) (held : List He
 AllLive-after_hearings moment word [] held live = live
 AllLive-after_hearings moment word (rr ∷ rrs) held live =
     AllLive-after_hearings moment word rrs (after_hearing held (hearing_at moment word rr)) (AllLive-after_hearing (hearing_at moment word rr) held live)
+
+pub AllHeard-after_hearings : (moment word : ℕ) (rrs : List Rr) (held : List Held) → AllHeard moment held → AllHeard moment (after_hearings held (map (hearing_at moment word) rrs))
+AllHeard-after_hearings moment word [] held heard = heard
+AllHeard-after_hearings moment word (rr ∷ rrs) held heard =
+    AllHeard-after_hearings moment word rrs (after_hearing held (hearing_at moment word rr)) (AllHeard-after_hearing (hearing_at moment word rr) held heard)
 
 -- the records of a packet, one after another
 pub Holds-after_hearings : (moment word : ℕ) (rrs : List Rr) (held : List Held) (past : List Hearing) → AllLive moment held → Holds held past moment →
@@ -130,3 +145,9 @@ AllLive-from_holds moment held heard holds =
 pub Stands-from_held : (held : List Held) (heard : List Hearing) (before moment : ℕ) → before ≤ moment → Holds held heard before → Stands held heard moment
 Stands-from_held held heard before moment h holds =
     Stands-later held heard before moment h (Stands-from_holds before held heard (AllLive-from_holds before held heard holds) holds)
+
+-- what is left of records was heard no later
+pub AllHeard-taken : (moment : ℕ) (held rest : List Held) (one : Held) → IsPermutation held (one ∷ rest) → AllHeard moment held → AllHeard moment rest
+AllHeard-taken moment held rest one p heard =
+    let WasHeard : Held → Type 0 = λ other. other.heard ≤ moment in
+    (recursion_from_All WasHeard (one ∷ rest) (All-permutation WasHeard held (one ∷ rest) p (All-from_recursion WasHeard held heard))).1

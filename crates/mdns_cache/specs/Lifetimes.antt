@@ -32,6 +32,10 @@ Stands held heard moment = Holds (filter (is_live_at moment) held) heard moment
 abbrev pub AllLive : ℕ → List Held → Type 0
 AllLive moment held = AllByRecursion (λ (one : Held). moment < one.end) held
 
+-- nothing that is held was heard later
+abbrev pub AllHeard : ℕ → List Held → Type 0
+AllHeard moment held = AllByRecursion (λ (one : Held). one.heard ≤ moment) held
+
 -- the order in which records are taken out: by end, then by record
 abbrev pub ending_cmp : Held → Held → Ordering
 ending_cmp left right = ordering_then (nat_cmp left.end right.end) (record_cmp left.rr right.rr)

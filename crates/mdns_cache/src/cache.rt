@@ -4,7 +4,7 @@ ghost use Rattle.std.specs.Option.{option_copied};
 ghost use Rattle.std.specs.List.Sorted.{IsPermutation};
 ghost use Rattle.mdns_history.specs.Hearings.{Hearing};
 ghost use Rattle.mdns_history.specs.Lifetimes.{live_of};
-ghost use Rattle.mdns_cache.specs.Lifetimes.{hearing_at, hearings_at, after_hearings, Holds, Stands, AllLive, IsFirstEnded, held_of, next_end_of};
+ghost use Rattle.mdns_cache.specs.Lifetimes.{hearing_at, hearings_at, after_hearings, Holds, Stands, AllLive, AllHeard, IsFirstEnded, held_of, next_end_of};
 
 use crate::count::{count_left, count_renewed};
 use crate::hear::hear_all;
@@ -114,6 +114,7 @@ impl Cache {
         ensures holds { OnOk result ((past : List Hearing) → Holds self.old.held past now
             → Holds self.new.held (hearings_at now word heard ++ past) now) }
         ensures live { OnOk result (AllLive now self.new.held) }
+        ensures heard { OnOk result (AllHeard now self.old.held → AllHeard now self.new.held) }
         ensures within { OnOk result (length self.new.held ≤ self.new.limit) }
 
         ensures full { (past : List Hearing) → Holds self.old.held past now

@@ -1,45 +1,31 @@
--- The next moment at which something is due is the least end of the live records.
-use Rattle.std.proofs.Common.{◌≡◌, ℕ, ◌<◌, min, Bool, true, false, cond, not, ◌&&◌, ◌||◌, List, [], ◌∷◌, map, None, IfSome, refl, ap, ◌∙◌, sym, subst, arith}
+-- The next moment at which something is due: the first, from now on, at which a held record ends or a question is due.
+use Rattle.std.proofs.Common.{◌≡◌, ℕ, ◌<◌, ◌≤◌, max, Bool, true, false, not, ◌&&◌, ◌||◌, List, [], ◌∷◌, ◌++◌, map, None, refl, ap, ◌∙◌, sym, subst, arith}
 use Rattle.std.proofs.lemmas.List.Sorted.{list_any-IsPermutation}
 use Rattle.std.specs.Prelude.{filter, nat_lt}
 use Rattle.std.specs.List.{list_any, list_all}
 use Rattle.std.specs.List.Sorted.{IsPermutation}
+use Rattle.std.specs.Option.{option_map}
 use Rattle.dns_name.specs.Lists.{least, least_of}
 use Rattle.mdns_history.specs.declared.held.Held.{Held}
 use Rattle.mdns_history.specs.declared.entry.Entry.{Entry}
 use Rattle.mdns_history.specs.History.{now}
-use Rattle.mdns_core.specs.InForce.{in_force}
 use Rattle.mdns_history.specs.Hearings.{hearings}
-use Rattle.mdns_history.specs.Lifetimes.{is_live_at, held_from, renewals, live_of, live_records}
+use Rattle.mdns_history.specs.Lifetimes.{is_live_at, live_records}
 use Rattle.mdns_history.specs.Groups.{host_of}
+use Rattle.mdns_history.specs.Asking.{tick_askings}
 use Rattle.mdns_history.specs.Fitting.{IsLegal}
-use Rattle.mdns_history.specs.Due.{ends_none, NextDue}
-use Rattle.mdns_cache.specs.Lifetimes.{AllLive, next_end_of}
+use Rattle.mdns_history.specs.Due.{is_nothing, is_idle, NextDue}
+use Rattle.mdns_history.proofs.LifetimeSteps.{live_of-later}
+use Rattle.mdns_cache.proofs.ListLemmas.{IsPermutation-filter}
+use Rattle.mdns_question.specs.declared.tracked.Tracked.{Tracked}
+use Rattle.mdns_question.specs.Tracking.{due_at}
+use Rattle.mdns_question.specs.Next.{next_of}
+use Rattle.mdns_question.specs.Standing as asking
+use Rattle.mdns_question.proofs.Following.{due_follows}
+use Rattle.mdns_core.specs.InForce.{in_force}
+use Rattle.mdns_core.specs.State.{asker_of}
 use Rattle.mdns_core.proofs.Ticks.{is_idle-tick}
-
--- all records live on where the least end is later
-all_least : (t n : ℕ) (hs : List Held) → (nat_lt t n && list_all (is_live_at t) hs) ≡ nat_lt t (least_of n (map (λ held. held.end) hs))
-all_least t n [] = and_true (nat_lt t n)
-  where
-    and_true : (b : Bool) → (b && true) ≡ b
-    and_true true = refl
-    and_true false = refl
-all_least t n (h ∷ hs) =
-    swap (nat_lt t n) (nat_lt t h.end) (list_all (is_live_at t) hs)
-    ∙ ap (λ b. nat_lt t h.end && b) (all_least t n hs)
-    ∙ both (nat_lt t h.end) refl (nat_lt t (least_of n (map (λ held. held.end) hs))) refl
-  where
-    swap : (a b c : Bool) → (a && (b && c)) ≡ (b && (a && c))
-    swap true true c = refl
-    swap true false c = refl
-    swap false true c = refl
-    swap false false c = refl
-
-    both : (a : Bool) → nat_lt t h.end ≡ a → (b : Bool) → nat_lt t (least_of n (map (λ held. held.end) hs)) ≡ b →
-        (a && b) ≡ nat_lt t (min h.end (least_of n (map (λ held. held.end) hs)))
-    both true e true f = grind arith
-    both true e false f = grind arith
-    both false e b f = grind arith
+use Rattle.mdns_core.proofs.Waiting.{below_least, quiet_before}
 
 all_any : {X : Type 0} (p : X → Bool) (hs : List X) → list_all p hs ≡ not (list_any (λ h. not (p h)) hs)
 all_any p [] = refl
@@ -52,48 +38,47 @@ all_any p (h ∷ hs) = of (p h) (all_any p hs)
 pub list_all-IsPermutation : {X : Type 0} (p : X → Bool) (xs ys : List X) → IsPermutation xs ys → list_all p xs ≡ list_all p ys
 list_all-IsPermutation p xs ys moved = all_any p xs ∙ ap not (list_any-IsPermutation (λ h. not (p h)) xs ys moved) ∙ sym (all_any p ys)
 
-all_filtered : (p : Held → Bool) (hs : List Held) → list_all p (filter p hs) ≡ true
-all_filtered p [] = refl
-all_filtered p (h ∷ hs) = of (p h) refl (all_filtered p hs)
-  where
-    of : (b : Bool) → p h ≡ b → list_all p (filter p hs) ≡ true → list_all p (cond b (h ∷ filter p hs) (filter p hs)) ≡ true
-    of true e rest = ap (λ b. b && list_all p (filter p hs)) e ∙ rest
-    of false e rest = rest
+is_nothing-map : {X Y : Type 0} (f : X → Y) (xs : List X) → is_nothing (map f xs) ≡ is_nothing xs
+is_nothing-map f [] = refl
+is_nothing-map f (x ∷ xs) = refl
 
-ends_none-now : (past : List Entry) → ends_none past (now past) ≡ true
-unfolding live_records live_of
-ends_none-now past = all_filtered (is_live_at (now past)) (map (held_from (hearings past)) (renewals (hearings past)))
-
--- The least end of the live records, in any order, is the next moment that is due, and none is where there is no record.
-pub least_end-due : (past : List Entry) → IsLegal in_force past → host_of past ≡ None → (held : List Held) → IsPermutation held (live_records past (now past)) →
-    NextDue in_force past (least (map (λ h. h.end) held))
-least_end-due past legal hostless [] moved =
-    λ moment later. is_idle-tick past moment legal hostless later ∙ sym (list_all-IsPermutation (is_live_at moment) [] (live_records past (now past)) moved)
-least_end-due past legal hostless (h ∷ hs) moved =
+-- Where a tick is idle exactly below each of several numbers, the next moment that is due is the least of them, or now where that is past.
+least-due : (past : List Entry) (ns : List ℕ) → ((t : ℕ) → now past ≤ t → is_idle in_force past t ≡ list_all (nat_lt t) ns) → NextDue in_force past (option_map (max (now past)) (least ns))
+least-due past [] idle = idle
+least-due past (n ∷ ns) idle =
     record {
-      from_now = (let above : nat_lt (now past) m ≡ true = sym (ends (now past)) ∙ ends_none-now past in grind arith);
-      busy = is_idle-tick past m legal hostless (let above : nat_lt (now past) m ≡ true = sym (ends (now past)) ∙ ends_none-now past in grind arith) ∙ ends m ∙ (let itself : nat_lt m m ≡ false = grind arith in itself);
-      first = λ earlier later before. is_idle-tick past earlier legal hostless later ∙ ends earlier ∙ (let under : nat_lt earlier m ≡ true = grind arith in under);
+      from_now = omega arith;
+      busy = idle_below (max (now past) m) (omega arith) ∙ (let reached : nat_lt (max (now past) m) m ≡ false = grind arith in reached);
+      first = λ earlier later before. idle_below earlier later ∙ (let below : earlier < m = omega arith in let under : nat_lt earlier m ≡ true = grind arith in under);
     }
   where
     m : ℕ
-    m = least_of h.end (map (λ held. held.end) hs)
+    m = least_of n ns
 
-    ends : (t : ℕ) → ends_none past t ≡ nat_lt t m
-    ends t = sym (list_all-IsPermutation (is_live_at t) (h ∷ hs) (live_records past (now past)) moved) ∙ all_least t h.end hs
+    idle_below : (t : ℕ) → now past ≤ t → is_idle in_force past t ≡ nat_lt t m
+    idle_below t later = idle t later ∙ below_least t n ns
 
-least_of-later : (t n : ℕ) (held : List Held) → t < n → AllLive t held → t < least_of n (map (λ h. h.end) held)
-least_of-later t n [] later live = later
-least_of-later t n (h ∷ held) later live =
-    let first : t < h.end = live.0 in
-    let others : t < least_of n (map (λ one. one.end) held) = least_of-later t n held later live.1 in
-    grind arith
+module _ (past : List Entry) (legal : IsLegal in_force past) (hostless : host_of past ≡ None) (questions : List Tracked) (held : List Held)
+    (stands : asking.Stands (asker_of questions held) past) (records : IsPermutation held (live_records past (now past))) where
+  live_later : (moment : ℕ) → now past ≤ moment → IsPermutation (filter (is_live_at moment) held) (live_records past moment)
+  unfolding live_records
+  live_later moment later =
+      subst (λ (live : List Held). IsPermutation (filter (is_live_at moment) held) live) (sym (live_of-later (hearings past) (now past) moment later))
+      (IsPermutation-filter (is_live_at moment) held (live_records past (now past)) records)
 
--- Where every held record ends after a moment, the least end is after it.
-pub least_end-later : (t : ℕ) (held : List Held) → AllLive t held → IfSome (next_end_of held) (λ due. t < due)
-least_end-later t [] live = tt
-least_end-later t (h ∷ held) live = least_of-later t h.end held live.0 live.1
+  asks_none : (moment : ℕ) → now past ≤ moment → is_nothing (tick_askings past moment) ≡ is_nothing (due_at (asker_of questions held) moment)
+  asks_none moment later =
+      ap is_nothing (sym (due_follows (asker_of questions held) past moment stands (live_later moment later)))
+      ∙ is_nothing-map asking.mark_of (due_at (asker_of questions held) moment)
 
--- nothing that is held has ended where nothing is held
-pub all_live-none : (t : ℕ) (held : List Held) → held ≡ [] → AllLive t held
-all_live-none t held none = subst (λ (l : List Held). AllLive t l) (sym none) tt
+  -- A tick is idle where no held record has ended and no question is due.
+  pub is_idle-held : (moment : ℕ) → now past ≤ moment → is_idle in_force past moment ≡ (list_all (is_live_at moment) held && is_nothing (due_at (asker_of questions held) moment))
+  is_idle-held moment later =
+      is_idle-tick past moment legal hostless later
+      ∙ ap (λ b. b && is_nothing (tick_askings past moment)) (sym (list_all-IsPermutation (is_live_at moment) held (live_records past (now past)) records))
+      ∙ ap (λ b. list_all (is_live_at moment) held && b) (asks_none moment later)
+
+  -- The next moment that is due is the least of the ends of the held records and the first moments of the questions, or now where that is past.
+  pub due-held : NextDue in_force past (option_map (max (now past)) (least (map (λ one. one.end) held ++ map (next_of held) questions)))
+  due-held =
+      least-due past (map (λ one. one.end) held ++ map (next_of held) questions) (λ t later. is_idle-held t later ∙ quiet_before questions held t)

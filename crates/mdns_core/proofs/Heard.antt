@@ -1,8 +1,9 @@
 -- What an entry adds to the hearings, and that no more records are live than there is room for.
-use Rattle.std.proofs.Common.{◌≡◌, ℕ, ◌≤◌, Bool, true, false, cond, List, [], ◌∷◌, ◌++◌, map, length, Some, None, Result, Ok, Err, refl, ap, subst, ◌∙◌, sym, arith, suc, append-nil}
+use Rattle.std.proofs.Common.{◌≡◌, ℕ, ◌≤◌, Bool, true, false, cond, List, [], ◌∷◌, ◌++◌, map, length, Some, None, Result, Ok, Err, refl, ap, subst, ◌∙◌, sym, arith, suc, ◌||◌, append_assoc}
 use Rattle.std.specs.Prelude.{reverse, filter, nat_lt}
 use Rattle.std.specs.List.{list_any}
 use Rattle.std.specs.Option.{option_map_or}
+use Rattle.std.proofs.lemmas.List.Folds.{list_any-append}
 use Rattle.dns_message.specs.declared.message.Message.{Message}
 use Rattle.dns_message.specs.declared.message.MessageError.{MessageError}
 use Rattle.mdns_base.specs.declared.host.Host.{Host}
@@ -21,7 +22,8 @@ use Rattle.mdns_history.specs.Items.{cut_marks, served_sessions, would_pass}
 use Rattle.mdns_history.specs.Fitting.{refusal_marks, with_outcome, boot_entry, IsLegalFrom, IsLegal}
 use Rattle.mdns_history.proofs.LifetimeSteps.{live_of-later}
 use Rattle.mdns_core.specs.Changes.{admitted_records}
-use Rattle.mdns_core.proofs.Stage.{bare, marked, cutting, giving, entry_after, entry_is}
+use Rattle.mdns_core.proofs.Stage.{bare, duty_marks, marked, cutting, giving, entry_after, entry_is}
+use Rattle.mdns_core.proofs.Duties.{duties_refuse_none}
 
 -- the marks of cut sessions refuse nothing
 cuts_refuse_none : (ns : List ℕ) → list_any is_refusal (map (λ n. mark.Cut n) ns) ≡ false
@@ -34,23 +36,23 @@ nothing true false = refl
 nothing false true = refl
 nothing false false = refl
 
--- the records that count, behind the marks of a refusal and of cut sessions
-counted_marked : (entry : Entry) (past : List Entry) (ev : Event) (ns : List ℕ) →
-    counted_records (cond (list_any is_refusal (refusal_marks entry past ev ++ map (λ n. mark.Cut n) ns)) None (brought ev)) ≡ admitted_records entry past ev
-counted_marked entry past (event.Boot config) ns = nothing (list_any is_refusal (map (λ n. mark.Cut n) ns)) (is_too_full entry past)
-counted_marked entry past event.Attach ns = nothing (list_any is_refusal (map (λ n. mark.Cut n) ns)) (is_too_full entry past)
-counted_marked entry past (event.Detach session) ns = nothing (list_any is_refusal (map (λ n. mark.Cut n) ns)) (is_too_full entry past)
-counted_marked entry past (event.Call session op request) ns = nothing (list_any is_refusal (map (λ n. mark.Cut n) ns)) (is_too_full entry past)
-counted_marked entry past (event.Hear from bytes) ns = of (is_too_full entry past) (spelled bytes)
+-- the records that count, behind the marks of a refusal and others that refuse nothing
+counted_marked : (entry : Entry) (past : List Entry) (ev : Event) (more : List Mark) → list_any is_refusal more ≡ false →
+    counted_records (cond (list_any is_refusal (refusal_marks entry past ev ++ more)) None (brought ev)) ≡ admitted_records entry past ev
+counted_marked entry past (event.Boot config) more none = nothing (list_any is_refusal more) (is_too_full entry past)
+counted_marked entry past event.Attach more none = nothing (list_any is_refusal more) (is_too_full entry past)
+counted_marked entry past (event.Detach session) more none = nothing (list_any is_refusal more) (is_too_full entry past)
+counted_marked entry past (event.Call session op request) more none = nothing (list_any is_refusal more) (is_too_full entry past)
+counted_marked entry past (event.Hear from bytes) more none = of (is_too_full entry past) (spelled bytes)
   where
     of : (b : Bool) (r : Result Message MessageError) →
-        counted_records (cond (list_any is_refusal (cond b (mark.Full ∷ []) (option_map_or (λ number. mark.Bad number ∷ []) (fault_of r) []) ++ map (λ n. mark.Cut n) ns)) None (counted from r))
+        counted_records (cond (list_any is_refusal (cond b (mark.Full ∷ []) (option_map_or (λ number. mark.Bad number ∷ []) (fault_of r) []) ++ more)) None (counted from r))
         ≡ cond b [] (counted_records (counted from r))
     of true r = refl
-    of false (Ok message) = ap (λ c. counted_records (cond c None (counted from (Ok message)))) (cuts_refuse_none ns)
+    of false (Ok message) = ap (λ c. counted_records (cond c None (counted from (Ok message)))) none
     of false (Err e) = refl
-counted_marked entry past event.Tick ns = nothing (list_any is_refusal (map (λ n. mark.Cut n) ns)) (is_too_full entry past)
-counted_marked entry past (event.Take session max) ns = nothing (list_any is_refusal (map (λ n. mark.Cut n) ns)) (is_too_full entry past)
+counted_marked entry past event.Tick more none = nothing (list_any is_refusal more) (is_too_full entry past)
+counted_marked entry past (event.Take session max) more none = nothing (list_any is_refusal more) (is_too_full entry past)
 
 -- the mark of a packet: for want of room, by its fault, or none
 pub refusal-full : (entry : Entry) (past : List Entry) (from : Host) (bytes : List ℕ) → is_too_full entry past ≡ true → refusal_marks entry past (event.Hear from bytes) ≡ mark.Full ∷ []
@@ -88,17 +90,23 @@ module _ (past : List Entry) (moment word : ℕ) (ev : Event) where
   marked_records : List Mark → List Hearing
   marked_records marks = reverse (map (hearing_of (bare past moment word ev)) (counted_records (cond (list_any is_refusal marks) None (brought ev)))) ++ hearings past
 
+  counted_with : (more : List Mark) → list_any is_refusal more ≡ false → marked_records (refusal_marks (bare past moment word ev) past ev ++ more) ≡ heard_now ++ hearings past
+  unfolding marked_records
+  counted_with more none = ap (λ rs. reverse (map (hearing_of (bare past moment word ev)) rs) ++ hearings past) (counted_marked (bare past moment word ev) past ev more none)
+
   pub hearings-marked : hearings (marked past moment word ev ∷ past) ≡ heard_now ++ hearings past
   unfolding hearings heard_in marked_records
-  hearings-marked =
-      ap marked_records (sym (append-nil (refusal_marks (bare past moment word ev) past ev)))
-      ∙ ap (λ rs. reverse (map (hearing_of (bare past moment word ev)) rs) ++ hearings past) (counted_marked (bare past moment word ev) past ev [])
+  hearings-marked = counted_with (duty_marks past moment word ev) (duties_refuse_none past moment word ev)
 
   pub hearings-cutting : hearings (cutting past moment word ev ∷ past) ≡ heard_now ++ hearings past
-  unfolding hearings heard_in cut_marks
+  unfolding hearings heard_in cut_marks marked_records
   hearings-cutting =
-      ap (λ rs. reverse (map (hearing_of (bare past moment word ev)) rs) ++ hearings past)
-      (counted_marked (bare past moment word ev) past ev (filter (would_pass (marked past moment word ev) past) (served_sessions (marked past moment word ev) past)))
+      let cut_by : List ℕ = filter (would_pass (marked past moment word ev) past) (served_sessions (marked past moment word ev) past) in
+      let duties : List Mark = duty_marks past moment word ev in
+      let cut_marked : List Mark = map (λ n. mark.Cut n) cut_by in
+      ap marked_records (append_assoc (refusal_marks (bare past moment word ev) past ev) duties cut_marked)
+      ∙ counted_with (duties ++ cut_marked)
+      (list_any-append is_refusal duties cut_marked ∙ ap (λ b. b || list_any is_refusal cut_marked) (duties_refuse_none past moment word ev) ∙ cuts_refuse_none cut_by)
 
   outcome_unheard : hearings (with_outcome (giving past moment word ev) past ∷ past) ≡ hearings (cutting past moment word ev ∷ past)
   unfolding hearings heard_in

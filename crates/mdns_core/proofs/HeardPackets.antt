@@ -21,7 +21,8 @@ use Rattle.mdns_history.specs.declared.mark.Mark.{Mark}
 use Rattle.mdns_history.specs.declared.mark.Mark.TheVariants as mark
 use Rattle.mdns_history.specs.Hearings.{Heard, Hearing, is_ignored, counted, counted_records, brought}
 use Rattle.mdns_history.specs.Lifetimes.{live_of}
-use Rattle.mdns_cache.specs.Lifetimes.{Holds, hearings_at}
+use Rattle.mdns_cache.specs.Lifetimes.{Holds, AllHeard, hearings_at}
+use Rattle.mdns_cache.proofs.Hearing.{AllHeard-taken}
 use Rattle.mdns_core.specs.Next.{refusal_of, are_too_many, AreHeard, IsHeard}
 
 -- the records of a packet that count
@@ -172,3 +173,8 @@ ok_always P (Err e) p = tt
 pub fewer : (o : Option Held) (before after : List Held) → is_some o ≡ true → IfSome o (λ one. IsPermutation before (one ∷ after)) → length after + 1 ≡ length before
 fewer None before after some taken = cc
 fewer (Some one) before after some taken = let same = length_permutation before (one ∷ after) taken in omega arith
+
+-- what is left was heard no later
+pub heard-taken : (moment : ℕ) (o : Option Held) (before after : List Held) → is_some o ≡ true → IfSome o (λ one. IsPermutation before (one ∷ after)) → AllHeard moment before → AllHeard moment after
+heard-taken moment None before after some taken heard = cc
+heard-taken moment (Some one) before after some taken heard = AllHeard-taken moment before after one taken heard

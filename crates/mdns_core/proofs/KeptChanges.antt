@@ -17,13 +17,13 @@ use Rattle.mdns_history.specs.Sessions.{Accepted, opened, opened_count, detached
 use Rattle.mdns_history.specs.Groups.{host_of}
 use Rattle.mdns_history.specs.Items.{reply_of, given_to, queue}
 use Rattle.mdns_history.specs.Outcomes.{early_outcome}
-use Rattle.mdns_history.specs.Fitting.{is_boot, refusal_marks, IsLegal}
+use Rattle.mdns_history.specs.Fitting.{is_boot, IsLegal}
 use Rattle.mdns_core.specs.declared.change.SessionChange.{SessionChange}
 use Rattle.mdns_core.specs.State.{session_in, sessions_in}
 use Rattle.mdns_core.specs.Changes.{items_between, passes}
 use Rattle.mdns_core.specs.Settling.{called, change_for, cuts_of, gifts_of}
 use Rattle.mdns_core.proofs.NumberLists.{has, has-filter, filter-same, filter-filter, filter-append, flat_map-same}
-use Rattle.mdns_core.proofs.Stage.{bare, marked, entry_after}
+use Rattle.mdns_core.proofs.Stage.{noted_marks, marked, entry_after}
 use Rattle.mdns_core.proofs.Attached.{holds_legal, opens_alone, opened-number, attached-opened, attached-ended, attached-kept}
 use Rattle.mdns_core.proofs.Hostless.{IsPlain-legal}
 use Rattle.mdns_core.proofs.Plain.{rrs_of}
@@ -192,21 +192,21 @@ module _ (past : List Entry) (moment word : ℕ) (ev : Event) where
         off true = refl
         off false = refl
 
-    -- The marks are that of a refusal, and the cuts of the sessions' changes.
+    -- The marks are that of a refusal, those of the duties, and the cuts of the sessions' changes.
     pub marks-kept : (entry_after past moment word ev).marks
-        ≡ refusal_marks (bare past moment word ev) past ev ++ cuts_of (map (change_for ev early earlier_rrs later_rrs) (sessions_in past))
+        ≡ noted_marks past moment word ev ++ cuts_of (map (change_for ev early earlier_rrs later_rrs) (sessions_in past))
     marks-kept =
         let cutting : ℕ → Bool = λ n. not (is_cut n past) && passes_now past moment word ev n in
         let kept : List ℕ = filter stays (attached_sessions past) in
         marks-next past moment word ev
-        ∙ ap (λ ns. refusal_marks (bare past moment word ev) past ev ++ map (λ n. mark.Cut n) ns) (
+        ∙ ap (λ ns. noted_marks past moment word ev ++ map (λ n. mark.Cut n) ns) (
         ap (filter cutting) attached-is
         ∙ filter-append cutting kept (option_to_list (opened early))
         ∙ ap (λ zs. filter cutting kept ++ zs) (new_uncut (opened early) refl)
         ∙ append-nil (filter cutting kept)
         ∙ filter-filter cutting stays (attached_sessions past)
         ∙ filter-same (λ n. stays n && cutting n) (λ n. (change n).cuts) (attached_sessions past) (λ n h. sym (cuts-kept n h)))
-        ∙ ap (λ ms. refusal_marks (bare past moment word ev) past ev ++ ms) (sym (cuts_of-map (attached_sessions past)))
+        ∙ ap (λ ms. noted_marks past moment word ev ++ ms) (sym (cuts_of-map (attached_sessions past)))
 
     -- what a session is given, by its change
     given_each : (n : ℕ) → has n (attached_sessions past) ≡ true →

@@ -1,6 +1,10 @@
 pub mod OperationPlaces
 pub mod Stage
+pub mod Duties
 pub mod Heard
+pub mod Hears
+pub mod AskedFor
+pub mod AskedAfter
 pub mod NumberLists
 pub mod Attached
 pub mod Hostless
@@ -13,9 +17,12 @@ pub mod Limits
 pub mod Operations
 pub mod After
 pub mod Idle
+pub mod Waiting
 pub mod Ticks
 pub mod Due
+pub mod Ticked
 pub mod Nexts
+pub mod Tracked
 pub mod Asked
 pub mod KeptOutcome
 pub mod KeptChanges
@@ -33,3 +40,7 @@ pub mod Found
 pub mod HeardPackets
 pub mod Carried
 pub mod Among
+pub mod KeyLists
+pub mod KeyUses
+pub mod ActiveKeys
+pub mod Askings

@@ -3,11 +3,11 @@ use Rattle.std.proofs.Common.{◌≡◌, ℕ, ◌==◌, Bool, true, false, cond,
 use Rattle.std.specs.Prelude.{filter, nat_lt}
 use Rattle.std.specs.List.{list_any, list_all, flat_map, filter_map}
 use Rattle.std.specs.Option.{option_map_or}
+use Rattle.std.proofs.lemmas.List.Folds.{list_any-append}
 use Rattle.dns_message.specs.Reading.{spelled, fault_of}
 use Rattle.sd_call.specs.declared.item.Item.{Item}
 use Rattle.mdns_history.specs.declared.event.Event.{Event}
 use Rattle.mdns_history.specs.declared.event.Event.TheVariants as event
-use Rattle.mdns_history.specs.declared.mark.Mark.{Mark}
 use Rattle.mdns_history.specs.declared.mark.Mark.TheVariants as mark
 use Rattle.mdns_history.specs.declared.entry.Entry.{Entry}
 use Rattle.mdns_history.specs.History.{has_mark}
@@ -19,7 +19,8 @@ use Rattle.mdns_history.specs.Fitting.{is_boot, refusal_marks}
 use Rattle.mdns_history.proofs.SessionLists.{filter_map-append, items_for}
 use Rattle.mdns_core.specs.Changes.{passes}
 use Rattle.mdns_core.proofs.NumberLists.{has, has-filter, filter-same, filter-filter, flat_map-same, IsRising, IsRising-filter}
-use Rattle.mdns_core.proofs.Stage.{bare, marked, cutting, entry_after, entry_is}
+use Rattle.mdns_core.proofs.Stage.{sent_by, bare, duty_marks, noted_marks, marked, cutting, entry_after, entry_is}
+use Rattle.mdns_core.proofs.Duties.{duties_cut_none}
 use Rattle.mdns_core.proofs.Attached.{attached_sessions-rising}
 use Rattle.mdns_core.proofs.Hostless.{IsPlain}
 use Rattle.mdns_core.proofs.Brought.{change_items-cutting}
@@ -38,14 +39,6 @@ refusal_cuts_none n entry past (event.Hear from bytes) = of (is_too_full entry p
     of false (Some number) = refl
 refusal_cuts_none n entry past event.Tick = refl
 refusal_cuts_none n entry past (event.Take session max) = refl
-
-any-append : (p : Mark → Bool) (xs ys : List Mark) → list_any p (xs ++ ys) ≡ (list_any p xs || list_any p ys)
-any-append p [] ys = refl
-any-append p (x ∷ xs) ys = of (p x) (any-append p xs ys)
-  where
-    of : (b : Bool) → list_any p (xs ++ ys) ≡ (list_any p xs || list_any p ys) → (b || list_any p (xs ++ ys)) ≡ ((b || list_any p xs) || list_any p ys)
-    of true e = refl
-    of false e = e
 
 any-cuts : (n : ℕ) (ns : List ℕ) → list_any (is_cut_of n) (map (λ m. mark.Cut m) ns) ≡ has n ns
 any-cuts n [] = refl
@@ -87,9 +80,15 @@ module _ (past : List Entry) (moment word : ℕ) (ev : Event) where
   abbrev pub passes_now : ℕ → Bool
   passes_now n = passes (queue n past) (brought_to n)
 
+  noted_cuts_none : (n : ℕ) → list_any (is_cut_of n) (noted_marks past moment word ev) ≡ false
+  noted_cuts_none n =
+      list_any-append (is_cut_of n) (refusal_marks (bare past moment word ev) past ev) (duty_marks past moment word ev)
+      ∙ ap (λ b. b || list_any (is_cut_of n) (duty_marks past moment word ev)) (refusal_cuts_none n (bare past moment word ev) past ev)
+      ∙ duties_cut_none past moment word n ev
+
   is_cut-marked : (n : ℕ) → is_cut n (marked past moment word ev ∷ past) ≡ is_cut n past
   unfolding is_cut
-  is_cut-marked n = ap (λ b. b || list_any (has_mark (is_cut_of n)) past) (refusal_cuts_none n (bare past moment word ev) past ev)
+  is_cut-marked n = ap (λ b. b || list_any (has_mark (is_cut_of n)) past) (noted_cuts_none n)
 
   cut_marks-is : cut_marks (marked past moment word ev) past ≡ map (λ n. mark.Cut n) (filter (λ n. not (is_cut n past) && passes_now n) attached)
   unfolding cut_marks served_sessions
@@ -100,8 +99,8 @@ module _ (past : List Entry) (moment word : ℕ) (ev : Event) where
 
   cut_by : (n : ℕ) → has_mark (is_cut_of n) (cutting past moment word ev) ≡ ((not (is_cut n past) && passes_now n) && has n attached)
   cut_by n =
-      any-append (is_cut_of n) (refusal_marks (bare past moment word ev) past ev) (cut_marks (marked past moment word ev) past)
-      ∙ ap (λ b. b || list_any (is_cut_of n) (cut_marks (marked past moment word ev) past)) (refusal_cuts_none n (bare past moment word ev) past ev)
+      list_any-append (is_cut_of n) (noted_marks past moment word ev) (cut_marks (marked past moment word ev) past)
+      ∙ ap (λ b. b || list_any (is_cut_of n) (cut_marks (marked past moment word ev) past)) (noted_cuts_none n)
       ∙ ap (list_any (is_cut_of n)) cut_marks-is
       ∙ any-cuts n (filter (λ m. not (is_cut m past) && passes_now m) attached)
       ∙ has-filter n (λ m. not (is_cut m past) && passes_now m) attached
@@ -131,12 +130,12 @@ module _ (past : List Entry) (moment word : ℕ) (ev : Event) where
   pub is_cut-attached : (n : ℕ) → has n attached ≡ true → is_cut n (entry_after past moment word ev ∷ past) ≡ (is_cut n past || passes_now n)
   is_cut-attached n h = is_cut-next n ∙ ap (λ b. is_cut n past || (b && passes_now n)) h
 
-  -- The marks are that of a refusal, and those of the sessions that are cut.
-  pub marks-next : (entry_after past moment word ev).marks ≡ refusal_marks (bare past moment word ev) past ev ++ map (λ n. mark.Cut n) (filter (λ n. not (is_cut n past) && passes_now n) attached)
-  marks-next = ap (λ e. e.marks) (entry_is past moment word ev) ∙ ap (λ ms. refusal_marks (bare past moment word ev) past ev ++ ms) cut_marks-is
+  -- The marks are that of a refusal, those of the duties, and those of the sessions that are cut.
+  pub marks-next : (entry_after past moment word ev).marks ≡ noted_marks past moment word ev ++ map (λ n. mark.Cut n) (filter (λ n. not (is_cut n past) && passes_now n) attached)
+  marks-next = ap (λ e. e.marks) (entry_is past moment word ev) ∙ ap (λ ms. noted_marks past moment word ev ++ ms) cut_marks-is
 
-  -- Nothing is sent.
-  pub sent-next : (entry_after past moment word ev).sent ≡ []
+  -- What is sent.
+  pub sent-next : (entry_after past moment word ev).sent ≡ sent_by past moment ev
   sent-next = ap (λ e. e.sent) (entry_is past moment word ev)
 
   module _ (hostless : host_of past ≡ None) (plain : IsPlain past) (no_boot : is_boot ev ≡ false) where

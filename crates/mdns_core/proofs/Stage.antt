@@ -1,5 +1,6 @@
--- The entry that follows a history, by its stages, where no duty is in force: nothing is sent, and the marks are those of refusals and cuts.
-use Rattle.std.proofs.Common.{◌≡◌, ℕ, ◌≤◌, false, List, [], ◌∷◌, refl, ap, ◌∙◌, append-nil}
+-- The entry that follows a history, by its stages: the marks of a refusal and those of questions that are asked, and what is sent; then the marks of cut
+-- sessions, then what is given. Of the duties asking alone is in force.
+use Rattle.std.proofs.Common.{◌≡◌, ℕ, ◌≤◌, false, List, [], ◌∷◌, ◌++◌, refl, ap, ◌∙◌, append-nil}
 use Rattle.dns_message.specs.Packing.{pack_reply}
 use Rattle.mdns_history.specs.declared.event.Event.{Event}
 use Rattle.mdns_history.specs.declared.event.Event.TheVariants as event
@@ -8,28 +9,41 @@ use Rattle.mdns_history.specs.declared.entry.Sent.{Sent}
 use Rattle.mdns_history.specs.declared.entry.Entry.{Entry}
 use Rattle.mdns_history.specs.History.{now}
 use Rattle.mdns_core.specs.InForce.{in_force}
-use Rattle.mdns_history.specs.Sending.{tick_sends}
-use Rattle.mdns_history.specs.Fitting.{bare_entry, refusal_marks, event_sends, noted, with_cuts, with_items, with_outcome, next_entry, last_moment, is_boot, Fits, IsLegal}
+use Rattle.mdns_history.specs.Asking.{tick_askings}
+use Rattle.mdns_history.specs.Sending.{sent_queries, tick_sends}
+use Rattle.mdns_history.specs.Fitting.{bare_entry, refusal_marks, asked_marks, event_sends, noted, with_cuts, with_items, with_outcome, next_entry, last_moment, is_boot, Fits, IsLegal}
 use Rattle.mdns_history.proofs.Determined.{next_entry-fits}
 
--- nothing is sent
-unsent : (entry : Entry) (past : List Entry) (ev : Event) → event_sends in_force entry past ev ≡ []
+-- what an event sends: a tick the queries of the questions that it asks
+abbrev pub sent_by : List Entry → ℕ → Event → List Sent
+sent_by past moment event.Tick = sent_queries (tick_askings past moment) past moment
+sent_by past moment _ = []
+
+sends_are : (entry : Entry) (past : List Entry) (ev : Event) → event_sends in_force entry past ev ≡ sent_by past entry.moment ev
 unfolding in_force tick_sends pack_reply
-unsent entry past (event.Boot config) = refl
-unsent entry past event.Attach = refl
-unsent entry past (event.Detach session) = refl
-unsent entry past (event.Call session op request) = refl
-unsent entry past (event.Hear from bytes) = refl
-unsent entry past event.Tick = refl
-unsent entry past (event.Take session max) = refl
+sends_are entry past (event.Boot config) = refl
+sends_are entry past event.Attach = refl
+sends_are entry past (event.Detach session) = refl
+sends_are entry past (event.Call session op request) = refl
+sends_are entry past (event.Hear from bytes) = refl
+sends_are entry past event.Tick = append-nil (sent_queries (tick_askings past entry.moment) past entry.moment)
+sends_are entry past (event.Take session max) = refl
 
 module _ (past : List Entry) (moment word : ℕ) (ev : Event) where
   abbrev pub bare : Entry
   bare = bare_entry moment word ev past
 
-  -- the entry with the mark of a refusal
+  -- the marks of the daemon's duties: those of the questions that the event asks
+  abbrev pub duty_marks : List Mark
+  duty_marks = asked_marks bare past ev
+
+  -- the marks of a refusal and of the duties
+  abbrev pub noted_marks : List Mark
+  noted_marks = refusal_marks bare past ev ++ duty_marks
+
+  -- the entry with these marks and what it sends
   abbrev pub marked : Entry
-  marked = record bare { marks = refusal_marks bare past ev }
+  marked = record bare { marks = noted_marks; sent = sent_by past moment ev }
 
   -- the same with the marks of the sessions that are cut
   abbrev pub cutting : Entry
@@ -46,8 +60,8 @@ module _ (past : List Entry) (moment word : ℕ) (ev : Event) where
   noted_is : noted in_force bare past ≡ marked
   unfolding in_force
   noted_is =
-      ap (λ (m : List Mark). let e : Entry = record bare { marks = m; sent = event_sends in_force bare past ev } in e) (append-nil (refusal_marks bare past ev))
-      ∙ ap (λ (s : List Sent). let e : Entry = record bare { marks = refusal_marks bare past ev; sent = s } in e) (unsent bare past ev)
+      ap (λ (m : List Mark). let e : Entry = record bare { marks = refusal_marks bare past ev ++ m; sent = event_sends in_force bare past ev } in e) (append-nil duty_marks)
+      ∙ ap (λ (s : List Sent). let e : Entry = record bare { marks = noted_marks; sent = s } in e) (sends_are bare past ev)
 
   -- the entry, by its stages
   pub entry_is : entry_after ≡ with_outcome giving past

@@ -1,34 +1,41 @@
 -- What is kept makes the entry that fits, and stands for the history with it.
-use Rattle.std.proofs.Common.{◌≡◌, ℕ, ◌≤◌, Bool, true, false, cond, List, [], ◌∷◌, ◌++◌, map, reverse, Option, Some, None, refl, ap, subst, ◌∙◌, sym}
+use Rattle.std.proofs.Common.{◌≡◌, ℕ, ◌≤◌, true, false, List, [], ◌∷◌, ◌++◌, map, Option, Some, None, refl, ap, subst, ◌∙◌, sym}
 use Rattle.std.proofs.lemmas.List.Sorted.{IsPermutation-map}
 use Rattle.std.specs.List.Sorted.{IsPermutation}
 use Rattle.std.specs.Option.{unwrap_or}
 use Rattle.sd_answer.specs.Laws.{have_data}
+use Rattle.dns_record.specs.declared.record.Key.{Key}
 use Rattle.mdns_history.specs.declared.event.Event.{Event}
 use Rattle.mdns_history.specs.declared.event.Event.TheVariants as event
 use Rattle.mdns_history.specs.declared.held.Held.{Held}
 use Rattle.mdns_history.specs.declared.mark.Mark.{Mark}
+use Rattle.mdns_history.specs.declared.mark.Cause.{Cause}
 use Rattle.mdns_history.specs.declared.entry.Given.{Given}
 use Rattle.mdns_history.specs.declared.entry.Sent.{Sent}
 use Rattle.mdns_history.specs.declared.entry.Outcome.{Outcome}
 use Rattle.mdns_history.specs.declared.entry.Entry.{Entry}
 use Rattle.mdns_history.specs.History.{now}
 use Rattle.mdns_core.specs.InForce.{in_force}
-use Rattle.mdns_history.specs.Hearings.{hearings, hearing_of, brought, counted_records}
-use Rattle.mdns_history.specs.Lifetimes.{is_too_full, live_of, live_records}
+use Rattle.mdns_history.specs.Hearings.{hearings}
+use Rattle.mdns_history.specs.Lifetimes.{live_records}
 use Rattle.mdns_history.specs.Sessions.{opened, opened_count}
 use Rattle.mdns_history.specs.Groups.{host_of}
 use Rattle.mdns_history.specs.Outcomes.{early_outcome}
 use Rattle.mdns_history.specs.Fitting.{is_boot, last_moment, refusal_marks, Fits, IsLegal}
 use Rattle.mdns_history.proofs.Determined.{next_entry-fits}
-use Rattle.mdns_cache.specs.Lifetimes.{hearings_at}
+use Rattle.mdns_question.specs.declared.tracked.Tracked.{Tracked}
+use Rattle.mdns_question.specs.Standing as asking
+use Rattle.mdns_question.specs.Standing.{mark_of}
 use Rattle.mdns_core.specs.declared.change.SessionChange.{SessionChange}
-use Rattle.mdns_core.specs.State.{Session, State, Stands, sessions_in}
+use Rattle.mdns_core.specs.State.{Session, State, Stands, asker_of, sessions_in}
+use Rattle.mdns_core.specs.Asked.{asked_for, sent_for, questions_after}
 use Rattle.mdns_core.specs.Codes.{kept_outcome}
 use Rattle.mdns_core.specs.Settling.{change_for, cuts_of, gifts_of, all_settled, remaining, with_opened}
-use Rattle.mdns_core.specs.Next.{rrs_of, changes_for, sessions_then, outcome_then, sessions_after, entry_for, state_after, refusal_of, is_full, heard_with, IsHeard}
-use Rattle.mdns_core.proofs.Stage.{bare, marked, entry_after, entry_is, IsLegal-next}
-use Rattle.mdns_core.proofs.Heard.{heard_now, hearings-marked, hearings-next, is_too_full-is}
+use Rattle.mdns_core.specs.Next.{rrs_of, changes_for, sessions_then, outcome_then, sessions_after, entry_for, state_after, IsHeard}
+use Rattle.mdns_core.proofs.Stage.{sent_by, bare, duty_marks, marked, entry_after, entry_is, IsLegal-next}
+use Rattle.mdns_core.proofs.Hears.{refusal-is, records-is, records-marked}
+use Rattle.mdns_core.proofs.AskedFor.{marks-asked, sends-asked}
+use Rattle.mdns_core.proofs.AskedAfter.{asking-next}
 use Rattle.mdns_core.proofs.Attached.{opened_count-next, opened_count-opened, opened_count-kept}
 use Rattle.mdns_core.proofs.Hostless.{IsPlain-legal}
 use Rattle.mdns_core.proofs.Plain.{host_of-next}
@@ -44,8 +51,8 @@ use Rattle.mdns_core.proofs.Taken.{taken-outcome, taken-sessions}
 abbrev entry_of : ℕ → ℕ → Event → List Mark → List Sent → List Given → Outcome → Entry
 entry_of moment word ev marks sent given outcome = record { moment = moment; word = word; event = ev; marks = marks; sent = sent; given = given; outcome = outcome }
 
-abbrev kept_state : ℕ → ℕ → List Session → List Held → State
-kept_state last opened sessions held = record { last = last; opened = opened; sessions = sessions; held = held }
+abbrev kept_state : ℕ → ℕ → List Session → List Held → List Tracked → State
+kept_state last count sessions held questions = record { last = last; opened = count; sessions = sessions; held = held; questions = questions }
 
 module _ (history : List Entry) (moment word : ℕ) (ev : Event) where
   abbrev early : Outcome
@@ -57,40 +64,8 @@ module _ (history : List Entry) (moment word : ℕ) (ev : Event) where
   abbrev then_sessions : Outcome → List SessionChange → List Session
   then_sessions o cs = with_opened (opened o) (remaining ev o (all_settled (sessions_in history) cs))
 
-  abbrev entry_with : Outcome → List SessionChange → List Mark → Entry
-  entry_with o cs refusal = entry_of moment word ev (refusal ++ cuts_of cs) [] (gifts_of cs) (outcome_then ev o (then_sessions o cs))
-
-  full-is : is_full moment word ev (hearings history) ≡ is_too_full (bare history moment word ev) history
-  full-is = sym (is_too_full-is history moment word ev)
-
-  heard-is : heard_with moment word ev (hearings history) ≡ heard_now history moment word ev ++ hearings history
-  heard-is =
-      ap (λ b. cond b (hearings history) (hearings_at moment word (counted_records (brought ev)) ++ hearings history)) full-is
-      ∙ of (is_too_full (bare history moment word ev) history)
-    where
-      of : (b : Bool) → cond b (hearings history) (hearings_at moment word (counted_records (brought ev)) ++ hearings history)
-          ≡ reverse (map (hearing_of (bare history moment word ev)) (cond b [] (counted_records (brought ev)))) ++ hearings history
-      of true = refl
-      of false = refl
-
-  refusal-is : refusal_of (is_full moment word ev (hearings history)) ev ≡ refusal_marks (bare history moment word ev) history ev
-  refusal-is = ap (λ b. refusal_of b ev) full-is ∙ of ev (is_too_full (bare history moment word ev) history) refl
-    where
-      of : (e : Event) (b : Bool) → is_too_full (bare history moment word ev) history ≡ b → refusal_of b e ≡ refusal_marks (bare history moment word ev) history e
-      of (event.Boot config) true h = refl
-      of (event.Boot config) false h = refl
-      of event.Attach true h = refl
-      of event.Attach false h = refl
-      of (event.Detach session) true h = refl
-      of (event.Detach session) false h = refl
-      of (event.Call session op request) true h = refl
-      of (event.Call session op request) false h = refl
-      of (event.Hear from bytes) true h = rw h refl
-      of (event.Hear from bytes) false h = rw h refl
-      of event.Tick true h = refl
-      of event.Tick false h = refl
-      of (event.Take session max) true h = refl
-      of (event.Take session max) false h = refl
+  abbrev entry_with : Outcome → List SessionChange → List Mark → List Mark → List Sent → Entry
+  entry_with o cs refusal asked sent = entry_of moment word ev (refusal ++ asked ++ cuts_of cs) sent (gifts_of cs) (outcome_then ev o (then_sessions o cs))
 
   module _ (legal : IsLegal in_force history) (hostless : host_of history ≡ None) (no_boot : is_boot ev ≡ false) where
     outcome-is : (entry_after history moment word ev).outcome ≡ outcome_then ev early (then_sessions early changes)
@@ -106,17 +81,18 @@ module _ (history : List Entry) (moment word : ℕ) (ev : Event) where
         of event.Tick h = outcome-early history moment word event.Tick refl
         of (event.Take session max) h = taken-outcome history moment word session max legal hostless
 
-    -- what is kept makes the entry that follows
-    entry-is : entry_after history moment word ev ≡ entry_with early changes (refusal_marks (bare history moment word ev) history ev)
+    -- what is kept makes the entry that follows, with the marks and messages of the duties
+    entry-is : entry_after history moment word ev ≡ entry_with early changes (refusal_marks (bare history moment word ev) history ev) (duty_marks history moment word ev) (sent_by history moment ev)
     entry-is =
         let e : Entry = entry_after history moment word ev in
+        let ms : List Mark = refusal_marks (bare history moment word ev) history ev ++ duty_marks history moment word ev ++ cuts_of changes in
         ap (λ m. entry_of m e.word e.event e.marks e.sent e.given e.outcome) (ap (λ x. x.moment) (entry_is history moment word ev))
         ∙ ap (λ w. entry_of moment w e.event e.marks e.sent e.given e.outcome) (ap (λ x. x.word) (entry_is history moment word ev))
         ∙ ap (λ v. entry_of moment word v e.marks e.sent e.given e.outcome) (ap (λ x. x.event) (entry_is history moment word ev))
-        ∙ ap (λ ms. entry_of moment word ev ms e.sent e.given e.outcome) (marks-kept history moment word ev legal hostless no_boot)
-        ∙ ap (λ ss. entry_of moment word ev (refusal_marks (bare history moment word ev) history ev ++ cuts_of changes) ss e.given e.outcome) (sent-next history moment word ev)
-        ∙ ap (λ gs. entry_of moment word ev (refusal_marks (bare history moment word ev) history ev ++ cuts_of changes) [] gs e.outcome) (given-kept history moment word ev legal hostless no_boot)
-        ∙ ap (λ o. entry_of moment word ev (refusal_marks (bare history moment word ev) history ev ++ cuts_of changes) [] (gifts_of changes) o) outcome-is
+        ∙ ap (λ marks. entry_of moment word ev marks e.sent e.given e.outcome) (marks-kept history moment word ev legal hostless no_boot)
+        ∙ ap (λ ss. entry_of moment word ev ms ss e.given e.outcome) (sent-next history moment word ev)
+        ∙ ap (λ gs. entry_of moment word ev ms (sent_by history moment ev) gs e.outcome) (given-kept history moment word ev legal hostless no_boot)
+        ∙ ap (λ o. entry_of moment word ev ms (sent_by history moment ev) (gifts_of changes) o) outcome-is
 
     opened-is : opened_count (entry_after history moment word ev ∷ history) ≡ unwrap_or (opened early) (opened_count history)
     opened-is = opened_count-next history moment word ev ∙ of (opened early) refl
@@ -138,27 +114,22 @@ module _ (history : List Entry) (moment word : ℕ) (ev : Event) where
         of event.Tick h = sessions-untaken history moment word event.Tick legal hostless refl refl
         of (event.Take session max) h = taken-sessions history moment word session max legal hostless
 
-    records-is : live_of (heard_with moment word ev (hearings history)) moment ≡ live_records (entry_after history moment word ev ∷ history) moment
-    unfolding live_records
-    records-is = ap (λ hs. live_of hs moment) (heard-is ∙ sym (hearings-next history moment word ev))
-
-    records-marked : live_of (heard_with moment word ev (hearings history)) moment ≡ live_records (marked history moment word ev ∷ history) moment
-    unfolding live_records
-    records-marked = ap (λ hs. live_of hs moment) (heard-is ∙ sym (hearings-marked history moment word ev))
-
     moment-is : (entry_after history moment word ev).moment ≡ moment
     moment-is = ap (λ x. x.moment) (entry_is history moment word ev)
 
-    module _ (before after : List Held) (refusal : List Mark) (held : IsPermutation before (live_records history (now history))) (heard : IsHeard moment word ev (hearings history) after refusal)
-        (data_before : have_data (rrs_of before) ≡ true) (data_after : have_data (rrs_of after) ≡ true) where
+    module _ (questions : List Tracked) (before after : List Held) (refusal : List Mark) (questions_stand : asking.Stands (asker_of questions before) history) (held : IsPermutation before (live_records history (now history)))
+        (heard : IsHeard moment word ev (hearings history) after refusal) (data_before : have_data (rrs_of before) ≡ true) (data_after : have_data (rrs_of after) ≡ true) where
       abbrev state : State
-      state = record { last = now history; opened = opened_count history; sessions = sessions_in history; held = before }
+      state = kept_state (now history) (opened_count history) (sessions_in history) before questions
+
+      abbrev asked : List (Key × Cause)
+      asked = asked_for questions after moment refusal ev
 
       changes-are : map (change_for ev early (rrs_of before) (rrs_of after)) (sessions_in history) ≡ changes
       changes-are =
           changes-permuted ev early (rrs_of before) (rrs_of after) (earlier_rrs history moment word ev) (later_rrs history moment word ev) data_before data_after
           (IsPermutation-map (λ one. one.rr) before (live_records history (now history)) held)
-          (IsPermutation-map (λ one. one.rr) after (live_records (marked history moment word ev ∷ history) moment) (subst (λ live. IsPermutation after live) records-marked heard.records))
+          (IsPermutation-map (λ one. one.rr) after (live_records (marked history moment word ev ∷ history) moment) (subst (λ live. IsPermutation after live) (records-marked history moment word ev) heard.records))
           (sessions_in history)
 
       kept-early : kept_outcome (opened_count history) (sessions_in history) ev ≡ early
@@ -166,9 +137,14 @@ module _ (history : List Entry) (moment word : ℕ) (ev : Event) where
 
       pub entry_for-is : entry_for state moment word ev refusal after ≡ entry_after history moment word ev
       entry_for-is =
-          ap (λ o. entry_with o (map (change_for ev o (rrs_of before) (rrs_of after)) (sessions_in history)) refusal) kept-early
-          ∙ ap (λ cs. entry_with early cs refusal) changes-are
-          ∙ ap (λ r. entry_with early changes r) (heard.refused ∙ refusal-is)
+          let marks : List Mark = map mark_of asked in
+          let sent : List Sent = sent_for after moment ev asked in
+          let refused : List Mark = refusal_marks (bare history moment word ev) history ev in
+          ap (λ o. entry_with o (map (change_for ev o (rrs_of before) (rrs_of after)) (sessions_in history)) refusal marks sent) kept-early
+          ∙ ap (λ cs. entry_with early cs refusal marks sent) changes-are
+          ∙ ap (λ r. entry_with early changes r marks sent) (heard.refused ∙ refusal-is history moment word ev)
+          ∙ ap (λ ms. entry_with early changes refused ms sent) (marks-asked history moment word questions before after refusal questions_stand ev heard)
+          ∙ ap (λ ss. entry_with early changes refused (duty_marks history moment word ev) ss) (sends-asked history moment word questions before after refusal questions_stand ev heard)
           ∙ sym entry-is
 
       sessions-are : sessions_after ev (sessions_then state ev (changes_for state ev after)) ≡ sessions_in (entry_after history moment word ev ∷ history)
@@ -177,33 +153,41 @@ module _ (history : List Entry) (moment word : ℕ) (ev : Event) where
           ∙ ap (λ cs. sessions_after ev (then_sessions early cs)) changes-are
           ∙ sym sessions-is
 
-      pub stands-after : now history ≤ moment → moment ≤ last_moment → Stands (state_after state moment ev after) (entry_after history moment word ev ∷ history)
+      asking-after : asking.Stands (asker_of (questions_after (sessions_in history) moment word ev (kept_outcome (opened_count history) (sessions_in history) ev) asked questions) after) (entry_after history moment word ev ∷ history)
+      asking-after =
+          subst (λ o. asking.Stands (asker_of (questions_after (sessions_in history) moment word ev o asked questions) after) (entry_after history moment word ev ∷ history)) (sym kept-early)
+          (asking-next history legal moment word ev questions before after refusal questions_stand heard)
+
+      pub stands-after : now history ≤ moment → moment ≤ last_moment → Stands (state_after state moment word ev refusal after) (entry_after history moment word ev ∷ history)
       stands-after later in_time = record {
         legal = IsLegal-next history moment word ev legal later in_time no_boot;
         hostless = host_of-next history moment word ev hostless (IsPlain-legal history legal hostless) no_boot;
         last = sym moment-is;
         opened = ap (λ o. unwrap_or (opened o) (opened_count history)) kept-early ∙ sym opened-is;
         sessions = sessions-are;
-        records = subst (λ m. IsPermutation after (live_records (entry_after history moment word ev ∷ history) m)) (sym moment-is) (subst (λ live. IsPermutation after live) records-is heard.records);
+        asking = asking-after;
+        records = subst (λ m. IsPermutation after (live_records (entry_after history moment word ev ∷ history) m)) (sym moment-is)
+            (subst (λ live. IsPermutation after live) (records-is history moment word ev) heard.records);
         typed = data_after;
       }
 
       pub stepped-from : now history ≤ moment → moment ≤ last_moment →
-          Fits in_force (entry_for state moment word ev refusal after) history × Stands (state_after state moment ev after) (entry_for state moment word ev refusal after ∷ history)
+          Fits in_force (entry_for state moment word ev refusal after) history × Stands (state_after state moment word ev refusal after) (entry_for state moment word ev refusal after ∷ history)
       stepped-from later in_time = (
         subst (λ e. Fits in_force e history) (sym entry_for-is) (next_entry-fits in_force history moment word ev later in_time no_boot),
-        subst (λ e. Stands (state_after state moment ev after) (e ∷ history)) (sym entry_for-is) (stands-after later in_time),
+        subst (λ e. Stands (state_after state moment word ev refusal after) (e ∷ history)) (sym entry_for-is) (stands-after later in_time),
       )
 
 -- What is kept makes the entry that fits each history that it stands for, and what is kept then stands for the history with it.
 pub stepped : (state : State) (history : List Entry) → Stands state history → (moment word : ℕ) (ev : Event) → state.last ≤ moment → moment ≤ last_moment → is_boot ev ≡ false →
     (after : List Held) (refusal : List Mark) → IsHeard moment word ev (hearings history) after refusal → have_data (rrs_of state.held) ≡ true → have_data (rrs_of after) ≡ true →
-    Fits in_force (entry_for state moment word ev refusal after) history × Stands (state_after state moment ev after) (entry_for state moment word ev refusal after ∷ history)
+    Fits in_force (entry_for state moment word ev refusal after) history × Stands (state_after state moment word ev refusal after) (entry_for state moment word ev refusal after ∷ history)
 stepped state history stands moment word ev later in_time no_boot after refusal heard data_before data_after =
-    subst (λ (s : State). Fits in_force (entry_for s moment word ev refusal after) history × Stands (state_after s moment ev after) (entry_for s moment word ev refusal after ∷ history)) (sym same)
-    (stepped-from history moment word ev stands.legal stands.hostless no_boot state.held after refusal stands.records heard data_before data_after (subst (λ k. k ≤ moment) stands.last later) in_time)
+    subst (λ (s : State). Fits in_force (entry_for s moment word ev refusal after) history × Stands (state_after s moment word ev refusal after) (entry_for s moment word ev refusal after ∷ history)) (sym same)
+    (stepped-from history moment word ev stands.legal stands.hostless no_boot state.questions state.held after refusal stands.asking stands.records heard data_before data_after
+    (subst (λ k. k ≤ moment) stands.last later) in_time)
   where
-    same : state ≡ record { last = now history; opened = opened_count history; sessions = sessions_in history; held = state.held }
-    same = ap (λ l. kept_state l state.opened state.sessions state.held) stands.last
-        ∙ ap (λ o. kept_state (now history) o state.sessions state.held) stands.opened
-        ∙ ap (λ ss. kept_state (now history) (opened_count history) ss state.held) stands.sessions
+    same : state ≡ kept_state (now history) (opened_count history) (sessions_in history) state.held state.questions
+    same = ap (λ l. kept_state l state.opened state.sessions state.held state.questions) stands.last
+        ∙ ap (λ o. kept_state (now history) o state.sessions state.held state.questions) stands.opened
+        ∙ ap (λ ss. kept_state (now history) (opened_count history) ss state.held state.questions) stands.sessions

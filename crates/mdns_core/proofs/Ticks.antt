@@ -1,7 +1,8 @@
--- When a tick does nothing: where no live record has ended by then.
-use Rattle.std.proofs.Common.{◌≡◌, ℕ, ◌≤◌, Bool, true, false, not, ◌&&◌, List, [], ◌∷◌, map, None, refl, ap, ◌∙◌, arith, append-nil}
+-- When a tick does nothing: where no live record has ended by then, and no question is asked.
+use Rattle.std.proofs.Common.{◌≡◌, ℕ, ◌≤◌, Bool, true, false, not, ◌&&◌, List, [], ◌∷◌, ◌++◌, map, None, refl, ap, ◌∙◌, arith, append-nil}
 use Rattle.std.specs.Prelude.{filter, nat_lt}
 use Rattle.std.specs.List.{list_all, flat_map}
+use Rattle.dns_message.specs.Packing.{pack_query}
 use Rattle.sd_call.specs.Answers.{frames_len}
 use Rattle.mdns_history.specs.declared.event.Event.TheVariants as event
 use Rattle.mdns_history.specs.declared.mark.Mark.{Mark}
@@ -16,6 +17,8 @@ use Rattle.mdns_history.specs.declared.operation.Operation.{Operation}
 use Rattle.mdns_history.specs.Sessions.{is_cut, operations_of}
 use Rattle.mdns_history.specs.Groups.{host_of}
 use Rattle.mdns_history.specs.Sureness.{is_sure}
+use Rattle.mdns_history.specs.Asking.{tick_askings}
+use Rattle.mdns_history.specs.Sending.{sent_queries}
 use Rattle.mdns_history.specs.Items.{given_to, queue}
 use Rattle.mdns_history.specs.Outcomes.{early_outcome}
 use Rattle.mdns_history.specs.Fitting.{IsLegal}
@@ -53,6 +56,12 @@ never_quiet marks sent given b = of (is_nothing marks) (is_nothing sent) (is_not
     of true false r s = refl
     of false q r s = refl
 
+-- where no question is asked no query is sent
+quiet_askings : (askings : List Mark) (past : List Entry) (moment : ℕ) → all_quiet askings (sent_queries askings past moment) [] true true ≡ is_nothing askings
+unfolding pack_query
+quiet_askings [] past moment = refl
+quiet_askings (m ∷ ms) past moment = refl
+
 module _ (past : List Entry) (moment word : ℕ) (legal : IsLegal in_force past) (hostless : host_of past ≡ None) (later : now past ≤ moment) where
   plain : IsPlain past
   plain = IsPlain-legal past legal hostless
@@ -73,12 +82,14 @@ module _ (past : List Entry) (moment word : ℕ) (legal : IsLegal in_force past)
       ∙ ap (λ hs. items_between None os os (rrs_of past) (map (λ held. held.rr) hs)) live
       ∙ items_between-same os (rrs_of past) (operations-rising past legal n)
 
-  marks_none : ends_none past moment ≡ true → (entry_after past moment word event.Tick).marks ≡ []
-  marks_none none =
+  -- so its marks are those of the questions that it asks
+  marks_asked : ends_none past moment ≡ true → (entry_after past moment word event.Tick).marks ≡ tick_askings past moment
+  marks_asked none =
       marks-next past moment word event.Tick
-      ∙ ap (map (λ n. mark.Cut n)) (
+      ∙ ap (λ ns. tick_askings past moment ++ map (λ n. mark.Cut n) ns) (
       filter-same (λ n. not (is_cut n past) && passes_now past moment word event.Tick n) (λ n. false) (attached past moment word event.Tick) (λ n h. fits n)
       ∙ filter-never (attached past moment word event.Tick))
+      ∙ append-nil (tick_askings past moment)
     where
       fits : (n : ℕ) → (not (is_cut n past) && passes_now past moment word event.Tick n) ≡ false
       fits n =
@@ -104,22 +115,27 @@ module _ (past : List Entry) (moment word : ℕ) (legal : IsLegal in_force past)
 
   quiet_where : (b : Bool) → ends_none past moment ≡ b →
       all_quiet (entry_after past moment word event.Tick).marks (entry_after past moment word event.Tick).sent (entry_after past moment word event.Tick).given
-      (settles_none (entry_after past moment word event.Tick) past) (ends_none past (entry_after past moment word event.Tick).moment) ≡ b
+      (settles_none (entry_after past moment word event.Tick) past) (ends_none past (entry_after past moment word event.Tick).moment)
+      ≡ (b && is_nothing (tick_askings past moment))
   quiet_where true none =
       let e : Entry = entry_after past moment word event.Tick in
-      ap (λ ms. all_quiet ms e.sent e.given (settles_none e past) (ends_none past e.moment)) (marks_none none)
-      ∙ ap (λ ss. all_quiet [] ss e.given (settles_none e past) (ends_none past e.moment)) (sent-next past moment word event.Tick)
-      ∙ ap (λ gs. all_quiet [] [] gs (settles_none e past) (ends_none past e.moment)) (given_none none)
-      ∙ ap (λ b. all_quiet [] [] [] b (ends_none past e.moment)) settled
-      ∙ ap (λ k. all_quiet [] [] [] true (ends_none past k)) at_moment
-      ∙ none
+      let asked : List Mark = tick_askings past moment in
+      let queries : List Sent = sent_queries asked past moment in
+      ap (λ ms. all_quiet ms e.sent e.given (settles_none e past) (ends_none past e.moment)) (marks_asked none)
+      ∙ ap (λ ss. all_quiet asked ss e.given (settles_none e past) (ends_none past e.moment)) (sent-next past moment word event.Tick)
+      ∙ ap (λ gs. all_quiet asked queries gs (settles_none e past) (ends_none past e.moment)) (given_none none)
+      ∙ ap (λ b. all_quiet asked queries [] b (ends_none past e.moment)) settled
+      ∙ ap (λ k. all_quiet asked queries [] true (ends_none past k)) at_moment
+      ∙ ap (all_quiet asked queries [] true) none
+      ∙ quiet_askings asked past moment
   quiet_where false some =
       let e : Entry = entry_after past moment word event.Tick in
       ap (λ k. all_quiet e.marks e.sent e.given (settles_none e past) (ends_none past k)) at_moment
       ∙ ap (all_quiet e.marks e.sent e.given (settles_none e past)) some
       ∙ never_quiet e.marks e.sent e.given (settles_none e past)
 
--- A tick is idle where it ends no record.
-pub is_idle-tick : (past : List Entry) (moment : ℕ) → IsLegal in_force past → host_of past ≡ None → now past ≤ moment → is_idle in_force past moment ≡ ends_none past moment
+-- A tick is idle where it ends no record and asks no question.
+pub is_idle-tick : (past : List Entry) (moment : ℕ) → IsLegal in_force past → host_of past ≡ None → now past ≤ moment →
+    is_idle in_force past moment ≡ (ends_none past moment && is_nothing (tick_askings past moment))
 unfolding is_idle
 is_idle-tick past moment legal hostless later = quiet_where past moment 0 legal hostless later (ends_none past moment) refl

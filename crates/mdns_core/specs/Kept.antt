@@ -11,6 +11,7 @@ use Rattle.mdns_history.specs.Hearings.{Hearing}
 use Rattle.mdns_history.specs.Lifetimes.{room_for_records}
 use Rattle.mdns_history.specs.Sessions.{Accepted}
 use Rattle.mdns_cache.specs.Lifetimes.{Holds}
+use Rattle.mdns_question.specs.declared.tracked.Tracked.{Tracked}
 use Rattle.mdns_core.specs.declared.session.SessionState.{SessionState}
 use Rattle.mdns_core.specs.declared.change.SessionChange.{SessionChange}
 use Rattle.mdns_core.specs.State.{Session}
@@ -23,6 +24,10 @@ AreWellFormed operations = AllByRecursion (λ (operation : Operation). IsTrue (w
 -- each session's operations ask for something well formed
 abbrev pub HaveWellFormed : List Session → Type 0
 HaveWellFormed sessions = AllByRecursion (λ (session : Session). AreWellFormed session.operations) sessions
+
+-- each question has a gap in its series
+abbrev pub HaveGaps : List Tracked → Type 0
+HaveGaps questions = AllByRecursion (λ (one : Tracked). 0 < one.gap) questions
 
 -- the items of a queue that may have been cut
 abbrev pub queued : Option (List Item) → List Item

@@ -1,5 +1,5 @@
 // The daemon: it keeps the records that are live and the sessions that are attached, and gives these what changes.
-ghost use Rattle.std.specs.Prelude.{◌≡◌, ◌<◌, ◌≤◌, ◌^◌, ◌∷◌, [], ℕ, List, length, vec_len, vec_capacity, IfOk, IfSome, OnOk, OnErr, Option, Some, None, true, false};
+ghost use Rattle.std.specs.Prelude.{◌≡◌, ◌<◌, ◌≤◌, ◌^◌, ◌∷◌, ◌++◌, [], ℕ, List, length, vec_len, vec_capacity, IfOk, IfSome, OnOk, OnErr, Option, Some, None, true, false};
 ghost use Rattle.std.specs.Option.{is_some, unwrap_or};
 ghost use Rattle.std.specs.List.{find};
 ghost use Rattle.sd_call.specs.Replay.{replay};
@@ -11,6 +11,7 @@ ghost use Rattle.mdns_history.specs.Replays.{answer_sets};
 ghost use Rattle.mdns_core.specs.InForce.{in_force};
 ghost use Rattle.mdns_history.specs.Fitting.{Fits, boot_entry, is_boot};
 ghost use Rattle.mdns_history.specs.Due.{NextDue};
+ghost use Rattle.dns_name.specs.Lists.{least};
 ghost use Rattle.mdns_core.specs.Codes.{has_number};
 ghost use Rattle.mdns_core.specs.Settling.{shifted};
 ghost use Rattle.mdns_core.specs.Next.{outcome_then, sessions_after, most_taken};
@@ -23,6 +24,7 @@ use crate::session::SessionState;
 use crate::settle::{finish, make_room, settle};
 use mdns_cache::{Cache, Steps};
 use mdns_history::{Config, Entry, Event, Gifts, Marks, Outcome, Sends};
+use mdns_question::Asker;
 use sd_call::Item;
 use std::alloc::{AllocError, Global};
 use std::marker::Model;
@@ -39,25 +41,27 @@ pub struct Daemon {
     opened: u64,
     sessions: Vec<SessionState>,
     cache: Cache,
+    asker: Asker,
 }
 
 impl Model for Daemon {
     ghost use Rattle.std.specs.Prelude.{◌≡◌, ◌≤◌, length};
     ghost use Rattle.mdns_history.specs.Lifetimes.{room_for_records};
-    ghost use Rattle.mdns_cache.specs.Lifetimes.{AllLive};
+    ghost use Rattle.mdns_cache.specs.Lifetimes.{AllLive, AllHeard};
     ghost use Rattle.mdns_core.specs.State.{State};
 
     ghost Value = { State };
 
-    ghost use Rattle.mdns_core.specs.Kept.{sessions_of, HaveWellFormed};
+    ghost use Rattle.mdns_core.specs.Kept.{sessions_of, HaveWellFormed, HaveGaps};
 
-    ghost view = { λ d. record { last = d.last; opened = d.opened; sessions = sessions_of d.sessions.items; held = d.cache.held } };
+    ghost view = { λ d. record { last = d.last; opened = d.opened; sessions = sessions_of d.sessions.items; held = d.cache.held; questions = d.asker.questions } };
 
-    ghost invariant = { λ d. HaveWellFormed (sessions_of d.sessions.items) × (d.cache.limit ≡ room_for_records) × (length d.cache.held ≤ room_for_records) × AllLive d.last d.cache.held };
+    ghost invariant = { λ d. HaveWellFormed (sessions_of d.sessions.items) × (d.cache.limit ≡ room_for_records) × (length d.cache.held ≤ room_for_records)
+        × AllLive d.last d.cache.held × AllHeard d.last d.cache.held × (d.asker.held ≡ d.cache.held) × HaveGaps d.asker.questions };
 }
 
 impl Daemon {
-    ghost use Rattle.mdns_core.specs.State.{Stands};
+    ghost use Rattle.mdns_core.specs.State.{Stands, due_of};
 
     /// A daemon at its first moment `now`, in milliseconds, with an IPv4 address and no host, and the entry of its boot.
     /// Refused only for want of memory.
@@ -79,6 +83,7 @@ impl Daemon {
             opened: 0,
             sessions: Vec::new(alloc),
             cache: Cache::new(alloc, ROOM_FOR_RECORDS)?,
+            asker: Asker::new(alloc),
         };
         let entry = Entry {
             moment: now,
@@ -107,13 +112,14 @@ impl Daemon {
         find(&self.sessions, session).is_some()
     }
 
-    /// The next moment at which something is due, in milliseconds: when the first of the live records ends, which is after the
-    /// moment of the last entry. `None` where nothing ever is. (RFC 6762 section 10)
+    /// The next moment at which something is due, in milliseconds, and no earlier than the last entry: when a live record ends,
+    /// or a question is to be asked. `None` where nothing ever is. (RFC 6762 sections 5.2 and 10)
     pub fn next_due(&self) -> Option<u64>
+        ensures value { result ≡ due_of self.now }
         ensures due { (history : List Entry) → Stands self.now history → NextDue in_force history result }
-        ensures later { IfSome result (λ due. self.now.last < due) }
     {
-        self.cache.next_end()
+        let due = earlier(self.cache.next_end(), self.asker.next_due())?;
+        Some(due.max(self.last))
     }
 
     /// Does one event at `now`, in milliseconds, and answers its entry: for every history that the daemon stands for it is
@@ -138,6 +144,8 @@ impl Daemon {
             → is_attached session (entry ∷ history) ≡ true → is_cut session (entry ∷ history) ≡ false
             → replay (session_items session (entry ∷ history)) ≡ Some (answer_sets session (entry ∷ history))) }
         ensures last { OnOk result (self.new.last ≡ now) }
+        // After a tick nothing is due by then.
+        ensures ticked { OnOk result (event ≡ Event.Tick → IfSome (due_of self.new) (λ due. now < due)) }
         ensures err { OnErr result (self.new ≡ self.old) }
     {
         let plan = make_plan(
@@ -145,6 +153,7 @@ impl Daemon {
             self.opened,
             &self.sessions,
             &self.cache,
+            &self.asker,
             now,
             word,
             &event,
@@ -153,7 +162,9 @@ impl Daemon {
         prepare(&mut self.sessions, &plan.changes, &plan.outcome)?;
         let Plan {
             cache,
+            asker,
             marks,
+            sent,
             given,
             changes,
             taken,
@@ -170,15 +181,27 @@ impl Daemon {
         );
         self.last = now;
         self.cache = cache;
+        self.asker = asker;
         Ok(Entry {
             moment: now,
             word,
             event,
             marks,
-            sent: Sends::new(self.alloc),
+            sent,
             given,
             outcome,
         })
+    }
+}
+
+// The earlier of two moments that may be there.
+fn earlier(one: Option<u64>, other: Option<u64>) -> Option<u64>
+    ensures { (ones others : List ℕ) → one ≡ least ones → other ≡ least others → result ≡ least (ones ++ others) }
+{
+    match (one, other) {
+        (Some(one), Some(other)) => Some(one.min(other)),
+        (Some(one), None) => Some(one),
+        (None, other) => other,
     }
 }
 

@@ -4,7 +4,7 @@ ghost use Rattle.dns_message.specs.Reading.{fault_number};
 ghost use Rattle.sd_answer.specs.Laws.{have_data};
 ghost use Rattle.mdns_history.specs.Hearings.{Hearing, is_ignored, counted, counted_records, brought};
 ghost use Rattle.mdns_history.specs.Lifetimes.{room_for_records};
-ghost use Rattle.mdns_cache.specs.Lifetimes.{Holds, AllLive};
+ghost use Rattle.mdns_cache.specs.Lifetimes.{Holds, AllLive, AllHeard};
 ghost use Rattle.mdns_core.specs.Next.{IsHeard, AreHeard};
 
 use dns_message::{Message, MessageError, Rrs, read};
@@ -36,11 +36,13 @@ pub fn hear_event<L: Ledger>(
     requires bound { now ≤ 2 ^ 53 }
     requires limit { cache.now.limit ≡ room_for_records }
     requires within { length cache.now.held ≤ room_for_records }
+    requires past { AllHeard now cache.now.held }
     ensures heard { IfOk result (λ heard. (past : List Hearing) (before : ℕ) → before ≤ now → Holds cache.now.held past before
         → IsHeard now word event.now past heard.cache.held heard.marks) }
     ensures limit { IfOk result (λ heard. heard.cache.limit ≡ room_for_records) }
     ensures within { IfOk result (λ heard. length heard.cache.held ≤ room_for_records) }
     ensures live { IfOk result (λ heard. AllLive now heard.cache.held) }
+    ensures past { IfOk result (λ heard. AllHeard now heard.cache.held) }
     ensures parts { IfOk result (λ _. have_data (counted_records (brought event.now)) ≡ true) }
 {
     let live = without_ended(alloc, cache, now, steps)?;
@@ -60,9 +62,11 @@ fn without_ended<L: Ledger>(
     now: u64,
     steps: &mut Steps<L>,
 ) -> Result<Cache, AllocError>
+    requires { AllHeard now cache.now.held }
     ensures holds { IfOk result (λ live. (past : List Hearing) (before : ℕ) → before ≤ now → Holds cache.now.held past before
         → Holds live.held past now) }
     ensures live { IfOk result (λ live. AllLive now live.held) }
+    ensures past { IfOk result (λ live. AllHeard now live.held) }
     ensures limit { IfOk result (λ live. live.limit ≡ cache.now.limit) }
     ensures within { IfOk result (λ live. length live.held ≤ length cache.now.held) }
 {
@@ -84,11 +88,13 @@ fn hear_packet(
     requires live { AllLive now live.held }
     requires limit { live.limit ≡ room_for_records }
     requires within { length live.held ≤ room_for_records }
+    requires past { AllHeard now live.held }
     ensures heard { IfOk result (λ heard. (past : List Hearing) → Holds live.held past now
         → IsHeard now word (Event.Hear from.now bytes.now) past heard.cache.held heard.marks) }
     ensures limit { IfOk result (λ heard. heard.cache.limit ≡ room_for_records) }
     ensures within { IfOk result (λ heard. length heard.cache.held ≤ room_for_records) }
     ensures live { IfOk result (λ heard. AllLive now heard.cache.held) }
+    ensures past { IfOk result (λ heard. AllHeard now heard.cache.held) }
     ensures parts { IfOk result (λ _. have_data (counted_records (brought (Event.Hear from.now bytes.now))) ≡ true) }
 {
     match read(alloc, bytes) {
@@ -130,11 +136,13 @@ fn hear_records(
     requires live { AllLive now cache.held }
     requires limit { cache.limit ≡ room_for_records }
     requires within { length cache.held ≤ room_for_records }
+    requires past { AllHeard now cache.held }
     ensures heard { IfOk result (λ heard. (past : List Hearing) → Holds cache.held past now
         → AreHeard now word records past heard.cache.held heard.marks) }
     ensures limit { IfOk result (λ heard. heard.cache.limit ≡ room_for_records) }
     ensures within { IfOk result (λ heard. length heard.cache.held ≤ room_for_records) }
     ensures live { IfOk result (λ heard. AllLive now heard.cache.held) }
+    ensures past { IfOk result (λ heard. AllHeard now heard.cache.held) }
 {
     match cache.hear(now, word, records) {
         Ok(()) => Ok(Heard {
@@ -169,8 +177,8 @@ fn counted_records(alloc: Global, from: &Host, message: Message) -> Result<Rrs, 
     Ok(records)
 }
 
-// Whether a message isn't for us, or a response from a host that may not answer.
-fn is_ignored(from: &Host, message: &Message) -> bool
+/// Whether a message isn't for us, or a response from a host that may not answer.
+pub fn is_ignored(from: &Host, message: &Message) -> bool
     ensures { result ≡ is_ignored from.now message.now }
 {
     message.opcode != 0 || message.rcode != 0 || (message.response && from.port != MDNS_PORT)

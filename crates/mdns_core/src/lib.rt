@@ -1,6 +1,7 @@
 //! The daemon: what it is told, what it keeps, and the entry of each event.
 #![tactic(auto)]
 
+mod asking;
 mod change;
 mod codes;
 mod daemon;
@@ -8,9 +9,11 @@ mod hear;
 mod items;
 mod outcomes;
 mod plan;
+mod queries;
 mod running;
 mod session;
 mod settle;
+mod tracking;
 
 pub use daemon::Daemon;
 

@@ -1,9 +1,10 @@
 -- Steps of loops that go over a list from the front, told by what is left.
-use Rattle.std.proofs.Common.{◌≡◌, ℕ, suc, ◌+◌, ◌<◌, min, Bool, true, false, cond, List, [], ◌∷◌, ◌++◌, length, get_or, drop, refl, ap, sym, ◌∙◌, arith, add-one, Option, Some, None}
+use Rattle.std.proofs.Common.{◌≡◌, ℕ, suc, ◌+◌, ◌<◌, min, Bool, true, false, cond, List, [], ◌∷◌, ◌++◌, length, get_or, take, drop, refl, ap, sym, ◌∙◌, arith, add-one, Option, Some, None}
 use Rattle.std.specs.Prelude.{filter, map, slice_get}
 use Rattle.std.specs.List.{flat_map, filter_map, cons_option}
 use Rattle.std.proofs.Math.Seq.{drop-cons}
-use Rattle.std.proofs.lemmas.List.{get_or_default}
+use Rattle.std.proofs.lemmas.List.{get_or_default, take_more}
+use Rattle.std.proofs.lemmas.List.Elements.{filter_map-append}
 use Rattle.dns_name.specs.Lists.{least_of}
 
 -- what is left is the element and what is left behind it
@@ -65,3 +66,9 @@ least_of-map f xs i x n within is =
 pub least_of-filter_at : (p : ℕ → Bool) (xs : List ℕ) (i n : ℕ) → i < length xs →
     least_of n (filter p (drop i xs)) ≡ least_of (cond (p (get_or xs i 0)) (min n (get_or xs i 0)) n) (filter p (drop (i + 1) xs))
 least_of-filter_at p xs i n within = least_of-filter p xs i (get_or xs i 0) n within (get_or_default xs i 0 (get_or xs i 0) within)
+
+-- what one element more gives
+pub filter_map-next : {X Y : Type 0} (h : X → Option Y) (xs : List X) (i : ℕ) (x : X) → i < length xs → x ≡ get_or xs i x →
+    filter_map h (take (i + 1) xs) ≡ filter_map h (take i xs) ++ cons_option (h x) []
+filter_map-next h xs i x within is =
+    ap (filter_map h) (take_more xs i x within ∙ ap (λ y. take i xs ++ y ∷ []) (sym is)) ∙ filter_map-append h (take i xs) (x ∷ [])

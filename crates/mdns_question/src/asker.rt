@@ -1,12 +1,15 @@
 // The questions that have users, and which of them are due.
-ghost use Rattle.std.specs.Prelude.{◌≡◌, ◌≢◌, ℕ, ◌+◌, ◌<◌, ◌≤◌, ◌^◌, [], ◌∷◌, ◌++◌, map, filter, slice_get, vec_len, vec_capacity, IsOk, OnOk, OnErr, IfNone, IfSome};
+ghost use Rattle.std.specs.Prelude.{◌≡◌, ◌≢◌, ℕ, ◌+◌, ◌<◌, ◌≤◌, ◌^◌, [], ◌∷◌, ◌++◌, map, filter, slice_get, vec_len, vec_capacity, IsOk, OnOk, OnErr, IfOk, IfNone, IfSome};
 ghost use Rattle.std.specs.List.{list_any, find};
 ghost use Rattle.std.specs.List.Sorted.{IsPermutation};
 ghost use Rattle.std.specs.Option.{option_map, option_copied};
+ghost use Rattle.dns_name.specs.Lists.{least};
 ghost use Rattle.mdns_question.specs.Tracking.{is_for, is_other, with_user, without_user, with_asking, due_at};
+ghost use Rattle.mdns_question.specs.Next.{next_of};
 
 use crate::Tracked;
-use crate::due::due_question;
+use crate::copies::{held_copies, question_copies};
+use crate::due::{due_question, due_questions};
 use crate::keys::key_eq;
 use crate::next::next_due;
 use crate::users::{add_user, has, note, take_user};
@@ -52,6 +55,19 @@ impl Asker {
             held: Vec::new(alloc),
             starts: 0,
         }
+    }
+
+    /// An asker of the same questions that was told of these records, in place of those that this one was told of. Refused
+    /// only for want of memory.
+    pub fn copy_told(&self, alloc: Global, held: &[Held]) -> Result<Asker, AllocError>
+        ensures questions { IfOk result (λ copy. copy.questions ≡ self.now.questions) }
+        ensures held { IfOk result (λ copy. copy.held ≡ held.now) }
+    {
+        Ok(Asker {
+            questions: question_copies(alloc, &self.questions)?,
+            held: held_copies(alloc, held)?,
+            starts: self.starts,
+        })
     }
 
     /// Makes room for `more` units: a `start` and a `held` take one each at most. Nothing else changes. Refused only for
@@ -145,13 +161,28 @@ impl Asker {
         due_question(&self.questions, &self.held, now, place)
     }
 
+    /// All questions that are due at `now`, as `due` has them. Refused only for want of memory. (RFC 6762 5.2)
+    pub fn due_questions(&self, alloc: Global, now: u64) -> Result<Vec<(Key, Cause)>, AllocError>
+        ensures { IfOk result (λ due. due.items ≡ due_at self.now now) }
+    {
+        due_questions(alloc, &self.questions, &self.held, now)
+    }
+
     /// The first moment at which a question is due; `None` exactly where none ever is.
     pub fn next_due(&self) -> Option<u64>
+        ensures least { result ≡ least (map (next_of self.now.held) self.now.questions) }
         ensures none { IfNone result ((moment : ℕ) → due_at self.now moment ≡ []) }
         ensures some { IfSome result (λ next. due_at self.now next ≢ []) }
         ensures none_before { IfSome result (λ next. (moment : ℕ) → moment < next → due_at self.now moment ≡ []) }
     {
         next_due(&self.questions, &self.held)
+    }
+
+    /// The questions that have users, by folded name and then by type.
+    pub fn questions(&self) -> &[Tracked]
+        ensures { result.now ≡ self.now.questions }
+    {
+        self.questions.as_slice()
     }
 
     /// The question at a place among those that have users, counted from 0, by folded name and then by type; `None`

@@ -1,5 +1,5 @@
 // Which questions are due. (RFC 6762 5.2)
-ghost use Rattle.std.specs.Prelude.{◌≡◌, ◌&&◌, IsTrue, slice_get};
+ghost use Rattle.std.specs.Prelude.{◌≡◌, ◌&&◌, IsTrue, IfOk, slice_get};
 ghost use Rattle.std.specs.List.{list_any, filter_map};
 ghost use Rattle.std.specs.Option.{option_map, option_to_list};
 ghost use Rattle.mdns_history.specs.Lifetimes.{is_live_at};
@@ -11,6 +11,7 @@ use crate::Tracked;
 use crate::points::{calls_at, is_wanted, refresh_points};
 use dns_record::Key;
 use mdns_history::{Cause, Held};
+use std::alloc::{AllocError, Global};
 
 /// The due question at a place among those that are due, counted from 0, with its cause.
 pub fn due_question<'a>(
@@ -31,6 +32,24 @@ pub fn due_question<'a>(
         }
     }
     None
+}
+
+/// All questions that are due, each with its cause. Refused only for want of memory.
+pub fn due_questions(
+    alloc: Global,
+    questions: &[Tracked],
+    held: &[Held],
+    now: u64,
+) -> Result<Vec<(Key, Cause)>, AllocError>
+    ensures { IfOk result (λ due. due.items ≡ filter_map (due_with held.now now) questions.now) }
+{
+    let mut due = Vec::new(alloc);
+    for one in questions {
+        if let Some(cause) = due_cause(one, held, now) {
+            due.push((one.key.copy(), cause))?;
+        }
+    }
+    Ok(due)
 }
 
 // Why the question is due at `now`, if it is.

@@ -2,6 +2,7 @@
 #![tactic(auto)]
 
 mod asker;
+mod copies;
 mod due;
 mod keys;
 mod law;

@@ -28,6 +28,23 @@ pub struct Tracked {
     pub last: Option<u64>,
 }
 
+impl Tracked {
+    /// An equal question. It takes no memory.
+    pub fn copy(&self) -> Tracked
+        ensures { result ≡ self.now }
+    {
+        Tracked {
+            key: self.key.copy(),
+            start: self.start,
+            word: self.word,
+            users: self.users,
+            next: self.next,
+            gap: self.gap,
+            last: self.last,
+        }
+    }
+}
+
 /// A question that gets its first user: it is first due 20 to 120 ms later. (RFC 6762 5.2)
 pub fn begun(now: u64, word: u32, question: &Key) -> Tracked
     requires { now ≤ 2 ^ 53 }

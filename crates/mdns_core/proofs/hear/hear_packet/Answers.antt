@@ -7,7 +7,7 @@ use Rattle.mdns_history.specs.declared.mark.Mark.TheVariants as mark
 use Rattle.mdns_history.specs.declared.event.Event.TheVariants as event
 use Rattle.mdns_history.specs.Hearings.{Hearing, counted, counted_records}
 use Rattle.mdns_cache.specs.Contents.{Contents}
-use Rattle.mdns_cache.specs.Lifetimes.{AllLive}
+use Rattle.mdns_cache.specs.Lifetimes.{AllLive, AllHeard}
 use Rattle.mdns_core.specs.Next.{AreHeard, IsHeard}
 use Rattle.mdns_core.proofs.HeardPackets.{heard-message, heard-fault, data-message, data-fault, ok_with, ok_three, ok_always}
 use Rattle.mdns_core.proofs.hear.hear_packet.Goals as goal
@@ -39,4 +39,9 @@ returns-in-Err-clause-parts c = ok_with c.hear_none.result
 pub returns-in-Err-clause-live : goal.returns-in-Err-clause-live
 returns-in-Err-clause-live c = ok_with c.hear_none.result
     (λ heard same. subst (λ (cache : Contents). AllLive c.args.now cache.held) (sym same) c.requires.live)
+    c.hear_none.ensures.cache
+
+pub returns-in-Err-clause-past : goal.returns-in-Err-clause-past
+returns-in-Err-clause-past c = ok_with c.hear_none.result
+    (λ heard same. subst (λ (cache : Contents). AllHeard c.args.now cache.held) (sym same) c.requires.past)
     c.hear_none.ensures.cache

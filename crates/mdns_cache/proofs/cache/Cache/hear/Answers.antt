@@ -3,7 +3,7 @@ use Rattle.mdns_history.specs.Lifetimes.{live_of}
 use Rattle.mdns_cache.specs.declared.error.HearError.{HearError}
 use Rattle.mdns_cache.specs.declared.error.HearError.TheVariants.{Full, NoMemory}
 use Rattle.mdns_cache.specs.Lifetimes.{hearing_at, hearings_at, after_hearings}
-use Rattle.mdns_cache.proofs.Hearing.{Holds-after_hearings, AllLive-after_hearings, Stands-from_holds}
+use Rattle.mdns_cache.proofs.Hearing.{Holds-after_hearings, AllLive-after_hearings, AllHeard-after_hearings, Stands-from_holds}
 use Rattle.mdns_cache.proofs.Counting.{past_limit}
 use Rattle.mdns_cache.proofs.cache.Cache.hear.Goals as goal
 
@@ -40,6 +40,9 @@ returns-clause-holds c = λ past holds.
 
 pub returns-clause-live : goal.returns-clause-live
 returns-clause-live c = rw (held_is c) (AllLive-after_hearings c.args.now c.args.word c.args.heard c.args.self.now.held c.requires.live)
+
+pub returns-clause-heard : goal.returns-clause-heard
+returns-clause-heard c = λ heard. rw (held_is c) (AllHeard-after_hearings c.args.now c.args.word c.args.heard c.args.self.now.held heard)
 
 pub returns-clause-full : goal.returns-clause-full
 returns-clause-full c = λ past holds.

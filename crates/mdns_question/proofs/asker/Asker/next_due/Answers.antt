@@ -11,6 +11,9 @@ is_least c =
     ∙ ap (λ l. least (map (next_of c.deref-2.result.now) l)) (c.deref.ensures.value ∙ ap (λ (v : Contents). v.questions) c.self.view_is)
     ∙ ap (λ h. least (map (next_of h) c.args.self.now.questions)) (c.deref-2.ensures.value ∙ ap (λ (v : Contents). v.held) c.self.view_is)
 
+pub returns-clause-least : goal.returns-clause-least
+returns-clause-least c = is_least c
+
 pub returns-clause-some : goal.returns-clause-some
 returns-clause-some c = due_first c.next_due.result c.args.self.now.questions c.args.self.now.held (is_least c)
 

@@ -1,0 +1,14 @@
+use Rattle.std.proofs.Common.{◌≡◌, drop}
+use Rattle.std.specs.List.{filter, flat_map}
+use Rattle.mdns_history.specs.Sessions.{has_op}
+use Rattle.mdns_history.specs.Questions.{keys_of}
+use Rattle.mdns_core.specs.Asked.{all_ended}
+use Rattle.mdns_core.specs.Kept.{AreWellFormed}
+use Rattle.mdns_core.proofs.tracking.stop_one.Given as goal
+
+abbrev pub invariant-loop-operation : goal.invariant-loop-operation
+invariant-loop-operation l = record {
+  questions : all_ended (flat_map (λ operation. keys_of operation.request) (filter (has_op l.op) (drop l.operation-index l.operations))) l.asker.questions ≡ all_ended (flat_map (λ operation. keys_of operation.request) (filter (has_op l.op) l.operations)) l.initial.asker.questions;
+  held : l.asker.held ≡ l.initial.asker.held;
+  formed : AreWellFormed (drop l.operation-index l.operations);
+}

@@ -1,0 +1,154 @@
+// What an event makes of the questions that are asked for the sessions. (RFC 6762 5.2)
+ghost use Rattle.std.specs.Prelude.{◌≡◌, ◌≤◌, ◌^◌, filter, IsTrue, OnOk};
+ghost use Rattle.std.specs.List.{flat_map, find};
+ghost use Rattle.sd_call.specs.Requests.{well_formed};
+ghost use Rattle.mdns_history.specs.Sessions.{accepted_call, has_op};
+ghost use Rattle.mdns_history.specs.Questions.{keys_of};
+ghost use Rattle.mdns_core.specs.Codes.{has_number};
+ghost use Rattle.mdns_core.specs.Asked.{operations_in, begun_keys, ended_keys, all_begun, all_ended, all_asked, questions_after};
+ghost use Rattle.mdns_core.specs.Kept.{sessions_of, HaveWellFormed, AreWellFormed, IsWellFormedCall};
+
+use crate::outcomes::find;
+use crate::session::SessionState;
+use dns_record::Key;
+use mdns_history::{Cause, Event, Operation, Outcome};
+use mdns_question::Asker;
+use sd_answer::questions_of;
+use sd_call::Request;
+use std::alloc::{AllocError, Global};
+
+/// Tells an asker of an event at `now`, in ms, with its outcome, which asks these questions: those that a call starts get a
+/// user, those that an event ends lose one, and those that are asked are noted. Refused only for want of memory.
+#[tactic(auto, unfolding(crate::specs::Asked::questions_after))]
+pub fn follow(
+    asker: &mut Asker,
+    sessions: &[SessionState],
+    now: u64,
+    word: u32,
+    event: &Event,
+    outcome: &Outcome,
+    asked: &[(Key, Cause)],
+) -> Result<(), AllocError>
+    requires bound { now ≤ 2 ^ 53 }
+    requires operations { HaveWellFormed (sessions_of sessions.now) }
+    requires call { IsWellFormedCall (accepted_call event.now outcome.now) }
+    ensures questions { OnOk result (asker.new.questions ≡ questions_after (sessions_of sessions.now) now word event.now outcome.now asked.now asker.old.questions) }
+    ensures held { asker.new.held ≡ asker.old.held }
+{
+    begin(asker, now, word, event, outcome)?;
+    end(asker, sessions, event, outcome);
+    note(asker, now, asked);
+    Ok(())
+}
+
+// Gives a user to the questions of what an accepted call starts.
+fn begin(
+    asker: &mut Asker,
+    now: u64,
+    word: u32,
+    event: &Event,
+    outcome: &Outcome,
+) -> Result<(), AllocError>
+    requires bound { now ≤ 2 ^ 53 }
+    requires call { IsWellFormedCall (accepted_call event.now outcome.now) }
+    ensures questions { OnOk result (asker.new.questions ≡ all_begun now word (begun_keys (accepted_call event.now outcome.now)) asker.old.questions) }
+    ensures held { asker.new.held ≡ asker.old.held }
+{
+    match (event, outcome) {
+        (Event::Call { request, .. }, Outcome::Code { code: 0 }) => {
+            start_all(asker, now, word, questions_of(request).as_slice())
+        }
+        _ => Ok(()),
+    }
+}
+
+fn start_all(asker: &mut Asker, now: u64, word: u32, keys: &[Key]) -> Result<(), AllocError>
+    requires { now ≤ 2 ^ 53 }
+    ensures questions { OnOk result (asker.new.questions ≡ all_begun now word keys.now asker.old.questions) }
+    ensures held { asker.new.held ≡ asker.old.held }
+{
+    for key in keys {
+        asker.start(now, word, key)?;
+    }
+    Ok(())
+}
+
+// Takes a user from the questions of the operations that an event ends.
+fn end(asker: &mut Asker, sessions: &[SessionState], event: &Event, outcome: &Outcome)
+    requires { HaveWellFormed (sessions_of sessions.now) }
+    ensures questions { asker.new.questions ≡ all_ended (ended_keys event.now outcome.now (sessions_of sessions.now)) asker.old.questions }
+    ensures held { asker.new.held ≡ asker.old.held }
+{
+    match (event, outcome) {
+        (
+            Event::Call {
+                session,
+                op,
+                request: Request::Stop,
+            },
+            Outcome::Code { code: 0 },
+        ) => stop_one(asker, operations_of(sessions, *session), *op),
+        (Event::Detach { session }, Outcome::Ended) => {
+            stop_all(asker, operations_of(sessions, *session));
+        }
+        _ => {}
+    }
+}
+
+// The operations of the session of a number, none where it isn't attached.
+fn operations_of(sessions: &[SessionState], number: u64) -> &[Operation]
+    requires { HaveWellFormed (sessions_of sessions.now) }
+    ensures operations { result.now ≡ operations_in (find (has_number number) (sessions_of sessions.now)) }
+    ensures well_formed { AreWellFormed result.now }
+{
+    match find(sessions, number) {
+        Some(session) => session.operations.as_slice(),
+        None => &[],
+    }
+}
+
+// Takes a user from the questions of the operation of a number.
+fn stop_one(asker: &mut Asker, operations: &[Operation], op: u32)
+    requires { AreWellFormed operations.now }
+    ensures questions { asker.new.questions ≡ all_ended (flat_map (λ operation. keys_of operation.request) (filter (has_op op) operations.now)) asker.old.questions }
+    ensures held { asker.new.held ≡ asker.old.held }
+{
+    for operation in operations {
+        if operation.op == op {
+            stop_questions(asker, &operation.request);
+        }
+    }
+}
+
+// Takes a user from the questions of each operation.
+fn stop_all(asker: &mut Asker, operations: &[Operation])
+    requires { AreWellFormed operations.now }
+    ensures questions { asker.new.questions ≡ all_ended (flat_map (λ operation. keys_of operation.request) operations.now) asker.old.questions }
+    ensures held { asker.new.held ≡ asker.old.held }
+{
+    for operation in operations {
+        stop_questions(asker, &operation.request);
+    }
+}
+
+fn stop_questions(asker: &mut Asker, request: &Request)
+    requires { IsTrue (well_formed request.now) }
+    ensures questions { asker.new.questions ≡ all_ended (keys_of request.now) asker.old.questions }
+    ensures held { asker.new.held ≡ asker.old.held }
+{
+    let keys = questions_of(request);
+    for key in keys.as_slice() {
+        asker.stop(key);
+    }
+}
+
+// Notes the questions that are asked.
+fn note(asker: &mut Asker, now: u64, asked: &[(Key, Cause)])
+    requires { now ≤ 2 ^ 53 }
+    ensures questions { asker.new.questions ≡ all_asked now asked.now asker.old.questions }
+    ensures held { asker.new.held ≡ asker.old.held }
+{
+    for one in asked {
+        asker.asked(now, &one.0, one.1);
+    }
+}
