@@ -1,5 +1,5 @@
 -- The active questions of a history, by what is found among them, and behind an entry.
-use Rattle.std.proofs.Common.{◌≡◌, ℕ, suc, ◌+◌, ◌<◌, ◌≤◌, Bool, true, false, cond, not, ◌&&◌, ◌||◌, List, [], ◌∷◌, ◌++◌, Option, Some, None, refl, ap, ◌∙◌, sym, subst, arith}
+use Rattle.std.proofs.Common.{◌≡◌, ℕ, suc, ◌+◌, ◌<◌, Bool, true, false, cond, not, ◌&&◌, ◌||◌, List, [], ◌∷◌, Option, Some, None, refl, ap, ◌∙◌, sym, subst, arith}
 use Rattle.std.specs.Prelude.{nat_lt}
 use Rattle.std.specs.List.{list_any, flat_map, find}
 use Rattle.std.specs.Option.{option_map, option_and_then, option_or, is_some}
@@ -10,11 +10,10 @@ use Rattle.dns_record.specs.Records.{key_eq, key_cmp}
 use Rattle.mdns_history.specs.declared.event.Event.{Event}
 use Rattle.mdns_history.specs.declared.config.Config.{Config}
 use Rattle.mdns_history.specs.declared.entry.Entry.{Entry}
-use Rattle.mdns_history.specs.declared.operation.Operation.{Operation}
 use Rattle.mdns_history.specs.History.{last_at}
 use Rattle.mdns_history.specs.Sessions.{Accepted, accepted_in, accepted_call, operations, attached_sessions}
 use Rattle.mdns_history.specs.Questions.{Active, keys_of, is_active, begins_asking, active_from, begun_with, active_questions}
-use Rattle.mdns_history.specs.Outcomes.{early_outcome, late_outcome}
+use Rattle.mdns_history.specs.Outcomes.{early_outcome}
 use Rattle.mdns_history.specs.Fitting.{boot_entry, next_entry, IsLegalFrom, IsLegal}
 use Rattle.mdns_history.proofs.CallFacts.{opened-late}
 use Rattle.mdns_history.proofs.LegalReplay.{detached-late}
@@ -66,7 +65,7 @@ same_last j k e [] = refl
 same_last j k e (entry ∷ past) =
     ap (λ o. option_or o (last_at (begun_with j) past)) (same_begun j k e entry past) ∙ ap (λ o. option_or (begun_with k entry past) o) (same_last j k e past)
 
-found_passes : (p : Key → Bool) (ks : List Key) (k : Key) → find p ks ≡ Some k → p k ≡ true
+pub found_passes : (p : Key → Bool) (ks : List Key) (k : Key) → find p ks ≡ Some k → p k ≡ true
 found_passes p [] k h = absurd (cc)
 found_passes p (j ∷ ks) k h = of (p j) refl h (found_passes p ks k)
   where
@@ -172,6 +171,9 @@ begun_step past legal ev entry move q before h = of (is_active q past) refl
     later None p e = e
     later (Some a) p e = refl
 
+    given_by : (k : Key) → find (key_eq q) (begun_keys (accepted_call ev (early_outcome ev past))) ≡ Some k → find (key_eq q) (begun_keys (accepted_in entry)) ≡ Some k
+    given_by k f = ap (λ a. find (key_eq q) (begun_keys a)) move.accepts ∙ f
+
     sooner : (o p : Option Active) (a : Active) → o ≡ Some a → is_some (option_or o p) ≡ true
     sooner None p a e = absurd (cc)
     sooner (Some b) p a e = refl
@@ -188,7 +190,7 @@ begun_step past legal ev entry move q before h = of (is_active q past) refl
         let found = found_counted q (begun_keys (accepted_call ev (early_outcome ev past))) given in
         let begin : begins_asking q entry past ≡ true = begins q entry past zero positive in
         sooner (begun_with q entry past) (last_at (begun_with q) past) (active_from entry found.0)
-        (begun_found q entry past found.0 begin (ap (λ a. find (key_eq q) (begun_keys a)) move.accepts ∙ found.1))
+        (begun_found q entry past found.0 begin (given_by found.0 found.1))
 
 none_asked : (moment word : ℕ) (config : Config) (q : Key) → is_active q (boot_entry moment word config ∷ []) ≡ true → is_some (last_at (begun_with q) (boot_entry moment word config ∷ [])) ≡ true
 unfolding is_active operations attached_sessions

@@ -1,7 +1,7 @@
 -- How often the live operations ask a question, behind an entry.
 use Rattle.std.proofs.Common.{◌≡◌, ℕ, ℤ, zero, suc, ◌+◌, ◌<◌, ◌≤◌, ◌==◌, Bool, true, false, cond, not, List, [], ◌∷◌, ◌++◌, map, Option, Some, None, refl, ap, ◌∙◌, sym, arith, append-nil}
 use Rattle.std.specs.Prelude.{filter}
-use Rattle.std.specs.List.{flat_map, find}
+use Rattle.std.specs.List.{flat_map}
 use Rattle.std.specs.Option.{is_some, option_or, unwrap_or}
 use Rattle.std.specs.Ordering.{is_lt, int_eq}
 use Rattle.std.proofs.lemmas.List.Concat.{flat_map-append}
@@ -20,7 +20,7 @@ use Rattle.mdns_history.specs.declared.operation.Operation.{Operation}
 use Rattle.mdns_history.specs.History.{latest}
 use Rattle.mdns_history.specs.Sessions.{Accepted, has_op, by_op, opened, opened_count, detached, is_number, attaching, is_attached, attached_sessions, accepted_call, accepted_in, updated, after_request, after_call, operations_of, operations}
 use Rattle.mdns_history.specs.Questions.{keys_of}
-use Rattle.mdns_history.specs.Outcomes.{early_outcome, call_code}
+use Rattle.mdns_history.specs.Outcomes.{early_outcome}
 use Rattle.mdns_history.specs.Fitting.{IsLegal}
 use Rattle.mdns_history.proofs.CallFacts.{opened_next, opened-call, coded_attached}
 use Rattle.mdns_history.proofs.LegalReplay.{Holds}
@@ -28,7 +28,6 @@ use Rattle.mdns_question.specs.Standing.{uses}
 use Rattle.mdns_core.specs.InForce.{in_force}
 use Rattle.mdns_core.specs.State.{session_in, sessions_in}
 use Rattle.mdns_core.specs.Asked.{begun_keys, stopped_in, stopped_by, ended_with, ended_keys, operations_in}
-use Rattle.mdns_core.specs.Codes.{has_number}
 use Rattle.mdns_core.proofs.Attached.{holds_legal}
 use Rattle.mdns_core.proofs.KeptOutcome.{found-session}
 

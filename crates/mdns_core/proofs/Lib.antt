@@ -43,4 +43,5 @@ pub mod Among
 pub mod KeyLists
 pub mod KeyUses
 pub mod ActiveKeys
+pub mod TrackedKeys
 pub mod Askings
