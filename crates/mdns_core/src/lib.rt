@@ -16,3 +16,6 @@ mod settle;
 mod tracking;
 
 pub use daemon::Daemon;
+
+#[cfg(test)]
+mod tests;

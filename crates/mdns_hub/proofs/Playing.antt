@@ -34,135 +34,149 @@ use Rattle.mdns_hub.specs.Hubs.{StandsFor, BootedFor, Advances, BreaksIn, number
 -- gains told of the print of a numbered history are gains of what was played
 gains_numbered : (old new : Option (List ℕ)) (played : Played) (number : ℕ) (history : List Entry) → played.number ≡ Some number
     → Gains old new (history_text number played.history) (history_text number history)
-    → Gains old new (transcript played) (transcript (record { clock = played.clock; number = played.number; history = history }))
+    → Gains old new (transcript played) (transcript (record played { history = history }))
 gains_numbered old new played number history e g = rw e g
 
 fronts_numbered : (old new : Option (List ℕ)) (played : Played) (number : ℕ) (history : List Entry) → played.number ≡ Some number
     → Fronts old new (history_text number played.history) (history_text number history)
-    → Fronts old new (transcript played) (transcript (record { clock = played.clock; number = played.number; history = history }))
+    → Fronts old new (transcript played) (transcript (record played { history = history }))
 fronts_numbered old new played number history e g = rw e g
+
+-- an entry at the hub's moment with its word is at those of what was played
+at_played : (entry : Entry) (clock word : ℕ) (happening : Event) (played : Played) → clock ≡ played.clock → word ≡ played.word → IsAt entry clock word happening → IsAt entry played.clock played.word happening
+at_played entry clock word happening played now given is =
+    subst (λ (w : ℕ). IsAt entry played.clock w happening) given (subst (λ (n : ℕ). IsAt entry n word happening) now is)
 
 -- Events.
 
-pub happens : (old new : Option (List ℕ)) (clock number : ℕ) (before after : State) (happening : Event) (played : Played)
-    → clock ≡ played.clock → played.number ≡ Some number → Stands before played.history
-    → ((history : List Entry) → Stands before history → (entry : Entry) × Fits in_force entry history × IsAt entry clock happening × Stands after (entry ∷ history) × Appends old new (entry_text number entry))
-    → (next : Played) × Happens happening played next × (clock ≡ next.clock) × (next.number ≡ Some number) × Stands after next.history × Gains old new (transcript played) (transcript next)
-happens old new clock number before after happening played now numbered stands done =
+pub happens : (old new : Option (List ℕ)) (clock word number : ℕ) (before after : State) (happening : Event) (played : Played)
+    → clock ≡ played.clock → word ≡ played.word → played.number ≡ Some number → Stands before played.history
+    → ((history : List Entry) → Stands before history → (entry : Entry) × Fits in_force entry history × IsAt entry clock word happening × Stands after (entry ∷ history) × Appends old new (entry_text number entry))
+    → (next : Played) × Happens happening played next × (clock ≡ next.clock) × (word ≡ next.word) × (next.number ≡ Some number) × Stands after next.history × Gains old new (transcript played) (transcript next)
+happens old new clock word number before after happening played now given numbered stands done =
     let d = done played.history stands in (
-      record { clock = played.clock; number = played.number; history = d.0 ∷ played.history },
-      record { entry = d.0; fits = d.1; is = subst (λ (n : ℕ). IsAt d.0 n happening) now d.2; after_is = refl },
+      record played { history = d.0 ∷ played.history },
+      record { entry = d.0; fits = d.1; is = at_played d.0 clock word happening played now given d.2; after_is = refl },
       now,
+      given,
       numbered,
       d.3,
       gains_numbered old new played number (d.0 ∷ played.history) numbered (gains_appends old new (history_text number played.history) (entry_text number d.0) d.4),
     )
 
-pub happens_part : (old new : Option (List ℕ)) (clock number : ℕ) (before : State) (happening : Event) (played : Played)
-    → clock ≡ played.clock → played.number ≡ Some number → Stands before played.history
-    → ((history : List Entry) → Stands before history → (new ≡ old) ⊎ ((entry : Entry) × Fits in_force entry history × IsAt entry clock happening × ((n : ℕ) × Appends old new (take n (entry_text number entry)))))
+pub happens_part : (old new : Option (List ℕ)) (clock word number : ℕ) (before : State) (happening : Event) (played : Played)
+    → clock ≡ played.clock → word ≡ played.word → played.number ≡ Some number → Stands before played.history
+    → ((history : List Entry) → Stands before history → (new ≡ old) ⊎ ((entry : Entry) × Fits in_force entry history × IsAt entry clock word happening × ((n : ℕ) × Appends old new (take n (entry_text number entry)))))
     → (reached : Played) × OrNothing (Happens happening) played reached × Fronts old new (transcript played) (transcript reached)
-happens_part old new clock number before happening played now numbered stands part =
+happens_part old new clock word number before happening played now given numbered stands part =
     ⊎_elim
     (λ same. (played, inr refl, fronts_nothing old new (transcript played) same))
     (λ d. (
-      record { clock = played.clock; number = played.number; history = d.0 ∷ played.history },
-      inl record { entry = d.0; fits = d.1; is = subst (λ (n : ℕ). IsAt d.0 n happening) now d.2; after_is = refl },
+      record played { history = d.0 ∷ played.history },
+      inl record { entry = d.0; fits = d.1; is = at_played d.0 clock word happening played now given d.2; after_is = refl },
       fronts_numbered old new played number (d.0 ∷ played.history) numbered (fronts_appends old new (history_text number played.history) (entry_text number d.0) d.3),
     ))
     (part played.history stands)
 
 -- what is played after a boot
-abbrev booted_played : Played → ℕ → ℕ → Config → Played
-booted_played played clock number config = record { clock = played.clock; number = Some number; history = boot_entry clock 0 config ∷ [] }
+abbrev booted_played : Played → ℕ → ℕ → ℕ → Config → Played
+booted_played played clock word number config = record played { number = Some number; history = boot_entry clock word config ∷ [] }
 
-boots_is : (played : Played) (clock number : ℕ) (config : Config) → clock ≡ played.clock → clock ≤ last_moment → Boots number config played (booted_played played clock number config)
-boots_is played clock number config now in_time = record {
+boots_is : (played : Played) (clock word number : ℕ) (config : Config) → clock ≡ played.clock → word ≡ played.word → clock ≤ last_moment → Boots number config played (booted_played played clock word number config)
+boots_is played clock word number config now given in_time = record {
   in_time = subst (λ (n : ℕ). n ≤ last_moment) now in_time;
-  after_is = rw (← now) refl;
+  after_is = ap (λ (n : ℕ). booted_played played n word number config) now ∙ ap (λ (w : ℕ). booted_played played played.clock w number config) given;
 }
 
-pub boots : (old new : Option (List ℕ)) (clock number : ℕ) (config : Config) (after : State) (played : Played)
-    → clock ≡ played.clock → played.number ≡ None → clock ≤ last_moment
-    → Stands after (boot_entry clock 0 config ∷ []) → Appends old new (entry_text number (boot_entry clock 0 config))
-    → (next : Played) × Boots number config played next × (clock ≡ next.clock) × (next.number ≡ Some number) × Stands after next.history × Gains old new (transcript played) (transcript next)
-boots old new clock number config after played now none in_time stands appended = (
-  booted_played played clock number config,
-  boots_is played clock number config now in_time,
+pub boots : (old new : Option (List ℕ)) (clock word number : ℕ) (config : Config) (after : State) (played : Played)
+    → clock ≡ played.clock → word ≡ played.word → played.number ≡ None → clock ≤ last_moment
+    → Stands after (boot_entry clock word config ∷ []) → Appends old new (entry_text number (boot_entry clock word config))
+    → (next : Played) × Boots number config played next × (clock ≡ next.clock) × (word ≡ next.word) × (next.number ≡ Some number) × Stands after next.history × Gains old new (transcript played) (transcript next)
+boots old new clock word number config after played now given none in_time stands appended = (
+  booted_played played clock word number config,
+  boots_is played clock word number config now given in_time,
   now,
+  given,
   refl,
   stands,
-  rw none (gains_appends old new [] (entry_text number (boot_entry clock 0 config)) appended),
+  rw none (gains_appends old new [] (entry_text number (boot_entry clock word config)) appended),
 )
 
-pub boots_part : (old new : Option (List ℕ)) (clock number : ℕ) (config : Config) (played : Played)
-    → clock ≡ played.clock → played.number ≡ None → clock ≤ last_moment
-    → (n : ℕ) × Appends old new (take n (entry_text number (boot_entry clock 0 config)))
+pub boots_part : (old new : Option (List ℕ)) (clock word number : ℕ) (config : Config) (played : Played)
+    → clock ≡ played.clock → word ≡ played.word → played.number ≡ None → clock ≤ last_moment
+    → (n : ℕ) × Appends old new (take n (entry_text number (boot_entry clock word config)))
     → (reached : Played) × OrNothing (Boots number config) played reached × Fronts old new (transcript played) (transcript reached)
-boots_part old new clock number config played now none in_time part = (
-  booted_played played clock number config,
-  inl (boots_is played clock number config now in_time),
-  rw none (fronts_appends old new [] (entry_text number (boot_entry clock 0 config)) part),
+boots_part old new clock word number config played now given none in_time part = (
+  booted_played played clock word number config,
+  inl (boots_is played clock word number config now given in_time),
+  rw none (fronts_appends old new [] (entry_text number (boot_entry clock word config)) part),
 )
 
 -- Ticks.
 
 -- a tick at the greater of the moment at which it is due and the current one
-tick_is : (clock until due moment : ℕ) (history : List Entry) (entry : Entry) → IsNextDue in_force history due → due ≤ until → moment ≡ max due clock
-    → Fits in_force entry history → IsAt entry moment event.Tick → IsTick clock until history entry
-tick_is clock until due moment history entry next by greater fits is =
-    record { due = due; next = next; by = by; fits = fits; is = subst (λ (n : ℕ). IsAt entry n event.Tick) greater is }
+tick_is : (clock word until due moment : ℕ) (history : List Entry) (entry : Entry) → IsNextDue in_force history due → due ≤ until → moment ≡ max due clock
+    → Fits in_force entry history → IsAt entry moment word event.Tick → IsTick clock word until history entry
+tick_is clock word until due moment history entry next by greater fits is =
+    record { due = due; next = next; by = by; fits = fits; is = subst (λ (n : ℕ). IsAt entry n word event.Tick) greater is }
 
 -- one more tick was done
-pub ticks_more : (old mid new : Option (List ℕ)) (clock until due moment number : ℕ) (after : State) (history ticks : List Entry) → AreTicks clock until history ticks
+pub ticks_more : (old mid new : Option (List ℕ)) (clock word until due moment number : ℕ) (after : State) (history ticks : List Entry) → AreTicks clock word until history ticks
     → Gains old mid (history_text number history) (history_text number (ticks ++ history)) → IsNextDue in_force (ticks ++ history) due → due ≤ until → moment ≡ max due clock
-    → (entry : Entry) × Fits in_force entry (ticks ++ history) × IsAt entry moment event.Tick × Stands after (entry ∷ ticks ++ history) × Appends mid new (entry_text number entry)
-    → (all : List Entry) × AreTicks clock until history all × Stands after (all ++ history) × Gains old new (history_text number history) (history_text number (all ++ history))
-ticks_more old mid new clock until due moment number after history ticks are gains next by greater one =
+    → (entry : Entry) × Fits in_force entry (ticks ++ history) × IsAt entry moment word event.Tick × Stands after (entry ∷ ticks ++ history) × Appends mid new (entry_text number entry)
+    → (all : List Entry) × AreTicks clock word until history all × Stands after (all ++ history) × Gains old new (history_text number history) (history_text number (all ++ history))
+ticks_more old mid new clock word until due moment number after history ticks are gains next by greater one =
     let then = history_text number (ticks ++ history) in (
       one.0 ∷ ticks,
-      (are, tick_is clock until due moment (ticks ++ history) one.0 next by greater one.1 one.2),
+      (are, tick_is clock word until due moment (ticks ++ history) one.0 next by greater one.1 one.2),
       one.3,
       gains_then old mid new (history_text number history) then (then ++ entry_text number one.0) gains (gains_appends mid new then (entry_text number one.0) one.4),
     )
 
 -- one more tick was broken off
-pub ticks_part : (old mid new : Option (List ℕ)) (clock until due moment number : ℕ) (history ticks : List Entry) → AreTicks clock until history ticks
+pub ticks_part : (old mid new : Option (List ℕ)) (clock word until due moment number : ℕ) (history ticks : List Entry) → AreTicks clock word until history ticks
     → Gains old mid (history_text number history) (history_text number (ticks ++ history)) → IsNextDue in_force (ticks ++ history) due → due ≤ until → moment ≡ max due clock
-    → (new ≡ mid) ⊎ ((entry : Entry) × Fits in_force entry (ticks ++ history) × IsAt entry moment event.Tick × ((n : ℕ) × Appends mid new (take n (entry_text number entry))))
-    → (all : List Entry) × AreTicks clock until history all × Fronts old new (history_text number history) (history_text number (all ++ history))
-ticks_part old mid new clock until due moment number history ticks are gains next by greater (inl same) =
+    → (new ≡ mid) ⊎ ((entry : Entry) × Fits in_force entry (ticks ++ history) × IsAt entry moment word event.Tick × ((n : ℕ) × Appends mid new (take n (entry_text number entry))))
+    → (all : List Entry) × AreTicks clock word until history all × Fronts old new (history_text number history) (history_text number (all ++ history))
+ticks_part old mid new clock word until due moment number history ticks are gains next by greater (inl same) =
     let then = history_text number (ticks ++ history) in
     (ticks, are, fronts_then old mid new (history_text number history) then then gains (fronts_nothing mid new then same))
-ticks_part old mid new clock until due moment number history ticks are gains next by greater (inr one) =
+ticks_part old mid new clock word until due moment number history ticks are gains next by greater (inr one) =
     let then = history_text number (ticks ++ history) in (
       one.0 ∷ ticks,
-      (are, tick_is clock until due moment (ticks ++ history) one.0 next by greater one.1 one.2),
+      (are, tick_is clock word until due moment (ticks ++ history) one.0 next by greater one.1 one.2),
       fronts_then old mid new (history_text number history) then (then ++ entry_text number one.0) gains (fronts_appends mid new then (entry_text number one.0) one.3),
     )
 
-pub runs_to : (old new : Option (List ℕ)) (clock until number : ℕ) (before after : State) (played : Played)
-    → clock ≡ played.clock → played.number ≡ Some number → Stands before played.history
-    → ((history : List Entry) → Stands before history → (ticks : List Entry) × AreTicks clock until history ticks × IsIdleUntil until (ticks ++ history) × Stands after (ticks ++ history) × Gains old new (history_text number history) (history_text number (ticks ++ history)))
-    → (next : Played) × RunsTo until played next × (until ≡ next.clock) × (next.number ≡ Some number) × Stands after next.history × Gains old new (transcript played) (transcript next)
-runs_to old new clock until number before after played now numbered stands done =
+-- ticks from the hub's moment with its word are from those of what was played
+ticks_played : (clock word until : ℕ) (ticks : List Entry) (played : Played) → clock ≡ played.clock → word ≡ played.word
+    → AreTicks clock word until played.history ticks → AreTicks played.clock played.word until played.history ticks
+ticks_played clock word until ticks played now given are =
+    subst (λ (w : ℕ). AreTicks played.clock w until played.history ticks) given (subst (λ (n : ℕ). AreTicks n word until played.history ticks) now are)
+
+pub runs_to : (old new : Option (List ℕ)) (clock word until number : ℕ) (before after : State) (played : Played)
+    → clock ≡ played.clock → word ≡ played.word → played.number ≡ Some number → Stands before played.history
+    → ((history : List Entry) → Stands before history → (ticks : List Entry) × AreTicks clock word until history ticks × IsIdleUntil until (ticks ++ history) × Stands after (ticks ++ history) × Gains old new (history_text number history) (history_text number (ticks ++ history)))
+    → (next : Played) × RunsTo until played next × (until ≡ next.clock) × (word ≡ next.word) × (next.number ≡ Some number) × Stands after next.history × Gains old new (transcript played) (transcript next)
+runs_to old new clock word until number before after played now given numbered stands done =
     let d = done played.history stands in (
-      record { clock = until; number = played.number; history = d.0 ++ played.history },
-      record { ticks = d.0; are = subst (λ (n : ℕ). AreTicks n until played.history d.0) now d.1; idle = d.2; after_is = refl },
+      record played { clock = until; history = d.0 ++ played.history },
+      record { ticks = d.0; are = ticks_played clock word until d.0 played now given d.1; idle = d.2; after_is = refl },
       refl,
+      given,
       numbered,
       d.3,
       rw numbered (d.4),
     )
 
-pub runs_to_part : (old new : Option (List ℕ)) (clock until number : ℕ) (before : State) (played : Played)
-    → clock ≡ played.clock → played.number ≡ Some number → Stands before played.history
-    → ((history : List Entry) → Stands before history → (ticks : List Entry) × AreTicks clock until history ticks × Fronts old new (history_text number history) (history_text number (ticks ++ history)))
+pub runs_to_part : (old new : Option (List ℕ)) (clock word until number : ℕ) (before : State) (played : Played)
+    → clock ≡ played.clock → word ≡ played.word → played.number ≡ Some number → Stands before played.history
+    → ((history : List Entry) → Stands before history → (ticks : List Entry) × AreTicks clock word until history ticks × Fronts old new (history_text number history) (history_text number (ticks ++ history)))
     → (reached : Played) × RunsPartTo until played reached × Fronts old new (transcript played) (transcript reached)
-runs_to_part old new clock until number before played now numbered stands part =
+runs_to_part old new clock word until number before played now given numbered stands part =
     let d = part played.history stands in (
-      record { clock = played.clock; number = played.number; history = d.0 ++ played.history },
-      record { ticks = d.0; are = subst (λ (n : ℕ). AreTicks n until played.history d.0) now d.1; after_is = refl },
+      record played { history = d.0 ++ played.history },
+      record { ticks = d.0; are = ticks_played clock word until d.0 played now given d.1; after_is = refl },
       fronts_numbered old new played number (d.0 ++ played.history) numbered d.2,
     )
 
@@ -175,7 +189,7 @@ idle_at_start moment = refl
 never_due : NextDue in_force [] None
 never_due = λ moment _. idle_at_start moment
 
-pub runs_to-none : (until : ℕ) (played : Played) → played.history ≡ [] → RunsTo until played (record { clock = until; number = played.number; history = played.history })
+pub runs_to-none : (until : ℕ) (played : Played) → played.history ≡ [] → RunsTo until played (record played { clock = until })
 runs_to-none until played none = record {
   ticks = [];
   are = tt;

@@ -16,6 +16,7 @@ BootedFor (Some booted) played = (played.number ≡ Some booted.number) × Stand
 -- A hub stands for what was played.
 pub record StandsFor (hub : Hub) (played : Played) : Type 0 where
   pub clock : hub.clock ≡ played.clock
+  pub word : hub.word ≡ played.word
   pub booted : BootedFor hub.booted played
 
 -- The hub goes a step on: it stands for what was played after the step, and the sink gained the transcript of that.

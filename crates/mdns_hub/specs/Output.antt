@@ -29,8 +29,8 @@ OrNothing Step before after = Step before after ⊎ (after ≡ before)
 -- a part of what is due up to a moment was done
 pub record RunsPartTo (until : ℕ) (before after : Played) : Type 0 where
   pub ticks : List Entry
-  pub are : AreTicks before.clock until before.history ticks
-  pub after_is : after ≡ record { clock = before.clock; number = before.number; history = ticks ++ before.history }
+  pub are : AreTicks before.clock before.word until before.history ticks
+  pub after_is : after ≡ record before { history = ticks ++ before.history }
 
 -- What a command that was broken off had done: all of it or nothing, and of what was due a part.
 abbrev pub DoesPart : Command → Played → Played → Type 0

@@ -4,7 +4,7 @@ use Rattle.mdns_history.specs.declared.event.Event.TheVariants as event
 use Rattle.mdns_history.specs.Sessions.{is_number}
 use Rattle.mdns_history.specs.Fitting.{is_boot}
 use Rattle.mdns_script.specs.declared.command.Command.{Command}
-use Rattle.mdns_script.specs.declared.command.Command.TheVariants.{Pass, Daemon, At, Attach, Event as Happening}
+use Rattle.mdns_script.specs.declared.command.Command.TheVariants.{Pass, Daemon, At, Word, Attach, Event as Happening}
 use Rattle.mdns_hub.specs.Played.{Played, Happens, Boots, RunsTo}
 
 -- whether a moment may be run to: it isn't past, it isn't after the last moment, and it is at most a day ahead
@@ -17,6 +17,7 @@ unfoldable pub is_ready_at : ℕ → Option ℕ → Command → Bool
 is_ready_at clock booted Pass = true
 is_ready_at clock booted (Daemon number config) = is_none booted && is_none config.host
 is_ready_at clock booted (At moment) = may_run_to clock moment
+is_ready_at clock booted (Word word) = true
 is_ready_at clock booted (Attach number) = is_number number booted
 is_ready_at clock booted (Happening number event) = is_number number booted && not (is_boot event)
 
@@ -29,6 +30,7 @@ abbrev pub Does : Command → Played → Played → Type 0
 Does Pass before after = after ≡ before
 Does (Daemon number config) before after = Boots number config before after
 Does (At moment) before after = RunsTo moment before after
+Does (Word word) before after = after ≡ record before { word = word }
 Does (Attach number) before after = Happens event.Attach before after
 Does (Happening number event) before after = Happens event before after
 

@@ -24,11 +24,13 @@ pub struct Booted {
     pub daemon: Daemon,
 }
 
-/// What a script runs on: the current moment in milliseconds, and the daemon where one was booted.
+/// What a script runs on: the current moment in milliseconds, the random word of the events to come, and the daemon where
+/// one was booted.
 #[derive(Drop)]
 pub struct Hub {
     alloc: Global,
     clock: u64,
+    word: u32,
     booted: Option<Booted>,
     ghost bound: { clock ≤ 2 ^ 53 },
     ghost behind: { ForSome booted (λ b. b.daemon.last ≤ clock) },
@@ -49,6 +51,7 @@ impl Hub {
         Hub {
             alloc,
             clock: 0,
+            word: 0,
             booted: None,
         }
     }
@@ -80,6 +83,7 @@ impl Hub {
             Command::Pass => true,
             Command::Daemon { config, .. } => self.booted.is_none() && config.host.is_none(),
             Command::At { moment } => self.may_run_to(*moment),
+            Command::Word { .. } => true,
             Command::Attach { daemon } => self.is_booted(*daemon),
             Command::Event { daemon, event } => self.is_booted(*daemon) && !is_boot(event),
         }
@@ -114,6 +118,10 @@ impl Hub {
             Command::Pass => Ok(()),
             Command::Daemon { number, config } => self.boot(number, config, output),
             Command::At { moment } => self.run_to(moment, output),
+            Command::Word { word } => {
+                self.word = word;
+                Ok(())
+            }
             Command::Attach { .. } => self.happen(Event::Attach, output),
             Command::Event { event, .. } => self.happen(event, output),
         }
@@ -128,7 +136,7 @@ impl Hub {
         ensures cause { HasWriteCause (K.faults output.old) (K.faults output.new) result }
         ensures ready { result ≡ Err HubError.NotYet → ⊥ }
     {
-        let (daemon, entry) = Daemon::new(self.alloc, config, self.clock, 0)?;
+        let (daemon, entry) = Daemon::new(self.alloc, config, self.clock, self.word)?;
         put_entry(self.alloc, number, &entry, output)?;
         self.booted = Some(Booted { number, daemon });
         Ok(())
@@ -149,6 +157,7 @@ impl Hub {
                     booted.number,
                     &mut booted.daemon,
                     self.clock,
+                    self.word,
                     moment,
                     output,
                 )?;
@@ -180,6 +189,7 @@ impl Hub {
             booted.number,
             &mut booted.daemon,
             self.clock,
+            self.word,
             event,
             output,
         )?;

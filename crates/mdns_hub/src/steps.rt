@@ -5,7 +5,7 @@ ghost use Rattle.mdns_history.specs.declared.entry.Entry.{Entry};
 ghost use Rattle.mdns_history.specs.EntryText.{entry_text, history_text};
 ghost use Rattle.mdns_core.specs.InForce.{in_force};
 ghost use Rattle.mdns_history.specs.Fitting.{Fits, is_boot};
-ghost use Rattle.mdns_core.specs.State.{Stands};
+ghost use Rattle.mdns_core.specs.State.{Stands, due_of};
 ghost use Rattle.mdns_hub.specs.Played.{IsAt, AreTicks, IsIdleUntil};
 ghost use Rattle.mdns_hub.specs.Output.{Gains, Fronts, HasWriteCause};
 
@@ -38,12 +38,13 @@ pub fn put_entry<K: Sink>(
     }
 }
 
-/// One event of the daemon at `now`, in milliseconds, and the print of its entry.
+/// One event of the daemon at `now`, in milliseconds, with a random word, and the print of its entry.
 pub fn step<K: Sink>(
     alloc: Global,
     number: u32,
     daemon: &mut Daemon,
     now: u64,
+    word: u32,
     event: Event,
     output: &mut K,
 ) -> Result<(), HubError>
@@ -52,16 +53,17 @@ pub fn step<K: Sink>(
     requires no_boot { is_boot event ≡ false }
 
     ensures done { OnOk result ((history : List Entry) → Stands daemon.old history
-        → (entry : Entry) × Fits in_force entry history × IsAt entry now event × Stands daemon.new (entry ∷ history)
+        → (entry : Entry) × Fits in_force entry history × IsAt entry now word event × Stands daemon.new (entry ∷ history)
         × Appends (K.held output.old) (K.held output.new) (entry_text number entry)) }
     ensures part { OnErr result ((history : List Entry) → Stands daemon.old history
-        → (K.held output.new ≡ K.held output.old) ⊎ ((entry : Entry) × Fits in_force entry history × IsAt entry now event
+        → (K.held output.new ≡ K.held output.old) ⊎ ((entry : Entry) × Fits in_force entry history × IsAt entry now word event
         × ((n : ℕ) × Appends (K.held output.old) (K.held output.new) (take n (entry_text number entry))))) }
     ensures last { OnOk result (daemon.new.last ≡ now) }
+    ensures ticked { OnOk result (event ≡ Event.Tick → IfSome (due_of daemon.new) (λ due. now < due)) }
     ensures cause { HasWriteCause (K.faults output.old) (K.faults output.new) result }
     ensures ready { result ≡ Err HubError.NotYet → ⊥ }
 {
-    let entry = entry_of::<Brand>(daemon, now, event, Blank::new(1))?;
+    let entry = entry_of::<Brand>(daemon, now, word, event, Blank::new(1))?;
     put_entry(alloc, number, &entry, output)?;
     Ok(())
 }
@@ -70,6 +72,7 @@ pub fn step<K: Sink>(
 fn entry_of<L: Ledger>(
     daemon: &mut Daemon,
     now: u64,
+    word: u32,
     event: Event,
     blank: Blank,
 ) -> Result<Entry, AllocError>
@@ -80,21 +83,23 @@ fn entry_of<L: Ledger>(
     requires bound { now ≤ 2 ^ 53 }
     requires no_boot { is_boot event ≡ false }
 
-    ensures is { IfOk result (λ entry. IsAt entry now event) }
+    ensures is { IfOk result (λ entry. IsAt entry now word event) }
     ensures fits { IfOk result (λ entry. (history : List Entry) → Stands daemon.old history
         → Fits in_force entry history × Stands daemon.new (entry ∷ history)) }
     ensures last { OnOk result (daemon.new.last ≡ now) }
+    ensures ticked { OnOk result (event ≡ Event.Tick → IfSome (due_of daemon.new) (λ due. now < due)) }
 {
     let mut steps: Steps<L> = Steps::new(blank);
-    daemon.step(now, 0, event, &mut steps)
+    daemon.step(now, word, event, &mut steps)
 }
 
-/// The ticks that are due up to `moment`, in milliseconds. One that was due before `clock` is done then.
+/// The ticks that are due up to `moment`, in milliseconds, each with the same random word. One that was due before `clock` is done then.
 pub fn tick_to<K: Sink>(
     alloc: Global,
     number: u32,
     daemon: &mut Daemon,
     clock: u64,
+    word: u32,
     moment: u64,
     output: &mut K,
 ) -> Result<(), HubError>
@@ -103,12 +108,12 @@ pub fn tick_to<K: Sink>(
     requires bound { moment ≤ 2 ^ 53 }
 
     ensures done { OnOk result ((history : List Entry) → Stands daemon.old history
-        → (ticks : List Entry) × AreTicks clock moment history ticks × IsIdleUntil moment (ticks ++ history)
+        → (ticks : List Entry) × AreTicks clock word moment history ticks × IsIdleUntil moment (ticks ++ history)
         × Stands daemon.new (ticks ++ history)
         × Gains (K.held output.old) (K.held output.new)
         (history_text number history) (history_text number (ticks ++ history))) }
     ensures part { OnErr result ((history : List Entry) → Stands daemon.old history
-        → (ticks : List Entry) × AreTicks clock moment history ticks
+        → (ticks : List Entry) × AreTicks clock word moment history ticks
         × Fronts (K.held output.old) (K.held output.new)
         (history_text number history) (history_text number (ticks ++ history))) }
     ensures last { OnOk result (daemon.new.last ≤ moment) }
@@ -119,7 +124,7 @@ pub fn tick_to<K: Sink>(
         if due > moment {
             return Ok(());
         }
-        step(alloc, number, daemon, due.max(clock), Event::Tick, output)?;
+        step(alloc, number, daemon, due.max(clock), word, Event::Tick, output)?;
     }
     Ok(())
 }

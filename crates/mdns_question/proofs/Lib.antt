@@ -6,3 +6,7 @@ pub mod Loops
 pub mod Told
 pub mod Earliest
 pub mod Following
+pub mod Lookups
+pub mod Order
+pub mod Activity
+pub mod Keeping

@@ -2,3 +2,6 @@ pub mod Contents
 pub mod Tracking
 pub mod Next
 pub mod Standing
+pub mod Lookups
+pub mod Order
+pub mod Keeping

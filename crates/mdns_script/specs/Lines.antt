@@ -89,6 +89,7 @@ command_of_words word rest =
     if bytes_eq word (codes "daemon") then daemon_command rest
     else if bytes_eq word (codes "open") then option_map (λ n. commands.Attach n) (daemon_of rest)
     else if bytes_eq word (codes "at") then option_map (λ n. commands.At n) (decimal_of rest)
+    else if bytes_eq word (codes "word") then option_map (λ w. commands.Word w) (decimal_below (2 ^ 32) rest)
     else if bytes_eq word (codes "call") then call_command rest
     else if bytes_eq word (codes "hear") then hear_command rest
     else if bytes_eq word (codes "close") then close_command rest

@@ -9,6 +9,8 @@ pub enum Command {
     Daemon { number: u32, config: Config },
     /// Runs all that is due up to a moment, in milliseconds.
     At { moment: u64 },
+    /// Gives every later event this random word.
+    Word { word: u32 },
     /// Attaches a session to a daemon.
     Attach { daemon: u32 },
     /// Lets an event happen to a daemon.

@@ -1,6 +1,6 @@
-ghost use Rattle.std.specs.Prelude.{◌≡◌, Ok, IfOk};
+ghost use Rattle.std.specs.Prelude.{◌≡◌, ◌^◌, Ok, IfOk};
 ghost use Rattle.std.specs.Option.{option_map};
-ghost use Rattle.mdns_base.specs.Digits.{decimal_of};
+ghost use Rattle.mdns_base.specs.Digits.{decimal_of, decimal_below};
 ghost use Rattle.mdns_script.specs.Lines.{line_of, is_read, first_of, is_known, command_of, command_of_words, daemon_command, close_command, take_command, max_of, hear_command, hear_words, call_command, call_words, daemon_of};
 
 use crate::requests::request;
@@ -93,6 +93,9 @@ fn command_of_words(alloc: Global, word: &[u8], rest: &[u8]) -> Result<Option<Co
     if is_same(word, b"at") {
         return Ok(at_command(rest));
     }
+    if is_same(word, b"word") {
+        return Ok(word_command(rest));
+    }
     if is_same(word, b"call") {
         return Ok(call_command(alloc, rest)?);
     }
@@ -119,6 +122,13 @@ fn daemon_command(text: &[u8]) -> Option<Command>
             host: None,
         },
     })
+}
+
+fn word_command(text: &[u8]) -> Option<Command>
+    ensures { result ≡ option_map (λ w. Command.Word w) (decimal_below (2 ^ 32) text.now) }
+{
+    let word = read_decimal_u32(text)?;
+    Some(Command::Word { word })
 }
 
 fn open_command(text: &[u8]) -> Option<Command>

@@ -1,3 +1,4 @@
 mod Taking
+mod Lawful
 mod Running
 mod Words

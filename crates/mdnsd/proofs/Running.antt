@@ -7,8 +7,11 @@ use Rattle.std.specs.Io.KnownBytes.{Appends}
 use Rattle.mdns_script.specs.Lines.{line_of}
 use Rattle.mdns_script.specs.declared.command.Line.{Line}
 use Rattle.mdns_script.specs.declared.command.Line.TheVariants.{Bad, NotYet, Command as CommandLine}
-use Rattle.mdns_core.specs.Replay.{ReplaysThroughout}
-use Rattle.mdns_core.proofs.Replaying.{replays}
+use Rattle.mdns_history.specs.declared.entry.Entry.{Entry}
+use Rattle.mdns_core.specs.InForce.{in_force}
+use Rattle.mdns_history.specs.Fitting.{IsLegal}
+use Rattle.mdns_history.specs.Replays.{IsReplayed, IsQueued}
+use Rattle.mdns_history.specs.Calls.{GoodCallsSucceed}
 use Rattle.mdns_hub.specs.declared.hub.Hub.{Hub}
 use Rattle.mdns_hub.specs.declared.hub.Booted.{Booted}
 use Rattle.mdns_hub.specs.Played.{Played, start, transcript}
@@ -19,7 +22,9 @@ use Rattle.mdnsd.specs.declared.stop.Stop.{Stop}
 use Rattle.mdnsd.specs.declared.stop.Stop.TheVariants as stop
 use Rattle.mdnsd.specs.Stops.{status_of}
 use Rattle.mdnsd.specs.Scripts.{lines_of, PlaysLine, PlaysAll, IsNotYet, note_text}
+use Rattle.mdnsd.specs.Histories.{AreServedThroughout, CallsSucceedThroughout}
 use Rattle.mdnsd.specs.Statuses.{ReadAll, PlaysScript, Stops, PlaysPartOfLine, MayPrint, BreaksOff}
+use Rattle.mdnsd.proofs.Lawful.{are_served, calls_succeed}
 use Rattle.mdnsd.specs.Lines.{RanLine, StopsAt, BreaksAt, TakesLine}
 
 -- The lines before the rest of a script were played, and their entries were put.
@@ -53,20 +58,22 @@ ran_next script rest line after number before next old mid new ran takes one =
       gains = gains_then old mid new [] (transcript ran.played) (transcript o.0) ran.gains o.3;
     }
 
--- what a hub stands for replays to its answers
-replays_of : (hub : Hub) (played : Played) → StandsFor hub played → ReplaysThroughout played.history
-replays_of hub played stands = at_booted hub.booted stands.booted
+-- what holds of every legal history, and of none, holds of what a hub stands for
+legal_or_none : (P : List Entry → Type 0) (hub : Hub) (played : Played) → StandsFor hub played → P [] → ((history : List Entry) → IsLegal in_force history → P history) → P played.history
+legal_or_none P hub played stands none holds = at_booted hub.booted stands.booted
   where
-    at_booted : (b : Option Booted) → BootedFor b played → ReplaysThroughout played.history
-    at_booted None h = subst (λ (l : List _). ReplaysThroughout l) (sym h.1) tt
-    at_booted (Some booted) h = replays played.history h.1.legal
+    at_booted : (b : Option Booted) → BootedFor b played → P played.history
+    at_booted None h = subst P (sym h.1) none
+    at_booted (Some booted) h = holds played.history h.1.legal
 
-pub ran_whole : (script rest : List ℕ) (number : ℕ) (hub : Hub) (old new : Option (List ℕ)) → Ran script rest number hub old new → lines_of rest ≡ [] → PlaysScript script old new
-ran_whole script rest number hub old new ran none = record {
+pub ran_whole : (script rest : List ℕ) (number : ℕ) (hub : Hub) (old new : Option (List ℕ)) → IsReplayed → IsQueued → GoodCallsSucceed
+    → Ran script rest number hub old new → lines_of rest ≡ [] → PlaysScript script old new
+ran_whole script rest number hub old new replayed queued succeed ran none = record {
   played = ran.played;
   plays = subst (λ (l : List (List ℕ)). PlaysAll start l ran.played) (sym (ran.lines ∙ ap (λ (l : List (List ℕ)). ran.done ++ l) none ∙ append-nil ran.done)) ran.plays;
   gains = ran.gains;
-  replays = replays_of hub ran.played ran.stands;
+  replays = legal_or_none (λ history. AreServedThroughout history) hub ran.played ran.stands tt (are_served replayed queued);
+  calls = legal_or_none (λ history. CallsSucceedThroughout history) hub ran.played ran.stands tt (calls_succeed succeed);
 }
 
 pub ran_stops : (script rest line after : List ℕ) (number : ℕ) (hub : Hub) (old mid new : Option (List ℕ)) (words : List ℕ) (is_cause : Played → List ℕ → Type 0)

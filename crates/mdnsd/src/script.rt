@@ -13,6 +13,7 @@ use crate::input::{ReadError, read_all};
 use crate::lines::next_line;
 use crate::stop::{NO_MEMORY, READ_FAULT, Stop, TOO_LARGE, status_of};
 use mdns_base::{Sink, Source, put_decimal};
+use mdns_history::{good_calls_succeed, items_replay};
 use mdns_hub::Hub;
 use mdns_script::{Line, read_line};
 use std::alloc::{AllocError, Global};
@@ -73,6 +74,9 @@ fn run_lines<K: Sink>(alloc: Global, script: &[u8], output: &mut K) -> Result<()
         rest = after;
         number += 1;
     }
+    // What was played is legal, and of every legal history these laws hold.
+    items_replay();
+    good_calls_succeed();
     Ok(())
 }
 

@@ -16,7 +16,7 @@ ticks-preserved g c = record {
   last = omega (arith, c.in_ok-step.ensures.last);
   ticked = λ history stands.
       let before = c.ticks.invariant.ticked history stands in
-      ticks_more (g.K.Sink.held c.args.output.now) (g.K.Sink.held c.ticks.output) (g.K.Sink.held c.step.new.output) c.args.clock c.args.moment c.in-Some.due c.max.result c.args.number
+      ticks_more (g.K.Sink.held c.args.output.now) (g.K.Sink.held c.ticks.output) (g.K.Sink.held c.step.new.output) c.args.clock c.args.word c.args.moment c.in-Some.due c.max.result c.args.number
       c.step.new.daemon history before.0 before.1 before.3 (c.in-Some.ensures.due (before.0 ++ history) before.2) (omega arith) c.max.ensures (c.in_ok-step.ensures.done (before.0 ++ history) before.2);
   later = omega (arith, c.in_ok-step.ensures.cause.later, c.ticks.invariant.later);
 }
@@ -24,5 +24,5 @@ ticks-preserved g c = record {
 pub returns-in_err-step-clause-part : goal.returns-in_err-step-clause-part
 returns-in_err-step-clause-part g c = on_err_from c.from_residual.result (λ history stands.
     let before = c.ticks.invariant.ticked history stands in
-    ticks_part (g.K.Sink.held c.args.output.now) (g.K.Sink.held c.ticks.output) (g.K.Sink.held c.step.new.output) c.args.clock c.args.moment c.in-Some.due c.max.result c.args.number
+    ticks_part (g.K.Sink.held c.args.output.now) (g.K.Sink.held c.ticks.output) (g.K.Sink.held c.step.new.output) c.args.clock c.args.word c.args.moment c.in-Some.due c.max.result c.args.number
     history before.0 before.1 before.3 (c.in-Some.ensures.due (before.0 ++ history) before.2) (omega arith) c.max.ensures (c.in_err-step.ensures.part (before.0 ++ history) before.2))

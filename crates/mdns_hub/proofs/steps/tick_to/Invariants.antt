@@ -1,7 +1,8 @@
 use Rattle.std.proofs.Common.{◌+◌, ◌-◌, ◌≤◌, ◌++◌, List}
 use Rattle.mdns_history.specs.declared.entry.Entry.{Entry}
 use Rattle.mdns_history.specs.EntryText.{history_text}
-use Rattle.mdns_core.specs.State.{Stands}
+use Rattle.std.specs.Option.{option_map_or}
+use Rattle.mdns_core.specs.State.{Stands, due_of}
 use Rattle.mdns_hub.specs.Played.{AreTicks}
 use Rattle.mdns_hub.specs.Output.{Gains}
 use Rattle.mdns_hub.proofs.steps.tick_to.Given as goal
@@ -10,10 +11,11 @@ abbrev pub invariant-ticks : goal.invariant-ticks
 invariant-ticks g l = record {
   last : l.daemon.last ≤ l.moment;
   ticked : (history : List Entry) → Stands l.fn.daemon history
-      → (ticks : List Entry) × AreTicks l.clock l.moment history ticks × Stands l.daemon (ticks ++ history)
+      → (ticks : List Entry) × AreTicks l.clock l.word l.moment history ticks × Stands l.daemon (ticks ++ history)
       × Gains (g.K.Sink.held l.fn.output) (g.K.Sink.held l.output) (history_text l.number history) (history_text l.number (ticks ++ history));
   later : g.K.Sink.faults l.fn.output ≤ g.K.Sink.faults l.output;
 }
 
+-- A tick makes the next due moment later, so the moments to come fall.
 abbrev pub decreases-ticks : goal.decreases-ticks
-decreases-ticks g l = l.moment + 1 - l.daemon.last
+decreases-ticks g l = option_map_or (λ due. l.moment + 1 - due) (due_of l.daemon) 0

@@ -18,10 +18,10 @@ returns-clause-done g c = λ played stands.
     let new = g.K.Sink.held c.put_entry.new.output in
     let number = c.args.number in
     let entry = c.in_ok-daemon.ensures.entry in
-    let next = boots old new c.args.self.now.clock number c.args.config c.in_ok-daemon.daemon played stands.clock booted.0 c.args.self.now.bound
+    let next = boots old new c.args.self.now.clock c.args.self.now.word number c.args.config c.in_ok-daemon.daemon played stands.clock stands.word booted.0 c.args.self.now.bound
     (subst (λ (e : Entry). Stands c.in_ok-daemon.daemon (e ∷ [])) entry c.in_ok-daemon.ensures.stands)
     (subst (λ (e : Entry). Appends old new (entry_text number e)) entry c.in_ok-put_entry.ensures.text) in
-    (next.0, next.1, record { clock = next.2; booted = (next.3, next.4) }, next.5)
+    (next.0, next.1, record { clock = next.2; word = next.3; booted = (next.4, next.5) }, next.6)
 
 pub returns-in_err-put_entry-clause-part : goal.returns-in_err-put_entry-clause-part
 returns-in_err-put_entry-clause-part g c = on_err_from c.from_residual-in_err-put_entry.result (λ played stands.
@@ -30,7 +30,7 @@ returns-in_err-put_entry-clause-part g c = on_err_from c.from_residual-in_err-pu
     let old = g.K.Sink.held c.args.output.now in
     let new = g.K.Sink.held c.put_entry.new.output in
     let number = c.args.number in
-    boots_part old new c.args.self.now.clock number c.args.config played stands.clock booted.0 c.args.self.now.bound
+    boots_part old new c.args.self.now.clock c.args.self.now.word number c.args.config played stands.clock stands.word booted.0 c.args.self.now.bound
     (subst (λ (e : Entry). (n : ℕ) × Appends old new (take n (entry_text number e))) c.in_ok-daemon.ensures.entry c.in_err-put_entry.ensures.part))
 
 pub returns-in_err-daemon-clause-part : goal.returns-in_err-daemon-clause-part

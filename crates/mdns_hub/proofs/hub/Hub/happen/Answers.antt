@@ -8,12 +8,12 @@ use Rattle.mdns_hub.proofs.hub.Hub.happen.Goals as goal
 pub returns-clause-done : goal.returns-clause-done
 returns-clause-done g c = λ played stands.
     let booted = subst (λ (b : Option Booted). BootedFor b played) (sym c.in-Some.ensures.value) stands.booted in
-    let next = happens (g.K.Sink.held c.args.output.now) (g.K.Sink.held c.step.new.output) c.args.self.now.clock c.in-Some.booted.number
-    c.in-Some.booted.daemon c.step.new.daemon c.args.event played stands.clock booted.0 booted.1 c.in_ok-step.ensures.done in
-    (next.0, next.1, record { clock = next.2; booted = (next.3, next.4) }, next.5)
+    let next = happens (g.K.Sink.held c.args.output.now) (g.K.Sink.held c.step.new.output) c.args.self.now.clock c.args.self.now.word c.in-Some.booted.number
+    c.in-Some.booted.daemon c.step.new.daemon c.args.event played stands.clock stands.word booted.0 booted.1 c.in_ok-step.ensures.done in
+    (next.0, next.1, record { clock = next.2; word = next.3; booted = (next.4, next.5) }, next.6)
 
 pub returns-in_err-step-clause-part : goal.returns-in_err-step-clause-part
 returns-in_err-step-clause-part g c = on_err_from c.from_residual.result (λ played stands.
     let booted = subst (λ (b : Option Booted). BootedFor b played) (sym c.in-Some.ensures.value) stands.booted in
-    happens_part (g.K.Sink.held c.args.output.now) (g.K.Sink.held c.step.new.output) c.args.self.now.clock c.in-Some.booted.number
-    c.in-Some.booted.daemon c.args.event played stands.clock booted.0 booted.1 c.in_err-step.ensures.part)
+    happens_part (g.K.Sink.held c.args.output.now) (g.K.Sink.held c.step.new.output) c.args.self.now.clock c.args.self.now.word c.in-Some.booted.number
+    c.in-Some.booted.daemon c.args.event played stands.clock stands.word booted.0 booted.1 c.in_err-step.ensures.part)

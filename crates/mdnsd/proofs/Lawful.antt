@@ -1,0 +1,30 @@
+-- What the laws of histories say of a legal one, at each of its moments.
+use Rattle.std.proofs.Common.{◌≡◌, List, [], ◌∷◌, ap, sym, ◌∙◌}
+use Rattle.mdns_history.specs.declared.entry.Entry.{Entry}
+use Rattle.mdns_core.specs.InForce.{in_force}
+use Rattle.mdns_history.specs.Fitting.{IsLegal}
+use Rattle.mdns_history.specs.Replays.{IsReplayed, IsQueued}
+use Rattle.mdns_history.specs.Calls.{GoodCallsSucceed}
+use Rattle.mdnsd.specs.Histories.{AreServedThroughout, CallsSucceedThroughout}
+
+pub are_served : IsReplayed → IsQueued → (history : List Entry) → IsLegal in_force history → AreServedThroughout history
+are_served replayed queued [] legal = tt
+are_served replayed queued (entry ∷ []) legal = (
+  λ session attached uncut. record {
+    replayed = replayed in_force (entry ∷ []) session legal attached uncut;
+    queued = queued in_force (entry ∷ []) session legal uncut;
+  },
+  tt,
+)
+are_served replayed queued (entry ∷ before ∷ past) legal = (
+  λ session attached uncut. record {
+    replayed = replayed in_force (entry ∷ before ∷ past) session legal attached uncut;
+    queued = queued in_force (entry ∷ before ∷ past) session legal uncut;
+  },
+  are_served replayed queued (before ∷ past) legal.1,
+)
+
+pub calls_succeed : GoodCallsSucceed → (history : List Entry) → IsLegal in_force history → CallsSucceedThroughout history
+calls_succeed law [] legal = tt
+calls_succeed law (entry ∷ []) legal = (λ session op request called good. let booted = sym (ap (λ e. e.event) legal.3) ∙ called in cc, tt)
+calls_succeed law (entry ∷ before ∷ past) legal = (λ session op request called good. law in_force entry (before ∷ past) session op request legal.0 called good, calls_succeed law (before ∷ past) legal.1)

@@ -1,0 +1,28 @@
+-- What holds of a history at each of its moments: of the items of its sessions, and of its calls.
+use Rattle.std.specs.Prelude.{◌≡◌, ℕ, true, false, List, [], ◌∷◌, ◌++◌, Some}
+use Rattle.sd_call.specs.Replay.{replay}
+use Rattle.sd_call.specs.declared.request.Request.{Request}
+use Rattle.mdns_history.specs.declared.event.Event.TheVariants as event
+use Rattle.mdns_history.specs.declared.entry.Entry.{Entry}
+use Rattle.mdns_history.specs.Sessions.{is_attached, is_cut}
+use Rattle.mdns_history.specs.Items.{session_items, taken_items, queue}
+use Rattle.mdns_history.specs.Replays.{answer_sets}
+use Rattle.mdns_history.specs.Calls.{is_good_call, good_outcome}
+
+-- A session's items, replayed, give exactly the answers of its operations, and they are those that it took and then those that are queued.
+pub record IsServed (session : ℕ) (history : List Entry) : Type 0 where
+  pub replayed : replay (session_items session history) ≡ Some (answer_sets session history)
+  pub queued : session_items session history ≡ taken_items session history ++ queue session history
+
+-- So it is, at every moment, of each session that is attached and not cut.
+abbrev pub AreServedThroughout : List Entry → Type 0
+AreServedThroughout [] = Unit {0}
+AreServedThroughout (entry ∷ past) =
+    ((session : ℕ) → is_attached session (entry ∷ past) ≡ true → is_cut session (entry ∷ past) ≡ false → IsServed session (entry ∷ past)) × AreServedThroughout past
+
+-- Every call that is as it should be succeeds, but exactly where its session was cut, a limit is reached, or the name is held.
+abbrev pub CallsSucceedThroughout : List Entry → Type 0
+CallsSucceedThroughout [] = Unit {0}
+CallsSucceedThroughout (entry ∷ past) =
+    ((session op : ℕ) (request : Request) → entry.event ≡ event.Call session op request → is_good_call session op request past ≡ true → entry.outcome ≡ good_outcome session request past)
+    × CallsSucceedThroughout past
