@@ -1,6 +1,6 @@
 -- What is kept stands for a history where each question is as the history says.
-use Rattle.std.proofs.Common.{◌≡◌, ℕ, Bool, true, false, cond, List, [], ◌∷◌, map, nat_lt, refl, ap, sym, subst, ◌∙◌, Option, Some, None}
-use Rattle.std.specs.List.{list_any, AllByRecursion}
+use Rattle.std.proofs.Common.{◌≡◌, Bool, true, false, cond, List, [], ◌∷◌, map, nat_lt, refl, ap, sym, subst, ◌∙◌, Option, Some, None}
+use Rattle.std.specs.List.{AllByRecursion}
 use Rattle.std.specs.Option.{option_map}
 use Rattle.dns_record.specs.declared.record.Key.{Key}
 use Rattle.dns_record.specs.Records.{key_eq}
@@ -10,7 +10,7 @@ use Rattle.mdns_history.specs.Questions.{begun_with}
 use Rattle.mdns_question.specs.declared.tracked.Tracked.{Tracked}
 use Rattle.mdns_question.specs.Contents.{Contents}
 use Rattle.mdns_question.specs.Tracking.{is_for, active_of}
-use Rattle.mdns_question.specs.Standing.{uses, IsTracked, Stands}
+use Rattle.mdns_question.specs.Standing.{IsTracked, Stands}
 use Rattle.mdns_question.specs.Lookups.{kept_of}
 use Rattle.mdns_question.specs.Order.{AreInOrder, active_at}
 use Rattle.mdns_question.specs.Keeping.{IsKept}
