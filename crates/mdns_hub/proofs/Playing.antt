@@ -8,10 +8,12 @@ use Rattle.mdns_history.specs.declared.event.Event.{Event}
 use Rattle.mdns_history.specs.declared.event.Event.TheVariants as event
 use Rattle.mdns_history.specs.declared.entry.Entry.{Entry}
 use Rattle.mdns_history.specs.EntryText.{entry_text, history_text}
-use Rattle.dns_message.specs.Packing.{pack_reply}
+use Rattle.dns_message.specs.Packing.{pack_query, pack_reply}
 use Rattle.mdns_history.specs.Hearings.{hearings}
 use Rattle.mdns_history.specs.Lifetimes.{live_of, live_records}
-use Rattle.mdns_history.specs.Sessions.{is_number, attached_sessions}
+use Rattle.mdns_history.specs.Sessions.{is_number, attached_sessions, operations}
+use Rattle.mdns_history.specs.Questions.{active_questions}
+use Rattle.mdns_history.specs.Asking.{tick_askings}
 use Rattle.mdns_history.specs.Groups.{groups, registered_count, registration_in}
 use Rattle.mdns_history.specs.Sureness.{sure_groups}
 use Rattle.mdns_history.specs.Items.{served_sessions, cut_marks, given_items}
@@ -182,7 +184,7 @@ runs_to_part old new clock word until number before played now given numbered st
 
 -- a tick before the boot does nothing
 idle_at_start : (moment : ℕ) → is_idle in_force [] moment ≡ true
-unfolding is_idle next_entry early_outcome in_force tick_sends sure_groups groups registered_count served_sessions attached_sessions cut_marks given_items live_records live_of hearings registration_in pack_reply
+unfolding is_idle next_entry early_outcome in_force tick_sends sure_groups groups registered_count served_sessions attached_sessions cut_marks given_items live_records live_of hearings registration_in pack_reply tick_askings active_questions operations pack_query
 idle_at_start moment = refl
 
 -- nothing is due before the boot
@@ -196,6 +198,11 @@ runs_to-none until played none = record {
   idle = record { due = None; next = subst (λ (h : List Entry). NextDue in_force h None) (sym none) never_due; over = tt };
   after_is = refl;
 }
+
+-- the word of the events to come changes nothing of the daemon
+pub with_word : (b : Option Booted) (played : Played) (word : ℕ) → BootedFor b played → BootedFor b (record played { word = word })
+with_word None played word h = h
+with_word (Some booted) played word h = h
 
 -- What is ready.
 

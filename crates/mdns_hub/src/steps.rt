@@ -1,5 +1,5 @@
 // Steps of one daemon, each with the print of its entry.
-ghost use Rattle.std.specs.Prelude.{ℕ, ◌≡◌, ◌⊎◌, ◌<◌, ◌≤◌, ◌^◌, ◌++◌, ◌∷◌, List, take, false, Err, IfOk, OnOk, OnErr};
+ghost use Rattle.std.specs.Prelude.{ℕ, ◌≡◌, ◌⊎◌, ◌<◌, ◌≤◌, ◌^◌, ◌++◌, ◌∷◌, List, take, false, Err, IfOk, IfSome, OnOk, OnErr};
 ghost use Rattle.std.specs.Io.KnownBytes.{Appends};
 ghost use Rattle.mdns_history.specs.declared.entry.Entry.{Entry};
 ghost use Rattle.mdns_history.specs.EntryText.{entry_text, history_text};
@@ -124,7 +124,15 @@ pub fn tick_to<K: Sink>(
         if due > moment {
             return Ok(());
         }
-        step(alloc, number, daemon, due.max(clock), word, Event::Tick, output)?;
+        step(
+            alloc,
+            number,
+            daemon,
+            due.max(clock),
+            word,
+            Event::Tick,
+            output,
+        )?;
     }
     Ok(())
 }

@@ -1,4 +1,9 @@
-use Rattle.mdns_hub.proofs.Playing.{ready_boot, ready_run, ready_attach, ready_event}
+use Rattle.std.proofs.Common.{refl, sym, subst}
+use Rattle.mdns_script.specs.declared.command.Command.{Command}
+use Rattle.mdns_hub.specs.Played.{Played, transcript}
+use Rattle.mdns_hub.specs.Plays.{Does}
+use Rattle.mdns_hub.proofs.Written.{gains_nothing}
+use Rattle.mdns_hub.proofs.Playing.{with_word, ready_boot, ready_run, ready_attach, ready_event}
 use Rattle.mdns_hub.proofs.hub.Hub.play.Goals as goal
 
 pub boot-requires-clause-free : goal.boot-requires-clause-free
@@ -18,3 +23,12 @@ happen-requires-in-Event-clause-some g c = (ready_event c.args.self.now c.args.c
 
 pub happen-requires-in-Event-clause-no_boot : goal.happen-requires-in-Event-clause-no_boot
 happen-requires-in-Event-clause-no_boot g c = (ready_event c.args.self.now c.args.command c.in-Event.daemon c.in-Event.event c.in-Event.is c.requires).1
+
+pub returns-in-Word-clause-done : goal.returns-in-Word-clause-done
+returns-in-Word-clause-done g c = λ played stands.
+    let next : Played = record played { word = c.in-Word.word } in (
+      next,
+      subst (λ (command : Command). Does command played next) (sym c.in-Word.is) refl,
+      record { clock = stands.clock; word = refl; booted = with_word c.args.self.now.booted played c.in-Word.word stands.booted },
+      gains_nothing (g.K.Sink.held c.args.output.now) (transcript played),
+    )
