@@ -62,7 +62,8 @@ const CUT_SHORT: &[u8] = &[0];
 // A moment in ms, what a daemon is told then, and what its entry prints below the line of the event.
 type Line = (u32, Told, &'static str);
 
-// A session from its opening to its end. An independent model of the daemon printed these lines.
+// A session from its opening to its end. An independent model of the daemon printed these lines, but for the asking at the last
+// tick. (RFC 6762 5.2)
 const STORY: [Line; 22] = [
     (0, Told::Open, " = opened 1\n"),
     (
