@@ -1,15 +1,14 @@
 -- Items put behind a queue one after another, and taken from it.
-use Rattle.std.proofs.Common.{◌≡◌, ◌↔◌, ℕ, zero, suc, ◌+◌, ◌<◌, ◌≤◌, Bool, true, false, List, [], ◌∷◌, ◌++◌, take, drop, length, reverse, Option, Some, None, Result, Ok, Err, refl, ap, ◌∙◌, sym, append_assoc, append-nil, arith, add-one, cond, is_ok, IsOk}
-use Rattle.std.specs.Prelude.{nat_lt, OnOk}
+use Rattle.std.proofs.Common.{◌≡◌, ◌↔◌, ℕ, zero, suc, ◌+◌, ◌<◌, ◌≤◌, true, false, List, [], ◌∷◌, ◌++◌, take, drop, Option, Some, None, Result, Ok, Err, refl, ap, ◌∙◌, sym, append_assoc, append-nil, arith, add-one, cond, is_ok, IsOk}
+use Rattle.std.specs.Prelude.{OnOk}
 use Rattle.std.specs.Option.{option_map}
 use Rattle.std.proofs.lemmas.Bool.{ltb-true, ltb-false}
 use Rattle.sd_call.specs.declared.item.Item.{Item}
-use Rattle.sd_call.specs.Answers.{frame_len, frames_len, queue_limit}
+use Rattle.sd_call.specs.Answers.{frame_len, frames_len}
 use Rattle.sd_outbox.specs.declared.outbox.AppendError.{AppendError}
 use Rattle.sd_outbox.specs.declared.outbox.AppendError.TheVariants.{Cut, NoMemory}
 use Rattle.sd_outbox.specs.declared.outbox.Taken.TheVariants.{One}
 use Rattle.sd_outbox.specs.Queues.{would_pass, with_item, first_of, rest_of}
-use Rattle.sd_outbox.proofs.Lengths.{frames_len_pushed}
 use Rattle.mdns_core.specs.Changes.{passes}
 use Rattle.mdns_core.specs.Kept.{queued, joined}
 

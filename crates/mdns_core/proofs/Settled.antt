@@ -4,12 +4,10 @@ use Rattle.dns_record.specs.declared.record.Rr.{Rr}
 use Rattle.sd_call.specs.declared.item.Item.{Item}
 use Rattle.mdns_history.specs.declared.event.Event.{Event}
 use Rattle.mdns_history.specs.declared.entry.Outcome.{Outcome}
-use Rattle.mdns_history.specs.Sessions.{accepted_call, detached, is_number}
-use Rattle.mdns_history.specs.Items.{reply_of}
+use Rattle.mdns_history.specs.Sessions.{detached, is_number}
 use Rattle.mdns_core.specs.declared.session.SessionState.{SessionState}
 use Rattle.mdns_core.specs.declared.change.SessionChange.{SessionChange}
 use Rattle.mdns_core.specs.State.{Session}
-use Rattle.mdns_core.specs.Changes.{passes}
 use Rattle.mdns_core.specs.Settling.{settled, all_settled, change_for, brought_to}
 use Rattle.mdns_core.specs.Kept.{queued, session_of, sessions_of, HaveRoom, IsFit, AreFit}
 use Rattle.sd_outbox.specs.Queues.{Queue}

@@ -1,5 +1,5 @@
 -- One element more in the loops that tell an asker of an event.
-use Rattle.std.proofs.Common.{◌≡◌, ℕ, ◌+◌, ◌<◌, Bool, true, false, cond, List, [], ◌∷◌, ◌++◌, drop, length, get_or, Option, Some, None, refl, ap, ◌∙◌, sym}
+use Rattle.std.proofs.Common.{◌≡◌, ℕ, ◌+◌, ◌<◌, Bool, true, false, cond, List, [], ◌∷◌, ◌++◌, drop, length, get_or, Some, refl, ap, ◌∙◌, sym}
 use Rattle.std.specs.Prelude.{filter}
 use Rattle.std.specs.List.{flat_map, find}
 use Rattle.dns_record.specs.declared.record.Key.{Key}

@@ -1,7 +1,7 @@
 -- How calls are answered, told of what is kept of a session on a daemon without a host.
-use Rattle.std.specs.Prelude.{ℕ, ℤ, ◌+◌, ◌^◌, ◌==◌, nat_le, Bool, true, false, not, ◌&&◌, ◌||◌, List, [], ◌∷◌, length, Option, Some, None, if◌then◌else◌}
+use Rattle.std.specs.Prelude.{ℕ, ℤ, ◌+◌, ◌==◌, nat_le, Bool, true, false, not, ◌&&◌, ◌||◌, List, length, Option, Some, None, if◌then◌else◌}
 use Rattle.std.specs.List.{find}
-use Rattle.std.specs.Option.{is_some, option_map_or}
+use Rattle.std.specs.Option.{is_some}
 use Rattle.dns_name.specs.Names.{is_under}
 use Rattle.sd_name.specs.ServiceTypes.{local_name}
 use Rattle.sd_call.specs.declared.request.Request.{Request}
@@ -14,7 +14,7 @@ use Rattle.mdns_history.specs.declared.entry.Outcome.TheVariants as outcome
 use Rattle.mdns_history.specs.declared.operation.Operation.{Operation}
 use Rattle.mdns_history.specs.Sessions.{has_op}
 use Rattle.mdns_history.specs.Outcomes.{most_sessions, most_operations, most_over_life}
-use Rattle.mdns_core.specs.State.{Session, State}
+use Rattle.mdns_core.specs.State.{Session}
 
 -- whether an operation of a number is there
 abbrev pub is_running : ℕ → List Operation → Bool

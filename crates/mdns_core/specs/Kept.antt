@@ -1,16 +1,10 @@
 -- What the daemon's own types mean.
-use Rattle.std.specs.Prelude.{◌≡◌, ℕ, ◌≤◌, ◌<◌, Bool, true, IsTrue, List, [], ◌∷◌, ◌++◌, map, length, Option, Some, None, is_none, vec_capacity}
+use Rattle.std.specs.Prelude.{◌≡◌, ◌≤◌, ◌<◌, true, IsTrue, List, [], ◌∷◌, ◌++◌, map, length, Option, Some, None, is_none}
 use Rattle.std.specs.List.{AllByRecursion}
 use Rattle.sd_call.specs.declared.item.Item.{Item}
 use Rattle.sd_call.specs.Requests.{well_formed}
-use Rattle.mdns_history.specs.declared.event.Event.{Event}
-use Rattle.mdns_history.specs.declared.held.Held.{Held}
-use Rattle.mdns_history.specs.declared.mark.Mark.{Mark}
 use Rattle.mdns_history.specs.declared.operation.Operation.{Operation}
-use Rattle.mdns_history.specs.Hearings.{Hearing}
-use Rattle.mdns_history.specs.Lifetimes.{room_for_records}
 use Rattle.mdns_history.specs.Sessions.{Accepted}
-use Rattle.mdns_cache.specs.Lifetimes.{Holds}
 use Rattle.mdns_question.specs.declared.tracked.Tracked.{Tracked}
 use Rattle.mdns_core.specs.declared.session.SessionState.{SessionState}
 use Rattle.mdns_core.specs.declared.change.SessionChange.{SessionChange}

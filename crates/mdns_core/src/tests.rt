@@ -46,11 +46,25 @@ const SECOND: &[u8] = &[
     120, 0, 4, 192, 0, 2, 2,
 ];
 
+// `a.local. 2 - A 192.0.2.1`
+const BRIEF: &[u8] = &[
+    0, 0, 132, 0, 0, 0, 0, 1, 0, 0, 0, 0, 1, 97, 5, 108, 111, 99, 97, 108, 0, 0, 1, 0, 1, 0, 0, 0,
+    2, 0, 4, 192, 0, 2, 1,
+];
+
+// Another host's query of type A of `a.local`, which lists nothing.
+const QUERY: &[u8] = &[
+    0, 0, 0, 0, 0, 1, 0, 0, 0, 0, 0, 0, 1, 97, 5, 108, 111, 99, 97, 108, 0, 0, 1, 0, 1,
+];
+
 const CUT_SHORT: &[u8] = &[0];
 
-// What a daemon is told at moments in ms, and what its entry prints below the line of the event. An independent model of the
-// daemon printed these lines.
-const STORY: [(u32, Told, &str); 22] = [
+// A moment in ms, what a daemon is told then, and what its entry prints below the line of the event.
+type Line = (u32, Told, &'static str);
+
+// A session from its opening to its end. An independent model of the daemon printed these lines, but for the asking at the last
+// tick. (RFC 6762 5.2)
+const STORY: [Line; 22] = [
     (0, Told::Open, " = opened 1\n"),
     (
         0,
@@ -115,7 +129,7 @@ const STORY: [(u32, Told, &str); 22] = [
     (
         121000,
         Told::Tick,
-        " < 1 rem 2 A 192.0.2.1\n < 1 rem 2 A 192.0.2.2\n",
+        " ! asked a.local. ANY series\n > all query 0\n  ? a.local. ANY\n < 1 rem 2 A 192.0.2.1\n < 1 rem 2 A 192.0.2.2\n",
     ),
     (
         121000,
@@ -125,6 +139,75 @@ const STORY: [(u32, Told, &str); 22] = [
     (121000, Told::Close(1), " = ended\n"),
     (121000, Told::Take(1, 5), " = closed\n"),
     (121000, Told::Close(1), " = closed\n"),
+];
+
+// A question in its series of askings, with the refreshes of a record of two seconds. (RFC 6762 5.2 and 7.1)
+const REFRESHES: [Line; 10] = [
+    (0, Told::Open, " = opened 1\n"),
+    (
+        0,
+        Told::Call(1, 1, Asked::Query(1, "a.local.")),
+        " < 1 reply 1 start 0\n = code 0\n",
+    ),
+    (
+        20,
+        Told::Tick,
+        " ! asked a.local. A series\n > all query 0\n  ? a.local. A\n",
+    ),
+    (1000, Told::Hear(BRIEF), " < 1 add 1 A 192.0.2.1\n"),
+    (
+        1020,
+        Told::Tick,
+        " ! asked a.local. A series\n > all query 0\n  ? a.local. A\n  a a.local. 2 - A 192.0.2.1\n",
+    ),
+    (
+        2600,
+        Told::Tick,
+        " ! asked a.local. A refresh\n > all query 0\n  ? a.local. A\n",
+    ),
+    (
+        2700,
+        Told::Tick,
+        " ! asked a.local. A refresh\n > all query 0\n  ? a.local. A\n",
+    ),
+    (
+        2800,
+        Told::Tick,
+        " ! asked a.local. A refresh\n > all query 0\n  ? a.local. A\n",
+    ),
+    (
+        2900,
+        Told::Tick,
+        " ! asked a.local. A refresh\n > all query 0\n  ? a.local. A\n",
+    ),
+    (3000, Told::Tick, " < 1 rem 1 A 192.0.2.1\n"),
+];
+
+// Another host's query is the third asking, so the next one is four seconds later. (RFC 6762 7.3)
+const HEARD: [Line; 7] = [
+    (0, Told::Open, " = opened 1\n"),
+    (
+        0,
+        Told::Call(1, 1, Asked::Query(1, "a.local.")),
+        " < 1 reply 1 start 0\n = code 0\n",
+    ),
+    (
+        20,
+        Told::Tick,
+        " ! asked a.local. A series\n > all query 0\n  ? a.local. A\n",
+    ),
+    (1000, Told::Hear(FIRST), " < 1 add 1 A 192.0.2.1\n"),
+    (
+        1020,
+        Told::Tick,
+        " ! asked a.local. A series\n > all query 0\n  ? a.local. A\n  a a.local. 120 - A 192.0.2.1\n",
+    ),
+    (2900, Told::Hear(QUERY), " ! asked a.local. A heard\n"),
+    (
+        6900,
+        Told::Tick,
+        " ! asked a.local. A series\n > all query 0\n  ? a.local. A\n  a a.local. 115 - A 192.0.2.1\n",
+    ),
 ];
 
 fn text(alloc: Global, string: &str) -> Result<Text, Fail> {
@@ -206,14 +289,14 @@ fn tell<L: Ledger>(
     Ok(daemon.step(u64::from(now), 0, event, steps)?)
 }
 
-fn play<L: Ledger>(rt: &impl Abort, alloc: Global, blank: Blank) -> Result<(), Fail>
+fn play<L: Ledger>(rt: &impl Abort, alloc: Global, story: &[Line], blank: Blank) -> Result<(), Fail>
     requires name { blank.name ≡ L.name }
     requires parts { blank.parts ≡ L.parts }
     requires some { 0 < L.parts }
 {
     let mut steps: Steps<L> = Steps::new(blank);
     let mut daemon = daemon(alloc)?;
-    for (now, told, lines) in &STORY {
+    for (now, told, lines) in story {
         let entry = tell(&mut daemon, &mut steps, *now, event(alloc, told)?)?;
         let printed = print_entry(alloc, 1, &entry)?;
         let below = printed.as_slice().iter().position(|byte| *byte == b'\n');
@@ -230,7 +313,17 @@ fn play<L: Ledger>(rt: &impl Abort, alloc: Global, blank: Blank) -> Result<(), F
 
 #[test]
 fn entries_are_those_of_the_model(rt: HostRuntime) -> Result<(), Fail> {
-    play::<Brand>(&rt, rt.alloc(), Blank::new(1))
+    play::<Brand>(&rt, rt.alloc(), &STORY, Blank::new(1))
+}
+
+#[test]
+fn what_is_due_is_asked(rt: HostRuntime) -> Result<(), Fail> {
+    play::<Brand>(&rt, rt.alloc(), &REFRESHES, Blank::new(1))
+}
+
+#[test]
+fn a_query_that_is_heard_stands_for_an_asking(rt: HostRuntime) -> Result<(), Fail> {
+    play::<Brand>(&rt, rt.alloc(), &HEARD, Blank::new(1))
 }
 
 const TXT: u16 = 16;
@@ -360,7 +453,7 @@ fn limits<L: Ledger>(rt: &impl Abort, alloc: Global, blank: Blank) -> Result<(),
             "{op}"
         );
     }
-    assert_eq!(rt; daemon.next_due(), None);
+    assert_eq!(rt; daemon.next_due(), Some(20));
     Ok(())
 }
 

@@ -1,7 +1,6 @@
-use Rattle.std.proofs.Common.{◌≡◌, ◌+◌, ◌||◌, ◌∙◌, Bool, List, [], cond, ltb, ap, subst, sym}
+use Rattle.std.proofs.Common.{◌≡◌, ◌+◌, ◌||◌, ◌∙◌, List, [], cond, ltb, ap, subst, sym}
 use Rattle.std.specs.Prelude.{is_none}
 use Rattle.std.specs.Option.{unwrap_or}
-use Rattle.sd_call.specs.declared.item.Item.{Item}
 use Rattle.sd_call.specs.Answers.{frames_len}
 use Rattle.mdns_history.specs.declared.operation.Operation.{Operation}
 use Rattle.mdns_history.specs.Sessions.{accepted_call, detached, is_number}

@@ -1,6 +1,5 @@
-use Rattle.std.proofs.Common.{◌≡◌, ◌+◌, ◌≤◌, arith}
+use Rattle.std.proofs.Common.{◌+◌, arith}
 use Rattle.std.proofs.lemmas.Bool.Decides.{nat_tests}
-use Rattle.sd_call.specs.Answers.{frame_len, frames_len}
 use Rattle.mdns_core.proofs.FrameSums.{frames_next, frames_within}
 use Rattle.mdns_core.proofs.change.passes.Goals as goal
 

@@ -1,4 +1,4 @@
-use Rattle.std.proofs.Common.{◌≡◌, ◌+◌, ◌-◌, ◌≤◌, take}
+use Rattle.std.proofs.Common.{◌≡◌, ◌+◌, ◌-◌, take}
 use Rattle.sd_call.specs.Answers.{frames_len}
 use Rattle.mdns_core.proofs.change.passes.Given as goal
 

@@ -1,11 +1,8 @@
-use Rattle.std.proofs.Common.{◌≡◌, ◌≢◌, List, [], ◌∷◌, length, Some, IfOk, true, ap, sym, subst, ◌∙◌}
-use Rattle.dns_message.specs.declared.message.MessageError.TheVariants as error
-use Rattle.dns_message.specs.Reading.{fault, fault_number, spelled}
-use Rattle.sd_answer.specs.Laws.{have_data}
+use Rattle.std.proofs.Common.{List, [], ◌∷◌, sym, subst}
+use Rattle.dns_message.specs.Reading.{fault_number}
 use Rattle.mdns_history.specs.declared.mark.Mark.{Mark}
 use Rattle.mdns_history.specs.declared.mark.Mark.TheVariants as mark
 use Rattle.mdns_history.specs.declared.event.Event.TheVariants as event
-use Rattle.mdns_history.specs.Hearings.{Hearing, counted, counted_records}
 use Rattle.mdns_cache.specs.Contents.{Contents}
 use Rattle.mdns_cache.specs.Lifetimes.{AllLive, AllHeard}
 use Rattle.mdns_core.specs.Next.{AreHeard, IsHeard}

@@ -1,5 +1,4 @@
 use Rattle.std.proofs.Common.{◌≡◌, ◌++◌, ◌∙◌, List, sym, ap, subst, map, append_assoc}
-use Rattle.std.specs.List.{flat_map}
 use Rattle.std.specs.List.Sorted.{IsSorted}
 use Rattle.dns_name.specs.Lists.{without}
 use Rattle.sd_call.specs.declared.answer.Answer.{Answer}

@@ -1,4 +1,4 @@
-use Rattle.std.proofs.Common.{◌≡◌, ◌∙◌, ◌+◌, Bool, List, Some, cond, drop, ap, sym, eq-eqb}
+use Rattle.std.proofs.Common.{◌∙◌, ◌+◌, Bool, List, Some, cond, drop, ap, sym, eq-eqb}
 use Rattle.std.specs.List.{find}
 use Rattle.mdns_core.specs.declared.session.SessionState.{SessionState}
 use Rattle.mdns_core.specs.Codes.{has_number}

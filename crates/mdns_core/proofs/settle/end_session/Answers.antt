@@ -1,4 +1,4 @@
-use Rattle.std.proofs.Common.{◌≡◌, ◌∙◌, Bool, not, ap, sym, rules}
+use Rattle.std.proofs.Common.{◌∙◌, Bool, not, ap, sym, rules}
 use Rattle.std.proofs.lemmas.Fn.{filter_same}
 use Rattle.mdns_history.specs.Sessions.{detached, is_number}
 use Rattle.mdns_core.specs.declared.session.SessionState.{SessionState}

@@ -1,6 +1,5 @@
-use Rattle.std.proofs.Common.{◌≡◌, ◌<◌, ◌∙◌, length, get_or, ap, arith}
+use Rattle.std.proofs.Common.{◌∙◌, length, get_or, ap, arith}
 use Rattle.mdns_core.specs.declared.session.SessionState.{SessionState}
-use Rattle.mdns_core.specs.Kept.{session_of}
 use Rattle.mdns_core.proofs.Settled.{with_room, same-set, room-next-at}
 use Rattle.mdns_core.proofs.settle.make_room.Goals as goal
 

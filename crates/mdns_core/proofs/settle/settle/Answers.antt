@@ -1,5 +1,4 @@
-use Rattle.std.proofs.Common.{◌≡◌, ◌<◌, ◌≤◌, ◌++◌, ◌∙◌, length, [], ◌∷◌, ap, sym, arith}
-use Rattle.mdns_core.specs.declared.change.SessionChange.{SessionChange}
+use Rattle.std.proofs.Common.{◌≡◌, ◌∙◌, [], ap, sym, arith}
 use Rattle.mdns_core.specs.Settling.{all_settled}
 use Rattle.mdns_core.specs.Kept.{sessions_of}
 use Rattle.std.proofs.lemmas.List.{length-set}

@@ -1,5 +1,4 @@
-use Rattle.std.proofs.Common.{◌≡◌, ◌∙◌, get_or, ap, sym}
-use Rattle.mdns_core.specs.declared.session.SessionState.{SessionState}
+use Rattle.std.proofs.Common.{◌∙◌, ap, sym}
 use Rattle.mdns_core.specs.Next.{handed_to}
 use Rattle.mdns_core.proofs.Found.{found-at, missed-at}
 use Rattle.mdns_core.proofs.settle.take_from.Goals as goal

@@ -1,4 +1,4 @@
-use Rattle.std.proofs.Common.{◌≡◌, ◌++◌, ◌∙◌, List, [], ◌∷◌, ap, sym, arith}
+use Rattle.std.proofs.Common.{◌++◌, ◌∙◌, List, [], ◌∷◌, ap, sym, arith}
 use Rattle.sd_call.specs.declared.item.Item.{Item}
 use Rattle.sd_outbox.specs.Queues.{first_of, rest_of}
 use Rattle.mdns_core.proofs.Queued.{take-next-of, if_ok}

@@ -1,4 +1,4 @@
-use Rattle.std.proofs.Common.{◌≡◌, ◌∙◌, Bool, Option, Some, None, List, ap, sym, refl}
+use Rattle.std.proofs.Common.{◌≡◌, ◌∙◌, Option, Some, None, List, ap, refl}
 use Rattle.std.specs.List.{find}
 use Rattle.std.specs.Option.{is_some, option_map, option_copied}
 use Rattle.mdns_core.specs.declared.session.SessionState.{SessionState}

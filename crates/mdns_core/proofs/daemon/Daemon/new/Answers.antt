@@ -1,4 +1,4 @@
-use Rattle.std.proofs.Common.{◌≡◌, [], ◌∷◌, ◌∙◌, List, ap, subst, sym}
+use Rattle.std.proofs.Common.{◌≡◌, [], ◌∷◌, List, subst, sym}
 use Rattle.mdns_history.specs.declared.held.Held.{Held}
 use Rattle.mdns_history.specs.declared.mark.Mark.{Mark}
 use Rattle.mdns_history.specs.declared.entry.Sent.{Sent}
@@ -7,7 +7,7 @@ use Rattle.mdns_history.specs.declared.entry.Outcome.TheVariants as outcome
 use Rattle.mdns_history.specs.declared.event.Event.TheVariants as event
 use Rattle.mdns_question.specs.declared.tracked.Tracked.{Tracked}
 use Rattle.mdns_core.specs.declared.session.SessionState.{SessionState}
-use Rattle.mdns_core.specs.State.{Session, State, Stands}
+use Rattle.mdns_core.specs.State.{Stands}
 use Rattle.mdns_core.specs.Kept.{sessions_of}
 use Rattle.mdns_core.proofs.Standing.{stands-boot}
 use Rattle.mdns_core.proofs.Carried.{told, kept}

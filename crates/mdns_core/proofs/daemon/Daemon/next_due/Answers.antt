@@ -1,4 +1,4 @@
-use Rattle.std.proofs.Common.{◌≡◌, ◌∙◌, ◌++◌, max, List, map, Option, Some, ap, subst, sym, arith}
+use Rattle.std.proofs.Common.{◌≡◌, ◌∙◌, ◌++◌, max, List, map, Option, ap, subst, sym}
 use Rattle.std.specs.Prelude.{ℕ}
 use Rattle.std.specs.Option.{option_map}
 use Rattle.dns_name.specs.Lists.{least}
@@ -6,10 +6,8 @@ use Rattle.mdns_core.specs.InForce.{in_force}
 use Rattle.mdns_history.specs.Due.{NextDue}
 use Rattle.mdns_history.specs.declared.held.Held.{Held}
 use Rattle.mdns_question.specs.Next.{next_of}
-use Rattle.mdns_core.specs.State.{State, due_of}
-use Rattle.mdns_core.specs.Kept.{sessions_of}
+use Rattle.mdns_core.specs.State.{due_of}
 use Rattle.mdns_core.proofs.Standing.{due-stands}
-use Rattle.mdns_core.proofs.Carried.{kept}
 use Rattle.mdns_core.proofs.daemon.Daemon.next_due.Goals as goal
 
 pub returns-clause-value : goal.returns-clause-value
