@@ -83,10 +83,7 @@ const ROWS: [(&str, &str); 15] = [
 6000 < 1 rem 1 A 192.0.2.1
 ",
     ),
-    (
-        "at 1000\nhear 1 <goodbye>\nat 9000\n",
-        "",
-    ),
+    ("at 1000\nhear 1 <goodbye>\nat 9000\n", ""),
     // A second goodbye changes nothing, a renewal takes it back.
     (
         "at 1000\nhear 1 <first>\nat 5000\nhear 1 <goodbye>\nat 5500\nhear 1 <goodbye>\nat 9000\n",
@@ -143,10 +140,7 @@ const ROWS: [(&str, &str); 15] = [
         "1000 < 1 add 1 A 192.0.2.1
 ",
     ),
-    (
-        "at 1000\nhear 1 <elsewhere>\n",
-        "",
-    ),
+    ("at 1000\nhear 1 <elsewhere>\n", ""),
     // Items are taken once, and none of a session that was closed.
     (
         "take 1 1 5\ntake 1 1 5\nclose 1 1\ntake 1 1 5\nclose 1 1\n",
@@ -223,11 +217,7 @@ fn expect_lines(
 }
 
 // The lines of a transcript that begin so, each behind the moment of its entry.
-fn lines_with(
-    alloc: Global,
-    transcript: &str,
-    beginnings: &[&str],
-) -> Result<String, AllocError> {
+fn lines_with(alloc: Global, transcript: &str, beginnings: &[&str]) -> Result<String, AllocError> {
     let mut found = String::new(alloc);
     let mut moment = "";
     for line in transcript.lines() {
