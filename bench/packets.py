@@ -8,9 +8,8 @@ its sections as a dissector reads them. PROGRAM is crates/mdnsd/out/mdnsd where 
 gate.
 
 Of each packet the account tells what our reader makes of it: records of type OPT or of another class than IN are passed
-over; a response from port 5353 without opcode and response code is heard. Where a record that is heard has the flush bit or
-TTL 0 the line is not built yet, so the packet is heard a second time from port 5354, where a response counts as ignored:
-there the program reads or refuses every packet. What is heard is asked for by ANY at each of its names.
+over; a response from port 5353 without opcode and response code is heard. What is heard is asked for by ANY at each of its
+names under local: its records with a TTL above 0 are answers, each once, and are gone when the last of them ends.
 """
 import json
 import os
@@ -45,23 +44,16 @@ def heard(decoded):
 def main():
     packets = [json.loads(line) for line in open(sys.argv[1])]
     accounts = [json.loads(line) for line in open(sys.argv[2])]
-    counts = {"read": 0, "heard": 0, "not built": 0, "records": 0, "wrong": 0}
+    counts = {"read": 0, "heard": 0, "records": 0, "wrong": 0}
     for packet, account in zip(packets, accounts):
-        hear = f"hear 1 {packet['src_ip']} {{}} {packet['hex']}"
-        status, text = run(["daemon 1", hear.format(5354)])
-        refused = status != 0 or " ! " in text
-        counts["read"] += not refused
-        wrong = refused
+        hear = f"hear 1 {packet['src_ip']} {packet['src_port']} {packet['hex']}"
+        status, text = run(["daemon 1", hear])
+        wrong = status != 0 or " ! " in text
+        counts["read"] += not wrong
         records = heard(account) if packet["src_port"] == 5353 else None
-        status, text = run(["daemon 1", hear.format(packet["src_port"])])
-        if records and any(r["flush"] or r["ttl"] == 0 for r in records):
-            counts["not built"] += 1
-            wrong |= status != 7 or not text.endswith("not yet line 2\n")
-        else:
-            wrong |= status != 0 or " ! " in text
-        if records and not any(r["flush"] or r["ttl"] == 0 for r in records):
+        if records:
             counts["heard"] += 1
-            wrong |= not answers_agree(hear.format(packet["src_port"]), records, counts)
+            wrong |= not answers_agree(hear, records, counts)
         if wrong:
             counts["wrong"] += 1
             print("wrong:", account.get("scenario"), account.get("n"), status, text[-200:])
@@ -70,9 +62,12 @@ def main():
 
 
 def answers_agree(hear, records, counts):
-    """Whether each name's records answer ANY, as many as the account lists, and end when the account says."""
+    """Whether each name's records answer ANY, as many as the account lists, and are gone when the last of them ends."""
     for name in {folded(r["name"]) for r in records}:
+        if name != "local" and not name.endswith(".local"):
+            continue  # the daemon asks for nothing elsewhere
         own = [r for r in records if folded(r["name"]) == name]
+        live = {(r["type"], json.dumps(r.get("rdata", r), sort_keys=True)) for r in own if r["ttl"] > 0}
         asked = ["daemon 1", "open 1", "call 1 1 1 query ANY " + name.replace(" ", "\\032"), hear]
         status, text = run(asked)
         added = [line for line in text.splitlines() if line.startswith(" < 1 add 1 ")]
@@ -80,7 +75,7 @@ def answers_agree(hear, records, counts):
         last = max(r["ttl"] for r in own) * 1000
         end, tail = run(asked + [f"at {last}"])
         removed = [line for line in tail.splitlines() if line.startswith(" < 1 rem 1 ")]
-        if status != 0 or end != 0 or len(added) != len(own) or len(removed) != len(own):
+        if status != 0 or end != 0 or len(added) != len(live) or len(removed) != len(live):
             return False
     return True
 
