@@ -1,9 +1,8 @@
 -- Data as they are written behind names are read again, and the names after them are a table.
 use Rattle.std.proofs.Common.{◌≡◌, ℕ, ◌+◌, ◌<◌, ◌≤◌, ◌^◌, ◌++◌, ◌&&◌, not, List, true, false, length, refl, arith, Ok, eqb}
 use Rattle.std.specs.Prelude.{IsTrue}
-use Rattle.std.proofs.lemmas.Bool.{ltb-true}
+use Rattle.std.proofs.lemmas.Bool.{ltb-true, and_parts}
 use Rattle.dns_name.specs.Names.{wire_of, is_name}
-use Rattle.dns_name.proofs.Wire.{both}
 use Rattle.dns_record.specs.Records.{kind_of, data_of, is_typed, has_raw_form, is_rdata}
 use Rattle.dns_record.specs.declared.record.Rdata.{Rdata}
 use Rattle.dns_record.specs.declared.record.Rdata.TheVariants.{A, Aaaa, Ptr, Cname, Srv, Txt, Nsec, Raw}
@@ -24,7 +23,7 @@ pub below : (bits n : ℕ) → is_below bits n ≡ true → n < 2 ^ bits
 below bits n h = ltb-true n (2 ^ bits) h
 
 pub spellable_name : (name : List (List ℕ)) → is_spellable_name name ≡ true → IsTrue (is_name name)
-spellable_name name h = (both (is_name name) _ h).0
+spellable_name name h = (and_parts (is_name name) _ h).0
 
 -- data without compressed names
 plain_read : (bytes : List ℕ) (at : ℕ) (names : Offsets) (rdata : Rdata) (raw : List ℕ) → IsTable bytes names at
@@ -34,14 +33,14 @@ plain_read bytes at names rdata raw t e = record { read = e; table = raised byte
 srv_read : (bytes : List ℕ) (at priority weight port : ℕ) (target : List (List ℕ)) → is_spellable_data (Srv priority weight port target) ≡ true
     → Stands bytes at (data_of (Srv priority weight port target)) → rdata_at bytes 33 at (at + length (data_of (Srv priority weight port target))) ≡ Ok (Srv priority weight port target)
 srv_read bytes at priority weight port target h s =
-    let h1 = both ((is_below 16 priority && is_below 16 weight) && is_below 16 port) (is_spellable_name target) h in
-    let h2 = both (is_below 16 priority && is_below 16 weight) (is_below 16 port) h1.0 in
-    let h3 = both (is_below 16 priority) (is_below 16 weight) h2.0 in
+    let h1 = and_parts ((is_below 16 priority && is_below 16 weight) && is_below 16 port) (is_spellable_name target) h in
+    let h2 = and_parts (is_below 16 priority && is_below 16 weight) (is_below 16 port) h1.0 in
+    let h3 = and_parts (is_below 16 priority) (is_below 16 weight) h2.0 in
     srv_again bytes at (at + length (data_of (Srv priority weight port target))) priority weight port target (below 16 priority h3.0) (below 16 weight h3.1) (below 16 port h2.1)
     (spellable_name target h1.1) (omega arith) s
 
 raw_read : (bytes raw : List ℕ) (at kind : ℕ) → is_spellable_data (Raw kind raw) ≡ true → Stands bytes at raw → rdata_at bytes kind at (at + length raw) ≡ Ok (Raw kind raw)
-raw_read bytes raw at kind h s = raw_again bytes raw at (at + length raw) kind (both (is_below 16 kind && are_bytes raw) (is_rdata (Raw kind raw)) h).1 refl s
+raw_read bytes raw at kind h s = raw_again bytes raw at (at + length raw) kind (and_parts (is_below 16 kind && are_bytes raw) (is_rdata (Raw kind raw)) h).1 refl s
 
 named_read : (bytes : List ℕ) (at : ℕ) (rdata : Rdata) (name : List (List ℕ)) (piece : Piece) → IsNameRead bytes at name piece
     → rdata_at bytes (kind_of rdata) at (at + length piece.bytes) ≡ Ok rdata → IsDataRead bytes at rdata piece
@@ -63,7 +62,7 @@ data_read bytes at names (Srv priority weight port target) few h t s =
 data_read bytes at names (Txt text) few h t s = plain_read bytes at names (Txt text) text t (txt_again bytes at (at + length text) text refl s)
 data_read bytes at names (Nsec next bitmap) few h t s =
     plain_read bytes at names (Nsec next bitmap) (wire_of next ++ bitmap) t
-    (nsec_again bytes at (at + length (wire_of next ++ bitmap)) next bitmap (spellable_name next (both (is_spellable_name next) (are_bytes bitmap) h).0) refl s)
+    (nsec_again bytes at (at + length (wire_of next ++ bitmap)) next bitmap (spellable_name next (and_parts (is_spellable_name next) (are_bytes bitmap) h).0) refl s)
 data_read bytes at names (Raw kind raw) few h t s = plain_read bytes at names (Raw kind raw) raw t (raw_read bytes raw at kind h s)
 
 -- the type of spellable data has two bytes, and isn't OPT
@@ -81,7 +80,7 @@ kind_is (Srv priority weight port target) h = record { small = omega arith; kept
 kind_is (Txt text) h = record { small = omega arith; kept = refl }
 kind_is (Nsec next bitmap) h = record { small = omega arith; kept = refl }
 kind_is (Raw kind raw) h =
-    let h1 = both (is_below 16 kind && are_bytes raw) (is_rdata (Raw kind raw)) h in
-    let h2 = both (is_below 16 kind) (are_bytes raw) h1.0 in
-    let h3 = both (not (is_typed kind)) (has_raw_form kind raw) h1.1 in
+    let h1 = and_parts (is_below 16 kind && are_bytes raw) (is_rdata (Raw kind raw)) h in
+    let h2 = and_parts (is_below 16 kind) (are_bytes raw) h1.0 in
+    let h3 = and_parts (not (is_typed kind)) (has_raw_form kind raw) h1.1 in
     record { small = below 16 kind h2.0; kept = (untyped kind h3.0).opt }

@@ -2,16 +2,17 @@
 use Rattle.std.proofs.Common.{◌≡◌, ℕ, suc, ◌+◌, ◌-◌, ◌<◌, ◌≤◌, ◌++◌, List, [], ◌∷◌, ◌∙◌, true, false, length, take, drop, get_or, refl, arith, ap, sym, subst, append_assoc, length-append, length-take, length-drop, Some, None}
 use Rattle.std.proofs.Math.Seq.{take-append_seam, drop-append_seam, drop-cons}
 use Rattle.std.proofs.lemmas.List.{nil_from_length}
+use Rattle.std.proofs.lemmas.Bool.{and_parts}
 use Rattle.std.specs.Prelude.{IsTrue}
 use Rattle.dns_name.specs.Names.{wire_of, labels_of, is_label, is_name, exact_eq, IsNameInWire}
-use Rattle.dns_name.proofs.Wire.{both, name_each, name_short, name_is, in_wire, wire_some}
+use Rattle.dns_name.proofs.Wire.{name_each, name_short, name_is, in_wire, wire_some}
 use Rattle.dns_message.specs.Writing.{Offsets, Piece, onto, offset_of, written_name}
 use Rattle.dns_message.specs.Compressing.{IsCut, pointer_bytes}
 
 -- what a name in wire form holds besides its first label
 rest_is_name : (label : List ℕ) (name : List (List ℕ)) → IsTrue (is_name (label ∷ name)) → IsTrue (is_name name)
 rest_is_name label name h =
-    name_is name (both (is_label label) _ (name_each (label ∷ name) h)).1
+    name_is name (and_parts (is_label label) _ (name_each (label ∷ name) h)).1
     (omega (arith, name_short (label ∷ name) h, length-append label (wire_of name)))
 
 -- the first label and the rest

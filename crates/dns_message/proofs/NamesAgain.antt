@@ -1,8 +1,9 @@
 -- A name that is written is read again.
 use Rattle.std.proofs.Common.{◌≡◌, ◌⊎◌, inl, inr, ⊎_elim, ℕ, zero, suc, ◌+◌, ◌<◌, ◌≤◌, ◌++◌, List, [], ◌∷◌, true, length, refl, arith, sym, subst, length-append, Option, Some, None}
+use Rattle.std.proofs.lemmas.Bool.{and_parts}
 use Rattle.std.specs.List.{list_all}
 use Rattle.dns_name.specs.Names.{wire_of, is_label}
-use Rattle.dns_name.proofs.Wire.{both, wire_some}
+use Rattle.dns_name.proofs.Wire.{wire_some}
 use Rattle.dns_message.specs.Writing.{Offsets, Piece, onto, offset_of, pointer_to, pointer_or, written_name}
 use Rattle.dns_message.proofs.Standing.{Stands, within, first_part, last_part, moved}
 use Rattle.dns_message.proofs.LabelSteps.{end_step, label_step, pointer_step}
@@ -98,7 +99,7 @@ pub name_again : (bytes : List ℕ) (low at : ℕ) (names : Offsets) (name : Lis
 unfolding written_name
 name_again bytes low at names [] few h labels t s = again_end bytes low at names s
 name_again bytes low at names (label ∷ rest) few h labels t s =
-    let l = both (is_label label) (list_all is_label rest) labels in
+    let l = and_parts (is_label label) (list_all is_label rest) labels in
     let longer : length rest < length (label ∷ rest) = omega arith in
     let fewer : length rest ≤ length (label ∷ rest) = omega arith in
     let table = pushed_longer bytes names low (length rest) (label ∷ rest) at longer (of_fewer bytes names low (length (label ∷ rest)) (length rest) fewer t) in

@@ -2,9 +2,9 @@
 use Rattle.std.proofs.Common.{◌≡◌, ⊎_elim, ℕ, ◌+◌, ◌*◌, ◌≤◌, ◌++◌, List, [], ◌∷◌, true, length, refl, arith, length-append, Ok, eq-eqb}
 use Rattle.std.specs.List.{list_all}
 use Rattle.std.specs.Prelude.{IsTrue}
-use Rattle.std.proofs.lemmas.Bool.{le-leb}
+use Rattle.std.proofs.lemmas.Bool.{le-leb, and_parts}
 use Rattle.dns_name.specs.Names.{wire_of, is_label, is_name}
-use Rattle.dns_name.proofs.Wire.{both, label_some, name_each, name_short}
+use Rattle.dns_name.proofs.Wire.{label_some, name_each, name_short}
 use Rattle.dns_message.specs.Reading.{name_at, name_within, name_up_to}
 use Rattle.dns_message.specs.Writing.{Offsets, Piece, written_name}
 use Rattle.dns_message.proofs.Standing.{Stands, within, first_part, last_part, moved}
@@ -15,7 +15,7 @@ use Rattle.dns_message.proofs.NamesAgain.{spelled_end, spelled_label, name_again
 labels_few : (name : List (List ℕ)) → list_all is_label name ≡ true → 2 * length name + 1 ≤ length (wire_of name)
 labels_few [] h = omega arith
 labels_few (label ∷ rest) h =
-    let l = both (is_label label) (list_all is_label rest) h in
+    let l = and_parts (is_label label) (list_all is_label rest) h in
     omega (arith, label_some label l.0, labels_few rest l.1, length-append label (wire_of rest))
 
 -- a name that is spelled is read
@@ -48,7 +48,7 @@ name_read bytes at names name few h t s =
 whole_spelled : (bytes : List ℕ) (low at : ℕ) (name : List (List ℕ)) → list_all is_label name ≡ true → Stands bytes at (wire_of name) → IsSpelledFrom bytes low at name (at + length (wire_of name))
 whole_spelled bytes low at [] h s = spelled_end bytes low at s
 whole_spelled bytes low at (label ∷ rest) h s =
-    let l = both (is_label label) (list_all is_label rest) h in
+    let l = and_parts (is_label label) (list_all is_label rest) h in
     let place : at + length (length label ∷ label) ≡ at + 1 + length label = omega arith in
     let behind = moved bytes (at + length (length label ∷ label)) (at + 1 + length label) (wire_of rest) (last_part bytes at (length label ∷ label) (wire_of rest) s) place in
     let stop : at + length (length label ∷ label ++ wire_of rest) ≡ at + 1 + length label + length (wire_of rest) = omega (arith, length-append label (wire_of rest)) in

@@ -1,10 +1,9 @@
 -- Raw data are read as they were written: those of types without names, and NS, MX and SOA.
-use Rattle.std.proofs.Common.{◌≡◌, ℕ, ◌+◌, ◌≤◌, ◌++◌, ◌||◌, not, List, [], ◌∙◌, Bool, true, false, length, take, drop, refl, arith, ap, sym, subst, append-nil, length-append, length-take, append_assoc, Option, Some, None, Ok, eqb, leb, eq-eqb}
+use Rattle.std.proofs.Common.{◌≡◌, ℕ, ◌+◌, ◌≤◌, ◌++◌, not, List, [], ◌∙◌, Bool, true, false, length, take, drop, refl, arith, ap, sym, subst, append-nil, length-append, length-take, append_assoc, Option, Some, None, Ok, eqb, leb, eq-eqb}
 use Rattle.std.specs.Prelude.{IsTrue, option_and_then}
-use Rattle.std.proofs.lemmas.Bool.{le-leb, leb-true, eqb-true, false≢true}
+use Rattle.std.proofs.lemmas.Bool.{le-leb, leb-true, eqb-true, false≢true, and_parts, not-true, or_parts}
 use Rattle.std.proofs.lemmas.List.{nil_from_length, take-append-drop}
 use Rattle.dns_name.specs.Names.{wire_of, labels_of, is_name}
-use Rattle.dns_name.proofs.Wire.{both}
 use Rattle.dns_record.specs.Records.{after_name, is_typed, has_raw_form, is_rdata, leaves}
 use Rattle.dns_record.proofs.RawForms.{after_name-parts}
 use Rattle.dns_record.specs.declared.record.Rdata.TheVariants.{Raw}
@@ -77,14 +76,6 @@ soa_again bytes raw rest last at stop f n size e s =
     let i2 = inside bytes (at + length (wire_of f.name)) (at + length (wire_of f.name) + length (wire_of n.name)) stop n.name second (omega arith) in
     rw (i1, i2, end, tail) (ap (λ (l : List ℕ). Ok (Raw 6 l)) (sym whole))
 
-not_true : (b : Bool) → not b ≡ true → b ≡ false
-not_true true h = absurd (false≢true h)
-not_true false h = refl
-
-neither : (a b : Bool) → (a || b) ≡ false → (a ≡ false) × (b ≡ false)
-neither true b h = absurd (false≢true (sym h))
-neither false b h = (refl, h)
-
 -- a type that has no variant of its own, and no name in its data
 pub record IsUntyped (kind : ℕ) : Type 0 where
   pub a : eqb kind 1 ≡ false
@@ -98,13 +89,13 @@ pub record IsUntyped (kind : ℕ) : Type 0 where
 
 pub untyped : (kind : ℕ) → not (is_typed kind) ≡ true → IsUntyped kind
 untyped kind h =
-    let h1 = neither _ _ (not_true (is_typed kind) h) in
-    let h2 = neither _ _ h1.0 in
-    let h3 = neither _ _ h2.0 in
-    let h4 = neither _ _ h3.0 in
-    let h5 = neither _ _ h4.0 in
-    let h6 = neither _ _ h5.0 in
-    let h7 = neither _ _ h6.0 in
+    let h1 = or_parts _ _ (not-true (is_typed kind) h) in
+    let h2 = or_parts _ _ h1.0 in
+    let h3 = or_parts _ _ h2.0 in
+    let h4 = or_parts _ _ h3.0 in
+    let h5 = or_parts _ _ h4.0 in
+    let h6 = or_parts _ _ h5.0 in
+    let h7 = or_parts _ _ h6.0 in
     record { a = h7.0; cname = h7.1; ptr = h6.1; txt = h5.1; aaaa = h4.1; srv = h3.1; nsec = h2.1; opt = h1.1 }
 
 other_again : (bytes raw : List ℕ) (at stop kind : ℕ) → IsUntyped kind → eqb kind 2 ≡ false → eqb kind 15 ≡ false → eqb kind 6 ≡ false
@@ -125,7 +116,7 @@ form_ns bytes raw at stop h e s = ns_again bytes raw at stop (alone raw h) e s
 
 form_mx : (bytes raw : List ℕ) (at stop : ℕ) → has_raw_form 15 raw ≡ true → stop ≡ at + length raw → Stands bytes at raw → rdata_at bytes 15 at stop ≡ Ok (Raw 15 raw)
 form_mx bytes raw at stop h e s =
-    let b = both (leb 2 (length raw)) (leaves 0 (after_name (drop 2 raw))) h in
+    let b = and_parts (leb 2 (length raw)) (leaves 0 (after_name (drop 2 raw))) h in
     mx_again bytes raw at stop (leb-true 2 (length raw) b.0) (alone (drop 2 raw) b.1) e s
 
 form_soa : (bytes raw : List ℕ) (at stop : ℕ) → has_raw_form 6 raw ≡ true → stop ≡ at + length raw → Stands bytes at raw → rdata_at bytes 6 at stop ≡ Ok (Raw 6 raw)
@@ -142,7 +133,7 @@ unfolding is_rdata
 raw_again bytes raw at stop kind h e s = by_kind (eqb kind 2) (eqb kind 15) (eqb kind 6) refl refl refl
   where
     parts : (not (is_typed kind) ≡ true) × (has_raw_form kind raw ≡ true)
-    parts = both (not (is_typed kind)) (has_raw_form kind raw) h
+    parts = and_parts (not (is_typed kind)) (has_raw_form kind raw) h
 
     at_kind : (other : ℕ) → eqb kind other ≡ true → (has_raw_form other raw ≡ true → rdata_at bytes other at stop ≡ Ok (Raw other raw)) → rdata_at bytes kind at stop ≡ Ok (Raw kind raw)
     at_kind other t f =

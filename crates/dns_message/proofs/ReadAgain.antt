@@ -1,8 +1,7 @@
 -- What is written is read again.
 use Rattle.std.proofs.Common.{◌≡◌, ℕ, ◌+◌, ◌<◌, ◌≤◌, ◌^◌, ◌++◌, ◌&&◌, List, [], true, length, refl, arith, ap, subst, length-append, Ok, leb}
 use Rattle.std.specs.List.{list_all}
-use Rattle.std.proofs.lemmas.Bool.{le-leb}
-use Rattle.dns_name.proofs.Wire.{both}
+use Rattle.std.proofs.lemmas.Bool.{le-leb, and_parts}
 use Rattle.dns_record.specs.declared.record.Rr.{Rr}
 use Rattle.dns_record.specs.declared.record.Question.{Question}
 use Rattle.dns_message.specs.declared.message.Message.{Message}
@@ -35,12 +34,12 @@ parts_of m h =
     let i = is_below 16 m.id in
     let o = is_below 4 m.opcode in
     let r = is_below 4 m.rcode in
-    let h1 = both (i && o && r && q && a && u) d h in
-    let h2 = both (i && o && r && q && a) u h1.0 in
-    let h3 = both (i && o && r && q) a h2.0 in
-    let h4 = both (i && o && r) q h3.0 in
-    let h5 = both (i && o) r h4.0 in
-    let h6 = both i o h5.0 in
+    let h1 = and_parts (i && o && r && q && a && u) d h in
+    let h2 = and_parts (i && o && r && q && a) u h1.0 in
+    let h3 = and_parts (i && o && r && q) a h2.0 in
+    let h4 = and_parts (i && o && r) q h3.0 in
+    let h5 = and_parts (i && o) r h4.0 in
+    let h6 = and_parts i o h5.0 in
     record { id = below 16 m.id h6.0; opcode = below 4 m.opcode h6.1; rcode = below 4 m.rcode h5.1; questions = h4.1; answers = h3.1; authority = h2.1; additional = h1.1 }
 
 -- where the sections stand

@@ -1,8 +1,8 @@
 -- Records and questions, as they are written behind names, are read again.
 use Rattle.std.proofs.Common.{◌≡◌, ℕ, ◌+◌, ◌<◌, ◌≤◌, ◌^◌, ◌++◌, ◌&&◌, List, [], ◌∷◌, Bool, true, false, length, refl, arith, Option, Some, Result, Ok, length-append}
+use Rattle.std.proofs.lemmas.Bool.{and_parts}
 use Rattle.std.specs.Int.{to_be_bytes, w16, w32}
 use Rattle.std.specs.List.{list_all}
-use Rattle.dns_name.proofs.Wire.{both}
 use Rattle.dns_record.specs.Records.{kind_of}
 use Rattle.dns_record.specs.declared.record.Rr.{Rr}
 use Rattle.dns_record.specs.declared.record.Question.{Question}
@@ -63,8 +63,8 @@ record_of : (bytes : List ℕ) (at : ℕ) (rr : Rr) (o d : Piece) → length byt
     → IsThingRead (record_at bytes) bytes at rr
     (onto (o.bytes ++ to_be_bytes w16 (kind_of rr.rdata) ++ class_word rr.flush ++ to_be_bytes w32 rr.ttl ++ to_be_bytes w16 (length d.bytes)) d)
 record_of bytes at rr o d few h n r s =
-    let h1 = both (is_spellable_name rr.owner && is_below 32 rr.ttl) (is_spellable_data rr.rdata) h in
-    let h2 = both (is_spellable_name rr.owner) (is_below 32 rr.ttl) h1.0 in
+    let h1 = and_parts (is_spellable_name rr.owner && is_below 32 rr.ttl) (is_spellable_data rr.rdata) h in
+    let h2 = and_parts (is_spellable_name rr.owner) (is_below 32 rr.ttl) h1.0 in
     let kind = kind_is rr.rdata h1.1 in
     let room : at + length o.bytes + 10 + length d.bytes ≤ length bytes = within bytes (at + length o.bytes + 10) d.bytes s.rdata in
     let small : length d.bytes < 2 ^ 16 = omega arith in
@@ -82,8 +82,8 @@ pub record_read : (bytes : List ℕ) (names : Offsets) (at : ℕ) (rr : Rr) → 
     → Stands bytes at (written_record names at rr).bytes → IsThingRead (record_at bytes) bytes at rr (written_record names at rr)
 unfolding written_record
 record_read bytes names at rr few h t s =
-    let h1 = both (is_spellable_name rr.owner && is_below 32 rr.ttl) (is_spellable_data rr.rdata) h in
-    let h2 = both (is_spellable_name rr.owner) (is_below 32 rr.ttl) h1.0 in
+    let h1 = and_parts (is_spellable_name rr.owner && is_below 32 rr.ttl) (is_spellable_data rr.rdata) h in
+    let h2 = and_parts (is_spellable_name rr.owner) (is_below 32 rr.ttl) h1.0 in
     let o = written_name names at rr.owner in
     let d = written_data (written_name names at rr.owner).names (at + length (written_name names at rr.owner).bytes + 10) rr.rdata in
     let parts = laid bytes at o.bytes (to_be_bytes w16 (kind_of rr.rdata)) (class_word rr.flush) (to_be_bytes w32 rr.ttl) (to_be_bytes w16 (length d.bytes)) d.bytes refl (two rr.flush) refl refl s in
@@ -116,7 +116,7 @@ pub question_read : (bytes : List ℕ) (names : Offsets) (at : ℕ) (question : 
     → Stands bytes at (written_question names at question).bytes → IsThingRead (question_at bytes) bytes at question (written_question names at question)
 unfolding written_question
 question_read bytes names at question few h t s =
-    let h1 = both (is_spellable_name question.name) (is_below 16 question.kind) h in
+    let h1 = and_parts (is_spellable_name question.name) (is_below 16 question.kind) h in
     let o = written_name names at question.name in
     let k = to_be_bytes w16 question.kind in
     let c = class_word question.unicast in
@@ -150,7 +150,7 @@ pub all_read : {X : Type 0} (thing_at : ℕ → Result (Option X × ℕ) Message
 unfolding written_all
 all_read thing_at written good bytes each names at [] h t s = none_read thing_at bytes names at t
 all_read thing_at written good bytes each names at (x ∷ xs) h t s =
-    let g = both (good x) (list_all good xs) h in
+    let g = and_parts (good x) (list_all good xs) h in
     let rest = written_all written (written names at x).names (at + length (written names at x).bytes) xs in
     let first = each names at x g.0 t (first_part bytes at (written names at x).bytes rest.bytes s) in
     more_read thing_at bytes at x xs (written names at x) rest first

@@ -1,12 +1,12 @@
 -- What bytes spell has parts of their form.
 use Rattle.std.proofs.Common.{◌≡◌, ℕ, zero, suc, ◌+◌, ◌-◌, ◌/◌, ◌%◌, ◌<◌, ◌≤◌, ◌++◌, ◌&&◌, ◌||◌, not, List, [], ◌∷◌, ◌∙◌, Bool, true, false, cond, eqb, leb, ltb, length, drop, refl, arith, ap, sym, subst, append-nil, append_assoc, length-append, Option, Some, None, Result, Ok, Err, get_or, inl, inr}
 use Rattle.std.proofs.Math.Seq.{drop-append_seam}
-use Rattle.std.proofs.lemmas.Bool.{ltb-true, ltb-false, le-leb, leb-true, eqb-true, eqb-false, eq-eqb}
+use Rattle.std.proofs.lemmas.Bool.{ltb-true, ltb-false, le-leb, leb-true, eqb-true, eqb-false, eq-eqb, and_from, and_parts}
 use Rattle.std.specs.Prelude.{IsTrue, option_and_then}
 use Rattle.std.specs.List.{list_all, cons_option, slice_range, All}
 use Rattle.std.specs.Result.{IfOk}
 use Rattle.dns_name.specs.Names.{wire_of, is_label, is_name}
-use Rattle.dns_name.proofs.Wire.{both, and_true, label_is, name_is, name_each}
+use Rattle.dns_name.proofs.Wire.{label_is, name_is, name_each}
 use Rattle.dns_record.specs.Records.{after_name, leaves, is_typed, has_raw_form, is_rdata}
 use Rattle.dns_record.proofs.RawForms.{after_name-is}
 use Rattle.dns_record.specs.declared.record.Rdata.{Rdata}
@@ -76,8 +76,8 @@ record IsNameOf (used : ℕ) (name : List (List ℕ)) : Type 0 where
 
 longer : (used size : ℕ) (label : List ℕ) (rest : List (List ℕ)) → 1 ≤ size → size ≤ 63 → IsLabelOf size used label → IsNameOf (used + 1 + size) rest → IsNameOf used (label ∷ rest)
 longer used size label rest some most l r = record {
-  each = and_true (is_label label) (list_all is_label rest) (label_is label (omega (arith, l.long)) (omega (arith, l.long))) r.each;
-  bytes = and_true (are_bytes label) (list_all are_bytes rest) l.bytes r.bytes;
+  each = and_from (is_label label) (list_all is_label rest) (label_is label (omega (arith, l.long)) (omega (arith, l.long))) r.each;
+  bytes = and_from (are_bytes label) (list_all are_bytes rest) l.bytes r.bytes;
   short = omega (arith, l.long, r.short, length-append label (wire_of rest));
 }
 
@@ -100,7 +100,7 @@ labels (suc turns) bytes start at used h room =
 
 -- names
 is_spellable_from : (name : List (List ℕ)) → IsNameOf 0 name → is_spellable_name name ≡ true
-is_spellable_from name n = and_true (is_name name) (list_all are_bytes name) (name_is name n.each (omega (arith, n.short))) n.bytes
+is_spellable_from name n = and_from (is_name name) (list_all are_bytes name) (name_is name n.each (omega (arith, n.short))) n.bytes
 
 name : (bytes : List ℕ) (at : ℕ) → are_bytes bytes ≡ true → Gives (λ (n : NameAt). is_spellable_name n.0 ≡ true) (name_at bytes at)
 unfolding name_at
@@ -115,10 +115,10 @@ unfolding name_up_to
 last bytes at stop h = next _ _ _ _ (name bytes at h) (λ n is. next _ _ _ _ (test (eqb n.1 stop) BadRdata) (λ u e. ok _ n.0 is))
 
 wire : (name : List (List ℕ)) → is_spellable_name name ≡ true → are_bytes (wire_of name) ≡ true
-wire name h = let b = both (is_name name) (list_all are_bytes name) h in wire_bytes name (name_each name b.0) b.1
+wire name h = let b = and_parts (is_name name) (list_all are_bytes name) h in wire_bytes name (name_each name b.0) b.1
 
 named : (name : List (List ℕ)) → is_spellable_name name ≡ true → IsTrue (is_name name)
-named name h = (both (is_name name) (list_all are_bytes name) h).0
+named name h = (and_parts (is_name name) (list_all are_bytes name) h).0
 
 abbrev IsData : Rdata → Type 0
 IsData r = is_spellable_data r ≡ true
@@ -130,15 +130,15 @@ alone name h = ap (leaves 0) (ap after_name (sym (append-nil (wire_of name))) �
 raw_is : (kind : ℕ) (raw : List ℕ) → is_below 16 kind ≡ true → are_bytes raw ≡ true → not (is_typed kind) ≡ true → has_raw_form kind raw ≡ true → IsData (Raw kind raw)
 unfolding is_rdata
 raw_is kind raw small bytes kept form =
-    and_true (is_below 16 kind && are_bytes raw) (not (is_typed kind) && has_raw_form kind raw) (and_true (is_below 16 kind) (are_bytes raw) small bytes)
-    (and_true (not (is_typed kind)) (has_raw_form kind raw) kept form)
+    and_from (is_below 16 kind && are_bytes raw) (not (is_typed kind) && has_raw_form kind raw) (and_from (is_below 16 kind) (are_bytes raw) small bytes)
+    (and_from (not (is_typed kind)) (has_raw_form kind raw) kept form)
 
 srv : (bytes : List ℕ) (at stop : ℕ) → are_bytes bytes ≡ true → Gives IsData (srv_at bytes at stop)
 unfolding srv_at
 srv bytes at stop h =
     next _ _ _ _ (test (leb (at + 6) stop) BadRdata) (λ u e. next _ _ _ _ (last bytes (at + 6) stop h) (λ n is.
     ok IsData (Srv (u16_in bytes at) (u16_in bytes (at + 2)) (u16_in bytes (at + 4)) n)
-    (and_true _ (is_spellable_name n) (and_true _ (is_below 16 (u16_in bytes (at + 4))) (and_true (is_below 16 (u16_in bytes at)) (is_below 16 (u16_in bytes (at + 2)))
+    (and_from _ (is_spellable_name n) (and_from _ (is_below 16 (u16_in bytes (at + 4))) (and_from (is_below 16 (u16_in bytes at)) (is_below 16 (u16_in bytes (at + 2)))
     (u16_below bytes at h) (u16_below bytes (at + 2) h)) (u16_below bytes (at + 4) h)) is)))
 
 ns : (bytes : List ℕ) (at stop : ℕ) → are_bytes bytes ≡ true → Gives IsData (ns_at bytes at stop)
@@ -148,12 +148,12 @@ ns bytes at stop h = next _ _ _ _ (last bytes at stop h) (λ n is. ok IsData (Ra
 nsec : (bytes : List ℕ) (at stop : ℕ) → are_bytes bytes ≡ true → Gives IsData (nsec_at bytes at stop)
 unfolding nsec_at
 nsec bytes at stop h = next _ _ _ _ (inner bytes at stop h) (λ n is.
-    ok IsData (Nsec n.0 (slice_range bytes n.1 stop)) (and_true (is_spellable_name n.0) (are_bytes (slice_range bytes n.1 stop)) is (piece_bytes bytes n.1 stop h)))
+    ok IsData (Nsec n.0 (slice_range bytes n.1 stop)) (and_from (is_spellable_name n.0) (are_bytes (slice_range bytes n.1 stop)) is (piece_bytes bytes n.1 stop h)))
 
 mx_form : (front : List ℕ) (name : List (List ℕ)) → length front ≡ 2 → is_spellable_name name ≡ true → has_raw_form 15 (front ++ wire_of name) ≡ true
 mx_form front name two h =
     let rest : drop 2 (front ++ wire_of name) ≡ wire_of name = ap (λ (n : ℕ). drop n (front ++ wire_of name)) (sym two) ∙ drop-append_seam front (wire_of name) in
-    and_true (leb 2 (length (front ++ wire_of name))) (leaves 0 (after_name (drop 2 (front ++ wire_of name))))
+    and_from (leb 2 (length (front ++ wire_of name))) (leaves 0 (after_name (drop 2 (front ++ wire_of name))))
     (le-leb 2 (length (front ++ wire_of name)) (omega (arith, length-append front (wire_of name))))
     (ap (λ (l : List ℕ). leaves 0 (after_name l)) rest ∙ alone name h)
 
@@ -222,9 +222,9 @@ rr bytes at h =
     either _ (eqb (u16_in bytes owner.1) 41 || not (eqb (class_in bytes (owner.1 + 2)) 1)) _ _ (λ e. ok (Kept is_spellable_record) (None, stop) refl) (λ kept.
     next _ _ _ _ (rdata bytes (u16_in bytes owner.1) (owner.1 + 10) stop h room (u16_below bytes owner.1 h) (neither _ _ kept)) (λ r form.
     ok (Kept is_spellable_record) (Some (record { owner = owner.0; flush = top_bit_in bytes (owner.1 + 2); ttl = u32_in bytes (owner.1 + 4); rdata = r }), stop)
-    (and_true (is_spellable_name owner.0 && is_below 32 (u32_in bytes (owner.1 + 4)) && is_spellable_data r) true
-    (and_true (is_spellable_name owner.0 && is_below 32 (u32_in bytes (owner.1 + 4))) (is_spellable_data r)
-    (and_true (is_spellable_name owner.0) (is_below 32 (u32_in bytes (owner.1 + 4))) is (u32_below bytes (owner.1 + 4) h)) form) refl)))))
+    (and_from (is_spellable_name owner.0 && is_below 32 (u32_in bytes (owner.1 + 4)) && is_spellable_data r) true
+    (and_from (is_spellable_name owner.0 && is_below 32 (u32_in bytes (owner.1 + 4))) (is_spellable_data r)
+    (and_from (is_spellable_name owner.0) (is_below 32 (u32_in bytes (owner.1 + 4))) is (u32_below bytes (owner.1 + 4) h)) form) refl)))))
 
 question : (bytes : List ℕ) (at : ℕ) → are_bytes bytes ≡ true → Gives (Kept is_spellable_question) (question_at bytes at)
 unfolding question_at
@@ -232,12 +232,12 @@ question bytes at h =
     next _ _ _ _ (name bytes at h) (λ n is. next _ _ _ _ (test (leb (n.1 + 4) (length bytes)) Truncated) (λ u e.
     either _ (eqb (class_in bytes (n.1 + 2)) 1 || eqb (class_in bytes (n.1 + 2)) 255) _ _
     (λ kept. ok (Kept is_spellable_question) (Some (record { name = n.0; kind = u16_in bytes n.1; unicast = top_bit_in bytes (n.1 + 2) }), n.1 + 4)
-    (and_true (is_spellable_name n.0 && is_below 16 (u16_in bytes n.1)) true (and_true (is_spellable_name n.0) (is_below 16 (u16_in bytes n.1)) is (u16_below bytes n.1 h)) refl))
+    (and_from (is_spellable_name n.0 && is_below 16 (u16_in bytes n.1)) true (and_from (is_spellable_name n.0) (is_below 16 (u16_in bytes n.1)) is (u16_below bytes n.1 h)) refl))
     (λ passed. ok (Kept is_spellable_question) (None, n.1 + 4) refl)))
 
 kept_first : {X : Type 0} (passes : X → Bool) (first : Option X) (rest : List X) → list_all passes (cons_option first []) ≡ true → list_all passes rest ≡ true → list_all passes (cons_option first rest) ≡ true
 kept_first passes None rest h k = k
-kept_first passes (Some x) rest h k = and_true (passes x) (list_all passes rest) (both (passes x) true h).0 k
+kept_first passes (Some x) rest h k = and_from (passes x) (list_all passes rest) (and_parts (passes x) true h).0 k
 
 all : {X : Type 0} (passes : X → Bool) (thing_at : ℕ → Result (Option X × ℕ) MessageError) → ((at : ℕ) → Gives (Kept passes) (thing_at at)) → (more at : ℕ)
     → Gives (λ (found : List X × ℕ). list_all passes found.0 ≡ true) (all_at thing_at more at)
@@ -270,8 +270,8 @@ unfolding spelled is_spellable
 message bytes h =
     next _ _ _ _ (test (leb (length bytes) 8972) TooLong) (λ u e. next _ _ _ _ (test (leb 12 (length bytes)) Truncated) (λ v k. next _ _ _ _ (sections bytes h) (λ parts are.
     ok _ (with_header bytes parts)
-    (and_true _ (list_all is_spellable_record parts.3) (and_true _ (list_all is_spellable_record parts.2) (and_true _ (list_all is_spellable_record parts.1) (and_true _ (list_all is_spellable_question parts.0)
-    (and_true _ (is_below 4 (get_or bytes 3 0 % 16)) (and_true (is_below 16 (u16_in bytes 0)) (is_below 4 (get_or bytes 2 0 / 8 % 16)) (u16_below bytes 0 h) (four_bits (get_or bytes 2 0 / 8))) (four_bits (get_or bytes 3 0)))
+    (and_from _ (list_all is_spellable_record parts.3) (and_from _ (list_all is_spellable_record parts.2) (and_from _ (list_all is_spellable_record parts.1) (and_from _ (list_all is_spellable_question parts.0)
+    (and_from _ (is_below 4 (get_or bytes 3 0 % 16)) (and_from (is_below 16 (u16_in bytes 0)) (is_below 4 (get_or bytes 2 0 / 8 % 16)) (u16_below bytes 0 h) (four_bits (get_or bytes 2 0 / 8))) (four_bits (get_or bytes 3 0)))
     are.questions) are.answers) are.authority) are.additional))))
 
 -- What bytes spell is a message whose parts have their form.
@@ -282,10 +282,10 @@ spelled_spellable bytes m h s = (message bytes h).each m s
 pub parts_valid : (m : Message) → is_spellable m ≡ true → HasValidParts m
 unfolding is_spellable
 parts_valid m h =
-    let h1 = both _ (list_all is_spellable_record m.additional) h in
-    let h2 = both _ (list_all is_spellable_record m.authority) h1.0 in
-    let h3 = both _ (list_all is_spellable_record m.answers) h2.0 in
-    let h4 = both _ (list_all is_spellable_question m.questions) h3.0 in
+    let h1 = and_parts _ (list_all is_spellable_record m.additional) h in
+    let h2 = and_parts _ (list_all is_spellable_record m.authority) h1.0 in
+    let h3 = and_parts _ (list_all is_spellable_record m.answers) h2.0 in
+    let h4 = and_parts _ (list_all is_spellable_question m.questions) h3.0 in
     record { questions = h4.1; answers = h3.1; authority = h2.1; additional = h1.1 }
 
 -- What is read of bytes has valid parts.

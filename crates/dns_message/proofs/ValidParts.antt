@@ -1,13 +1,13 @@
 -- Bytes of bytes: pieces of them, numbers that they are read as, and names.
 use Rattle.std.proofs.Common.{◌≡◌, ℕ, zero, suc, ◌+◌, ◌-◌, ◌*◌, ◌^◌, ◌<◌, ◌≤◌, ◌++◌, List, [], ◌∷◌, ◌∙◌, true, length, take, drop, get_or, refl, arith, ap, sym, length-take, length-drop, lit<}
 use Rattle.std.proofs.Math.Nat as nat
-use Rattle.std.proofs.lemmas.Bool.{ltb-true, lt-ltb}
+use Rattle.std.proofs.lemmas.Bool.{ltb-true, lt-ltb, and_from, and_parts}
 use Rattle.std.proofs.lemmas.List.{take-append-drop}
 use Rattle.std.proofs.lemmas.List.Folds.{list_all-append}
 use Rattle.std.specs.List.{list_all, slice_range}
 use Rattle.std.specs.Int.{from_be_bytes, w16, w32, w128}
 use Rattle.dns_name.specs.Names.{wire_of, is_label}
-use Rattle.dns_name.proofs.Wire.{both, and_true, label_most}
+use Rattle.dns_name.proofs.Wire.{label_most}
 use Rattle.dns_message.specs.Reading.{u16_in, u32_in, u128_in}
 use Rattle.dns_message.specs.Writing.{is_below, are_bytes}
 
@@ -17,7 +17,7 @@ is_below_from bits n h = lt-ltb n (2 ^ bits) h
 -- a front and the rest
 cut : (bytes : List ℕ) (n : ℕ) → are_bytes bytes ≡ true → (are_bytes (take n bytes) ≡ true) × (are_bytes (drop n bytes) ≡ true)
 cut bytes n h =
-    both (are_bytes (take n bytes)) (are_bytes (drop n bytes))
+    and_parts (are_bytes (take n bytes)) (are_bytes (drop n bytes))
     (sym (list_all-append (is_below 8) (take n bytes) (drop n bytes)) ∙ ap (λ (l : List ℕ). list_all (is_below 8) l) (take-append-drop n bytes) ∙ h)
 
 -- a piece
@@ -28,18 +28,18 @@ pub piece_length : (bytes : List ℕ) (at stop size : ℕ) → stop ≡ at + siz
 piece_length bytes at stop size e h = omega (arith, length-take (stop - at) (drop at bytes), length-drop at bytes)
 
 pub joined_bytes : (xs ys : List ℕ) → are_bytes xs ≡ true → are_bytes ys ≡ true → are_bytes (xs ++ ys) ≡ true
-joined_bytes xs ys h k = list_all-append (is_below 8) xs ys ∙ and_true (are_bytes xs) (are_bytes ys) h k
+joined_bytes xs ys h k = list_all-append (is_below 8) xs ys ∙ and_from (are_bytes xs) (are_bytes ys) h k
 
 -- each byte, and 0 past the end
 pub each_byte : (bytes : List ℕ) → are_bytes bytes ≡ true → (i : ℕ) → get_or bytes i 0 < 256
 each_byte [] h i = lit< tt
-each_byte (b ∷ bytes) h zero = ltb-true b 256 (both (is_below 8 b) (are_bytes bytes) h).0
-each_byte (b ∷ bytes) h (suc i) = each_byte bytes (both (is_below 8 b) (are_bytes bytes) h).1 i
+each_byte (b ∷ bytes) h zero = ltb-true b 256 (and_parts (is_below 8 b) (are_bytes bytes) h).0
+each_byte (b ∷ bytes) h (suc i) = each_byte bytes (and_parts (is_below 8 b) (are_bytes bytes) h).1 i
 
 pub are_bytes_from : (bytes : List ℕ) → ((i : ℕ) → i < length bytes → get_or bytes i 0 < 256) → are_bytes bytes ≡ true
 are_bytes_from [] h = refl
 are_bytes_from (b ∷ bytes) h =
-    and_true (is_below 8 b) (are_bytes bytes) (is_below_from 8 b (h 0 (omega arith))) (are_bytes_from bytes (λ i k. h (suc i) (omega arith)))
+    and_from (is_below 8 b) (are_bytes bytes) (is_below_from 8 b (h 0 (omega arith))) (are_bytes_from bytes (λ i k. h (suc i) (omega arith)))
 
 -- a number with one byte more
 more : (whole s b p : ℕ) → b < 256 → s + p * 256 ≤ whole → s + b * p + p ≤ whole
@@ -84,8 +84,8 @@ u128_below bytes at h = is_below_from 128 (u128_in bytes at) (below_16 (slice_ra
 pub wire_bytes : (name : List (List ℕ)) → list_all is_label name ≡ true → list_all are_bytes name ≡ true → are_bytes (wire_of name) ≡ true
 wire_bytes [] h k = refl
 wire_bytes (label ∷ rest) h k =
-    let h1 = both (is_label label) (list_all is_label rest) h in
-    let k1 = both (are_bytes label) (list_all are_bytes rest) k in
+    let h1 = and_parts (is_label label) (list_all is_label rest) h in
+    let k1 = and_parts (are_bytes label) (list_all are_bytes rest) k in
     let short : length label < 256 = omega (arith, label_most label h1.0) in
-    and_true (is_below 8 (length label)) (are_bytes (label ++ wire_of rest)) (is_below_from 8 (length label) short)
+    and_from (is_below 8 (length label)) (are_bytes (label ++ wire_of rest)) (is_below_from 8 (length label) short)
     (joined_bytes label (wire_of rest) k1.0 (wire_bytes rest h1.1 k1.1))

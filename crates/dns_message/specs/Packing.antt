@@ -105,7 +105,7 @@ replies_of all before (part ∷ parts) =
 unfoldable pub pack_reply : List Rr → List (List Rr) → List Message
 pack_reply answers wanted = replies_of answers [] (parts_of (λ part. fits (bare_reply (answers_in part))) (zip answers wanted))
 
--- a reply to another port than 5353: it repeats the ID and leading questions, and has no flush bit and short TTLs
+-- a question without the unicast bit
 abbrev pub plain_question : Question → Question
 plain_question question = record { name = question.name; kind = question.kind; unicast = false }
 
@@ -113,7 +113,7 @@ plain_question question = record { name = question.name; kind = question.kind; u
 abbrev pub plain_record : Rr → Rr
 plain_record rr = record { owner = rr.owner; flush = false; ttl = min rr.ttl 10; rdata = rr.rdata }
 
--- a reply to another port than 5353
+-- a reply to another port than 5353: it repeats the ID and these questions
 abbrev pub legacy_reply : ℕ → List Question → List Rr → Bool → Message
 legacy_reply id questions answers truncated =
     record { id = id; response = true; authoritative = true; truncated = truncated; opcode = 0; rcode = 0; questions = questions; answers = answers; authority = []; additional = [] }

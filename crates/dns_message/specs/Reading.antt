@@ -27,7 +27,7 @@ abbrev pub holds_or : Bool → MessageError → Result (Unit {0}) MessageError
 holds_or true e = Ok tt
 holds_or false e = Err e
 
--- the byte at an offset
+-- the byte, Truncated where there is none
 abbrev pub byte_or_end : Option ℕ → Result ℕ MessageError
 byte_or_end None = Err Truncated
 byte_or_end (Some b) = Ok b
@@ -133,7 +133,7 @@ rdata_at bytes kind at stop =
     else if kind == 16 then Ok (Txt (slice_range bytes at stop))
     else Ok (Raw kind (slice_range bytes at stop))
 
--- the class without its top bit, and the top bit: QU of a question, cache flush of a record
+-- the class without its top bit
 abbrev pub class_in : List ℕ → ℕ → ℕ
 class_in bytes at = u16_in bytes at % 2 ^ 15
 

@@ -39,10 +39,10 @@ pub(crate) fn read_rdata(
         2 => read_ns(alloc, bytes, chains, at, stop),
         15 => read_mx(alloc, bytes, chains, at, stop),
         6 => read_soa(alloc, bytes, chains, at, stop),
-        16 => Ok(Rdata::Txt(copied(alloc, &bytes[at..stop])?)),
+        16 => Ok(Rdata::Txt(Bytes::from_slice(alloc, &bytes[at..stop])?)),
         kind => Ok(Rdata::Raw {
             kind,
-            bytes: copied(alloc, &bytes[at..stop])?,
+            bytes: Bytes::from_slice(alloc, &bytes[at..stop])?,
         }),
     }
 }
@@ -122,7 +122,7 @@ fn read_nsec(
     let (next, end) = read_inner_name(bytes, chains, at, stop)?;
     Ok(Rdata::Nsec {
         next,
-        bitmap: copied(alloc, &bytes[end..stop])?,
+        bitmap: Bytes::from_slice(alloc, &bytes[end..stop])?,
     })
 }
 
@@ -141,7 +141,7 @@ fn read_ns(
     let name = read_last_name(bytes, chains, at, stop)?;
     Ok(Rdata::Raw {
         kind: 2,
-        bytes: copied(alloc, name.as_wire())?,
+        bytes: Bytes::from_slice(alloc, name.as_wire())?,
     })
 }
 
@@ -196,13 +196,6 @@ fn read_soa(
             &bytes[end..stop],
         )?,
     })
-}
-
-// A list of these bytes.
-fn copied(alloc: Global, bytes: &[u8]) -> Result<Bytes, AllocError>
-    ensures { IfOk result (λ copy. copy ≡ bytes.now) }
-{
-    Ok(Bytes::from_vec(Vec::from_slice(alloc, bytes)?))
 }
 
 // A list of the bytes of three parts, one behind the other.

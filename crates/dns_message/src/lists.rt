@@ -30,6 +30,13 @@ impl Rrs {
         }
     }
 
+    /// The records of a vector. Takes no memory.
+    pub fn from_vec(records: Vec<Rr>) -> Self
+        ensures { result ≡ records.items }
+    {
+        Rrs { vec: records }
+    }
+
     /// Puts a record at the end. Where memory is refused, the list stays as it was.
     pub fn push(&mut self, rr: Rr) -> Result<(), AllocError>
         ensures ok { OnOk result (self.new ≡ self.old ++ rr ∷ []) }

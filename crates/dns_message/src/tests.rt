@@ -262,6 +262,7 @@ fn told(alloc: Global, bytes: &[u8]) -> Result<Vec<u8>, AllocError> {
     let mut out = Vec::new(alloc);
     match read(alloc, bytes) {
         Ok(message) => put_message(&mut out, &message)?,
+        Err(MessageError::NoMemory) => return Err(AllocError),
         Err(fault) => put_decimal(&mut out, u64::from(fault as u8))?,
     }
     Ok(out)
@@ -318,7 +319,7 @@ fn with_labels(alloc: Global, sizes: &[u8]) -> Result<Vec<u8>, AllocError> {
 #[test]
 fn reads_up_to_the_limits(rt: HostRuntime) -> Result<(), Fail> {
     let alloc = rt.alloc();
-    assert!(rt; read(alloc, with_labels(alloc, &[63, 63, 63, 61])?.as_slice()).is_ok());
+    read(alloc, with_labels(alloc, &[63, 63, 63, 61])?.as_slice())?;
     assert_eq!(rt;
         read(alloc, with_labels(alloc, &[63, 63, 63, 62])?.as_slice()).err(),
         Some(MessageError::LongName)
@@ -328,11 +329,24 @@ fn reads_up_to_the_limits(rt: HostRuntime) -> Result<(), Fail> {
         Some(MessageError::LongName)
     );
     let mut zeros = vec![in alloc; 0u8; 8972]?;
-    assert!(rt; read(alloc, zeros.as_slice()).is_ok());
+    read(alloc, zeros.as_slice())?;
     zeros.push(0)?;
     assert_eq!(rt;
         read(alloc, zeros.as_slice()).err(),
         Some(MessageError::TooLong)
+    );
+    assert_eq!(rt;
+        [
+            MessageError::Truncated as u8,
+            MessageError::BadPointer as u8,
+            MessageError::BadLabel as u8,
+            MessageError::LongName as u8,
+            MessageError::BadRdata as u8,
+            MessageError::TooLong as u8,
+            MessageError::NoMemory as u8
+        ]
+        .as_slice(),
+        [1, 2, 3, 4, 5, 6, 7].as_slice()
     );
     Ok(())
 }
@@ -370,11 +384,14 @@ const REWRITTEN: [(&str, &str); 4] = [
 
 // The bytes that a packet is read and written as, or the number of the error of writing it.
 fn rewritten(alloc: Global, bytes: &[u8], limit: usize) -> Result<Vec<u8>, AllocError> {
-    let Ok(message) = read(alloc, bytes) else {
-        return Ok(Vec::new(alloc));
+    let message = match read(alloc, bytes) {
+        Ok(message) => message,
+        Err(MessageError::NoMemory) => return Err(AllocError),
+        Err(_) => return Ok(Vec::new(alloc)),
     };
     match write(alloc, &message, limit.min(8972)) {
         Ok(bytes) => Ok(bytes.into_vec()),
+        Err(WriteError::NoMemory) => Err(AllocError),
         Err(fault) => Ok(vec![in alloc; fault as u8]?),
     }
 }
@@ -441,5 +458,9 @@ fn writes_up_to_the_limits(rt: HostRuntime) -> Result<(), Fail> {
         let longer = rewritten(alloc, full.as_slice(), limit)?;
         assert_eq!(rt; longer.as_slice(), long.as_slice(), "{limit}");
     }
+    assert_eq!(rt;
+        [WriteError::TooLong as u8, WriteError::NoMemory as u8].as_slice(),
+        [1, 2].as_slice()
+    );
     Ok(())
 }

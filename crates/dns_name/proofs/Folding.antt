@@ -10,11 +10,11 @@ use Rattle.std.specs.Cmp.Lexicographic.{slice_cmp, on_texts, on_texts_equal}
 use Rattle.std.specs.Ordering.{nat_cmp, is_eq}
 use Rattle.std.specs.declared.cmp.Ordering.TheVariants.{Equal}
 use Rattle.std.proofs.lemmas.Map.Text.{is_eq-slice_cmp}
-use Rattle.std.proofs.lemmas.Bool.{lt-ltb}
+use Rattle.std.proofs.lemmas.Bool.{lt-ltb, and_parts}
 use Rattle.std.proofs.lemmas.List.{map-append, length-map, append_cancel_left}
 use Rattle.std.proofs.lemmas.Slice.Eq.{bytes_eq-Decides}
 use Rattle.dns_name.specs.Names.{wire_of, is_label, is_name, folded, folded_eq, exact_eq, name_cmp}
-use Rattle.dns_name.proofs.Wire.{wire_some, both, name_each, label_most, list_head, list_tail}
+use Rattle.dns_name.proofs.Wire.{wire_some, name_each, label_most, list_head, list_tail}
 
 -- a length isn't a letter
 length_stays : (n : ℕ) → n ≤ 63 → to_ascii_lowercase n ≡ n
@@ -23,7 +23,7 @@ length_stays n h = rw (lt-ltb n 65 (omega arith)) refl
 folded_wire-each : (name : List (List ℕ)) → list_all is_label name ≡ true → str_to_ascii_lowercase (wire_of name) ≡ wire_of (folded name)
 folded_wire-each [] h = refl
 folded_wire-each (label ∷ rest) h =
-    let parts = both (is_label label) (list_all is_label rest) h in
+    let parts = and_parts (is_label label) (list_all is_label rest) h in
     rw (map-append to_ascii_lowercase label (wire_of rest), folded_wire-each rest parts.1, length-map label to_ascii_lowercase, length_stays (length label) (label_most label parts.0)) refl
 
 -- so folding the bytes of a wire form folds its labels

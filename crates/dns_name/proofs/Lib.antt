@@ -9,3 +9,5 @@ pub mod Endings
 pub mod ReadBack
 pub mod FoldedBytes
 pub mod Spellings
+pub mod InOrder
+pub mod Least

@@ -6,22 +6,23 @@ use Rattle.std.specs.Str.{bytes_eq}
 use Rattle.std.specs.Char.{is_ascii_digit}
 use Rattle.std.proofs.lemmas.Slice.Eq.{bytes_eq-Decides}
 use Rattle.std.specs.Option.{option_map_or}
+use Rattle.std.proofs.lemmas.List.Folds.{list_all-append}
 use Rattle.std.proofs.lemmas.List.Sums.{list_all-from_AllPass}
-use Rattle.std.proofs.lemmas.Bool.{false≢true, le-leb, ne_eqb, ltb-true, lt-ltb}
+use Rattle.std.proofs.lemmas.Bool.{le-leb, ne_eqb, ltb-true, lt-ltb, and_from, and_parts, or_parts}
 use Rattle.dns_name.specs.Names.{wire_of, is_label, is_name}
 use Rattle.dns_name.specs.NameText.{three_digits, byte_text, label_text, name_text}
 use Rattle.dns_name.specs.TextItems.{items_of, decimal_byte}
 use Rattle.dns_name.specs.declared.items.TextItem.{TextItem}
 use Rattle.dns_name.specs.declared.items.TextItem.TheVariants.{Dot, Byte}
 use Rattle.dns_name.specs.ReadName.{labels_spelled, too_long, fault_of, first_fault, name_spelled, read_name, label_items, name_items}
-use Rattle.dns_name.proofs.Wire.{both, and_true, label_some, label_most, name_each, name_short, list_all-append, wire_least}
+use Rattle.dns_name.proofs.Wire.{label_some, label_most, name_each, name_short, wire_least}
 use Rattle.dns_name.proofs.Spelling.{items_of-next, items_of-none}
 use Rattle.dns_name.proofs.Spelled.{spelled-dot, spelled_byte, dot_ends, too_long-none, finished_dot}
 use Rattle.dns_name.proofs.ReadItems.{first_fault-none, first_fault-passes, items_read, reads_root, reads_labels}
 use Rattle.dns_name.proofs.WrittenText.{labels_text}
 
 digit-is : (d : ℕ) → d ≤ 9 → is_ascii_digit (48 + d) ≡ true
-digit-is d h = and_true _ _ (le-leb 48 (48 + d) (omega arith)) (le-leb (48 + d) 57 (omega arith))
+digit-is d h = and_from _ _ (le-leb 48 (48 + d) (omega arith)) (le-leb (48 + d) 57 (omega arith))
 
 -- three digits spell their byte
 pub decimal_byte-three : (byte : ℕ) → byte < 256 → decimal_byte (three_digits byte) ≡ Some byte
@@ -29,10 +30,6 @@ decimal_byte-three byte h =
     let hundreds : byte / 100 ≤ 9 = omega arith in
     let value : 100 * (48 + byte / 100 - 48) + 10 * (48 + byte / 10 % 10 - 48) + (48 + byte % 10 - 48) ≡ byte = omega arith in
     rw (value, digit-is (byte / 100) hundreds, digit-is (byte / 10 % 10) (omega arith), digit-is (byte % 10) (omega arith), le-leb byte 255 (omega arith)) refl
-
-neither : (a b : Bool) → (a || b) ≡ false → (a ≡ false) × (b ≡ false)
-neither true b h = absurd (false≢true (sym h))
-neither false b h = (refl, h)
 
 -- a byte's text is read as that byte
 pub items_of-byte : (byte : ℕ) (rest : List ℕ) → byte < 256 → items_of (byte_text byte ++ rest) ≡ Byte byte ∷ items_of rest
@@ -43,7 +40,7 @@ items_of-byte byte rest h = go (byte == 46 || byte == 92) (leb byte 32 || leb 12
 
     plain : (byte == 46 || byte == 92) ≡ false → items_of (byte ∷ rest) ≡ Byte byte ∷ items_of rest
     plain e =
-        let apart = neither (byte == 46) (byte == 92) e in
+        let apart = or_parts (byte == 46) (byte == 92) e in
         items_of-next byte rest rest (Byte byte) (rw (apart.0, apart.1) refl) (rw (apart.0, apart.1) refl)
 
     digits : (byte == 46 || byte == 92) ≡ false → items_of (92 ∷ three_digits byte ++ rest) ≡ Byte byte ∷ items_of rest
@@ -64,7 +61,7 @@ are_bytes bytes = list_all (λ b. ltb b 256) bytes
 items_of-label : (label rest : List ℕ) → are_bytes label ≡ true → items_of (label_text label ++ 46 ∷ rest) ≡ label_items label ++ items_of rest
 items_of-label [] rest h = items_of-next 46 rest rest Dot refl refl
 items_of-label (byte ∷ label) rest h =
-    let parts = both (ltb byte 256) (are_bytes label) h in
+    let parts = and_parts (ltb byte 256) (are_bytes label) h in
     ap items_of (append_assoc (byte_text byte) (label_text label) (46 ∷ rest))
     ∙ items_of-byte byte (label_text label ++ 46 ∷ rest) (ltb-true byte 256 parts.0)
     ∙ ap (λ l. Byte byte ∷ l) (items_of-label label rest parts.1)
@@ -72,7 +69,7 @@ items_of-label (byte ∷ label) rest h =
 items_of-labels : (name : List (List ℕ)) → list_all are_bytes name ≡ true → items_of (labels_text name) ≡ name_items name
 items_of-labels [] h = items_of-none [] refl
 items_of-labels (label ∷ name) h =
-    let parts = both (are_bytes label) (list_all are_bytes name) h in
+    let parts = and_parts (are_bytes label) (list_all are_bytes name) h in
     ap items_of (append_assoc (label_text label) (46 ∷ []) (labels_text name))
     ∙ items_of-label label (labels_text name) parts.0
     ∙ ap (λ l. label_items label ++ l) (items_of-labels name parts.1)
@@ -103,7 +100,7 @@ pub no_fault-name : (before : List TextItem) (done name : List (List ℕ)) → l
 no_fault-name before done [] e h = first_fault-none before
 no_fault-name before done (label ∷ name) e h =
     let each : (list_all is_label done && list_all is_label (label ∷ name)) ≡ true = sym (list_all-append is_label done (label ∷ name)) ∙ name_each (done ++ label ∷ name) h in
-    let good : is_label label ≡ true = (both (is_label label) (list_all is_label name) (both (list_all is_label done) (list_all is_label (label ∷ name)) each).1).0 in
+    let good : is_label label ≡ true = (and_parts (is_label label) (list_all is_label name) (and_parts (list_all is_label done) (list_all is_label (label ∷ name)) each).1).0 in
     let room : length (wire_of done) + length label + 1 ≤ 255 = omega (arith, wire_least done name label, name_short (done ++ label ∷ name) h) in
     no_fault-label before done [] label (name_items name) e (omega (arith, label_some label good)) (omega (arith, label_most label good)) (omega arith)
     (λ after f. no_fault-name after (done ++ label ∷ []) name f (subst (λ n. IsTrue (is_name n)) (sym (append_assoc done (label ∷ []) name)) h))
@@ -140,7 +137,7 @@ items_read-name name h =
 pub read_name-name_text : (name : List (List ℕ)) → IsTrue (is_name name) → list_all are_bytes name ≡ true → read_name (name_text name) ≡ Ok name
 read_name-name_text [] h k = sym (reads_root (46 ∷ []) refl)
 read_name-name_text (label ∷ name) h k =
-    let long : 2 ≤ length (name_text (label ∷ name)) = text_long label name (both (is_label label) (list_all is_label name) (name_each (label ∷ name) h)).0 in
+    let long : 2 ≤ length (name_text (label ∷ name)) = text_long label name (and_parts (is_label label) (list_all is_label name) (name_each (label ∷ name) h)).0 in
     sym (reads_labels (name_text (label ∷ name)) (not_a_dot (name_text (label ∷ name)) long) (ne_eqb (length (name_text (label ∷ name))) 0 (λ z. absurd (omega arith))))
     ∙ ap items_read (items_of-labels (label ∷ name) k) ∙ items_read-name (label ∷ name) h
 
@@ -148,4 +145,4 @@ read_name-name_text (label ∷ name) h k =
 pub bytes_next : (label : List ℕ) (left labels : List (List ℕ)) (P : Type 0) → left ≡ label ∷ labels → All (λ b. b < 256) label → (list_all are_bytes left ≡ true → P) → list_all are_bytes labels ≡ true → P
 bytes_next label left labels P is small then_whole h =
     let first : are_bytes label ≡ true = list_all-from_AllPass (λ b. ltb b 256) label (λ k d within. lt-ltb _ _ (small k d within)) in
-    then_whole (ap (list_all are_bytes) is ∙ and_true (are_bytes label) (list_all are_bytes labels) first h)
+    then_whole (ap (list_all are_bytes) is ∙ and_from (are_bytes label) (list_all are_bytes labels) first h)

@@ -1,13 +1,13 @@
 -- The labels that items spell, item by item from the left.
 use Rattle.std.proofs.Common.{◌≡◌, ℕ, ◌+◌, ◌<◌, ◌≤◌, ◌++◌, List, [], ◌∷◌, ◌∙◌, true, false, Some, None, length, filter, eqb, ltb, refl, ap, sym, arith, append-nil}
-use Rattle.std.proofs.lemmas.Bool.{lt-ltb, le-ltb, eq-eqb, ne_eqb, eqb-true, false≢true}
+use Rattle.std.proofs.lemmas.Bool.{lt-ltb, le-ltb, eq-eqb, ne_eqb, eqb-true, false≢true, and_parts}
 use Rattle.std.specs.List.{list_all, onto_first}
 use Rattle.dns_name.specs.Names.{wire_of, is_label}
 use Rattle.dns_name.specs.declared.items.TextItem.{TextItem}
 use Rattle.dns_name.specs.declared.items.TextItem.TheVariants.{Dot, Byte, Bad}
 use Rattle.dns_name.specs.declared.error.NameError.TheVariants.{EmptyLabel, LongLabel, LongName}
 use Rattle.dns_name.specs.ReadName.{labels_spelled, last_label, too_long, fault_of}
-use Rattle.dns_name.proofs.Wire.{both, label_some, length-wire_of-push}
+use Rattle.dns_name.proofs.Wire.{label_some, length-wire_of-push}
 
 -- a byte put at the end of the last label
 abbrev onto_last : ℕ → List (List ℕ) → List (List ℕ)
@@ -89,7 +89,7 @@ dot_ends before name label e h = rw (e, last_label-push name label, ne_eqb (leng
 pub filter_labels : (name more : List (List ℕ)) → list_all is_label name ≡ true → filter (λ l. ltb 0 (length l)) (name ++ more) ≡ name ++ filter (λ l. ltb 0 (length l)) more
 filter_labels [] more h = refl
 filter_labels (label ∷ name) more h =
-    let parts = both (is_label label) (list_all is_label name) h in
+    let parts = and_parts (is_label label) (list_all is_label name) h in
     rw (lt-ltb 0 (length label) (label_some label parts.0), filter_labels name more parts.1) refl
 
 -- the name behind whose end no label is under way

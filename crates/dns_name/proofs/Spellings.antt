@@ -3,7 +3,7 @@ use Rattle.std.proofs.Common.{◌≡◌, ℕ, ◌≤◌, ◌++◌, ◌⊎◌, in
 use Rattle.std.proofs.lemmas.List.{append_cancel_right}
 use Rattle.std.proofs.lemmas.Grind.{flat_map-append}
 use Rattle.std.proofs.lemmas.Slice.Eq.{bytes_eq-Decides}
-use Rattle.std.proofs.lemmas.Bool.{false≢true, eqb-true}
+use Rattle.std.proofs.lemmas.Bool.{false≢true, eqb-true, and_parts}
 use Rattle.std.specs.Prelude.{IsTrue}
 use Rattle.std.specs.List.{onto_first, list_all}
 use Rattle.std.specs.Option.{option_or, option_map_or}
@@ -14,7 +14,7 @@ use Rattle.dns_name.specs.declared.items.TextItem.{TextItem}
 use Rattle.dns_name.specs.declared.items.TextItem.TheVariants.{Dot, Byte, Bad}
 use Rattle.dns_name.specs.declared.error.NameError.{NameError}
 use Rattle.dns_name.specs.ReadName.{labels_spelled, fault_of, first_fault, name_spelled, read_name, name_items, label_items, HasItemsOf, IsSpelling}
-use Rattle.dns_name.proofs.Wire.{both, label_some, name_each}
+use Rattle.dns_name.proofs.Wire.{label_some, name_each}
 use Rattle.dns_name.proofs.Spelled.{spelled_some, spelled-dot, filter_labels}
 use Rattle.dns_name.proofs.Spelling.{items_of-none}
 use Rattle.dns_name.proofs.ReadItems.{items_read, reads_root, reads_labels}
@@ -104,7 +104,7 @@ items_read-has items name h (inr e) = items_read-front items name h e
 pub read_if : (text : List ℕ) (name : List (List ℕ)) → IsSpelling text name → read_name text ≡ Ok name
 read_if text [] e = sym (reads_root text ((bytes_eq-Decides text (46 ∷ [])).1 e))
 read_if text (label ∷ rest) (h, has) =
-    let good : is_label label ≡ true = (both (is_label label) (list_all is_label rest) (name_each (label ∷ rest) h)).0 in
+    let good : is_label label ≡ true = (and_parts (is_label label) (list_all is_label rest) (name_each (label ∷ rest) h)).0 in
     sym (reads_labels text (other_than_root text label rest good has) (other_than_empty text label rest good has))
     ∙ items_read-has (items_of text) (label ∷ rest) h has
 

@@ -1,38 +1,31 @@
 -- The wire form of a name, and its labels.
-use Rattle.std.proofs.Common.{◌≡◌, ℕ, ◌+◌, ◌-◌, ◌≤◌, ◌++◌, ◌&&◌, List, [], ◌∷◌, ◌∙◌, Bool, true, false, Result, Ok, Err, length, take, drop, refl, arith, ap, sym, subst, length-append, append_assoc, append-nil}
+use Rattle.std.proofs.Common.{◌≡◌, ℕ, ◌+◌, ◌-◌, ◌≤◌, ◌++◌, List, [], ◌∷◌, ◌∙◌, true, Result, Ok, Err, length, take, drop, refl, arith, ap, sym, subst, length-append, append_assoc, append-nil}
 use Rattle.std.proofs.Math.Seq.{take-append_seam, drop-append_seam}
-use Rattle.std.proofs.lemmas.Bool.{false≢true, leb-true, le-leb, ne_eqb}
+use Rattle.std.proofs.lemmas.Bool.{false≢true, leb-true, le-leb, ne_eqb, and_from, and_parts}
 use Rattle.std.specs.Prelude.{IsTrue}
 use Rattle.std.specs.List.{list_all}
 use Rattle.std.specs.Result.{IsOk, OnOk}
 use Rattle.dns_name.specs.Names.{wire_of, labels_from, labels_of, is_label, is_name, IsNameInWire}
 
-pub both : (a b : Bool) → (a && b) ≡ true → (a ≡ true) × (b ≡ true)
-both true b h = (refl, h)
-both false b h = absurd (false≢true h)
-
-pub and_true : (a b : Bool) → a ≡ true → b ≡ true → (a && b) ≡ true
-and_true a b h k = rw (h, k) refl
-
 -- a label has 1 to 63 bytes
 pub label_some : (label : List ℕ) → is_label label ≡ true → 1 ≤ length label
-label_some label h = leb-true 1 (length label) (both _ _ h).0
+label_some label h = leb-true 1 (length label) (and_parts _ _ h).0
 
 pub label_most : (label : List ℕ) → is_label label ≡ true → length label ≤ 63
-label_most label h = leb-true (length label) 63 (both _ _ h).1
+label_most label h = leb-true (length label) 63 (and_parts _ _ h).1
 
 pub label_is : (label : List ℕ) → 1 ≤ length label → length label ≤ 63 → is_label label ≡ true
-label_is label h k = and_true _ _ (le-leb 1 (length label) h) (le-leb (length label) 63 k)
+label_is label h k = and_from _ _ (le-leb 1 (length label) h) (le-leb (length label) 63 k)
 
 -- a name's labels, and its length
 pub name_each : (name : List (List ℕ)) → IsTrue (is_name name) → list_all is_label name ≡ true
-name_each name h = (both _ _ h).0
+name_each name h = (and_parts _ _ h).0
 
 pub name_short : (name : List (List ℕ)) → IsTrue (is_name name) → length (wire_of name) ≤ 255
-name_short name h = leb-true (length (wire_of name)) 255 (both _ _ h).1
+name_short name h = leb-true (length (wire_of name)) 255 (and_parts _ _ h).1
 
 pub name_is : (name : List (List ℕ)) → list_all is_label name ≡ true → length (wire_of name) ≤ 255 → IsTrue (is_name name)
-name_is name h k = and_true _ _ h (le-leb (length (wire_of name)) 255 k)
+name_is name h k = and_from _ _ h (le-leb (length (wire_of name)) 255 k)
 
 -- the wire form without the zero byte
 abbrev pub front_of : List (List ℕ) → List ℕ
@@ -60,9 +53,9 @@ labels_from-label (b ∷ label) rest more e = rw (labels_from-label label rest m
 labels_from-wire_of : (name : List (List ℕ)) → list_all is_label name ≡ true → labels_from 0 (wire_of name) ≡ [] ∷ name
 labels_from-wire_of [] h = refl
 labels_from-wire_of (label ∷ rest) h =
-    let some : 1 ≤ length label = label_some label (both _ _ h).0 in
+    let some : 1 ≤ length label = label_some label (and_parts _ _ h).0 in
     let inside : labels_from (length label) (label ++ wire_of rest) ≡ label ∷ rest =
-    labels_from-label label (wire_of rest) rest (labels_from-wire_of rest (both (is_label label) (list_all is_label rest) h).1) in
+    labels_from-label label (wire_of rest) rest (labels_from-wire_of rest (and_parts (is_label label) (list_all is_label rest) h).1) in
     rw (ne_eqb (length label) 0 (λ e. absurd (omega arith)), inside) refl
 
 pub labels_of-wire_of : (name : List (List ℕ)) → list_all is_label name ≡ true → labels_of (wire_of name) ≡ name
@@ -79,8 +72,8 @@ wire_of-push : (name : List (List ℕ)) (label : List ℕ) → wire_of (name ++ 
 wire_of-push name label = wire_of-front (name ++ label ∷ []) ∙ ap (λ (l : List ℕ). l ++ 0 ∷ []) (front_of-push name label)
 
 list_all-push : (name : List (List ℕ)) (label : List ℕ) → list_all is_label name ≡ true → is_label label ≡ true → list_all is_label (name ++ label ∷ []) ≡ true
-list_all-push [] label h l = and_true _ _ l refl
-list_all-push (first ∷ rest) label h l = and_true _ _ (both _ _ h).0 (list_all-push rest label (both _ _ h).1 l)
+list_all-push [] label h l = and_from _ _ l refl
+list_all-push (first ∷ rest) label h l = and_from _ _ (and_parts _ _ h).0 (list_all-push rest label (and_parts _ _ h).1 l)
 
 pub length-wire_of-push : (name : List (List ℕ)) (label : List ℕ) → length (wire_of (name ++ label ∷ [])) ≡ length (wire_of name) + length label + 1
 length-wire_of-push name label =
@@ -126,7 +119,7 @@ pub record IsFirstLabel (name : List (List ℕ)) (size : ℕ) (rest : List ℕ) 
 
 later_is_name : (label : List ℕ) (name : List (List ℕ)) → IsTrue (is_name (label ∷ name)) → IsTrue (is_name name)
 later_is_name label name h =
-    name_is name (both (is_label label) (list_all is_label name) (name_each (label ∷ name) h)).1
+    name_is name (and_parts (is_label label) (list_all is_label name) (name_each (label ∷ name) h)).1
     (omega (arith, name_short (label ∷ name) h, length-append label (wire_of name)))
 
 first_label-whole : (label : List ℕ) (name : List (List ℕ)) → IsTrue (is_name (label ∷ name)) → IsFirstLabel (label ∷ name) (length label) (label ++ wire_of name)
@@ -136,7 +129,7 @@ first_label-whole label name h =
     let kept = in_wire name (drop (length label) (label ++ wire_of name)) (later_is_name label name h) tail in
     record {
       within = omega (arith, length-append label (wire_of name));
-      label = rw front (both (is_label label) (list_all is_label name) (name_each (label ∷ name) h)).0;
+      label = rw front (and_parts (is_label label) (list_all is_label name) (name_each (label ∷ name) h)).0;
       later = kept.0;
       parts = rw (front, kept.1) refl;
     }
@@ -166,16 +159,8 @@ put_in_front wire label sized extended after name kept is l room e f g =
     let whole : wire_of name ≡ wire = ap wire_of (sym is) ∙ kept.1 in
     let front : after ≡ wire_of (label ∷ name) = rw (g, f, e, whole) refl in
     in_wire (label ∷ name) after
-    (name_is (label ∷ name) (and_true (is_label label) (list_all is_label name) l (name_each name h))
+    (name_is (label ∷ name) (and_from (is_label label) (list_all is_label name) l (name_each name h))
     (omega (arith, ap length whole, length-append label (wire_of name)))) front
-
-pub list_all-append : (p : List ℕ → Bool) (xs ys : List (List ℕ)) → list_all p (xs ++ ys) ≡ (list_all p xs && list_all p ys)
-list_all-append p [] ys = refl
-list_all-append p (x ∷ xs) ys = rw (list_all-append p xs ys) (and-assoc (p x) (list_all p xs) (list_all p ys))
-  where
-    and-assoc : (a b c : Bool) → (a && (b && c)) ≡ ((a && b) && c)
-    and-assoc true b c = refl
-    and-assoc false b c = refl
 
 -- a wire form has its zero byte
 pub wire_some : (labels : List (List ℕ)) → 1 ≤ length (wire_of labels)

@@ -66,6 +66,7 @@ read_name text =
 abbrev pub label_items : List ℕ → List TextItem
 label_items label = map (λ byte. Byte byte) label ++ Dot ∷ []
 
+-- the items of a name
 abbrev pub name_items : List (List ℕ) → List TextItem
 name_items name = flat_map label_items name
 

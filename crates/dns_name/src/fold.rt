@@ -38,7 +38,7 @@ fn is_same_letter(left: u8, right: u8) -> bool
     left == right || lower(left) == lower(right)
 }
 
-// Whether bytes are the same with ASCII letters in lower case.
+/// Whether bytes are the same with ASCII letters in lower case.
 pub(crate) fn is_same_folded(left: &[u8], right: &[u8]) -> bool
     ensures { IsTrue result ↔ (str_to_ascii_lowercase left.now ≡ str_to_ascii_lowercase right.now) }
 {
@@ -53,7 +53,7 @@ pub(crate) fn is_same_folded(left: &[u8], right: &[u8]) -> bool
     true
 }
 
-// The order of bytes with ASCII letters in lower case.
+/// The order of bytes with ASCII letters in lower case.
 pub(crate) fn folded_order(left: &[u8], right: &[u8]) -> Ordering
     ensures { result ≡ slice_cmp nat_cmp (str_to_ascii_lowercase left.now) (str_to_ascii_lowercase right.now) }
 {

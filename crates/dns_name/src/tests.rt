@@ -65,6 +65,16 @@ fn the_first_fault_is_told(rt: HostRuntime) {
     ] {
         expect_fault(&rt, text, fault);
     }
+    assert_eq!(rt;
+        [
+            NameError::EmptyLabel as u8,
+            NameError::LongLabel as u8,
+            NameError::LongName as u8,
+            NameError::BadEscape as u8
+        ]
+        .as_slice(),
+        [1, 2, 3, 4].as_slice()
+    );
 }
 
 #[test]

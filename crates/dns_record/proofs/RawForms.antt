@@ -1,14 +1,14 @@
 -- Names in wire form at the front of bytes, and the forms of data that are kept as bytes.
-use Rattle.std.proofs.Common.{◌≡◌, ℕ, ◌+◌, ◌-◌, ◌<◌, ◌≤◌, ◌++◌, ◌&&◌, ◌∙◌, Bool, true, false, cond, List, [], ◌∷◌, eqb, Option, Some, None, length, take, drop, refl, sym, ap, subst, arith, rules, length-append, length-take, append_assoc}
+use Rattle.std.proofs.Common.{◌≡◌, ℕ, ◌+◌, ◌-◌, ◌≤◌, ◌++◌, ◌&&◌, ◌∙◌, Bool, true, false, cond, List, [], ◌∷◌, Option, Some, None, length, take, drop, refl, sym, ap, subst, arith, length-append, length-take, append_assoc}
 use Rattle.std.specs.Prelude.{IsTrue}
 use Rattle.std.specs.List.{list_all}
 use Rattle.std.specs.Str.{bytes_eq}
 use Rattle.std.proofs.Math.Seq.{take-append_seam, drop-append_seam}
-use Rattle.std.proofs.lemmas.Bool.{false≢true, ne_eqb}
-use Rattle.std.proofs.lemmas.List.{append-nil, append_cancel_left, take-append-drop}
+use Rattle.std.proofs.lemmas.Bool.{ne_eqb, and_from, and_parts}
+use Rattle.std.proofs.lemmas.List.{append_cancel_left, take-append-drop}
 use Rattle.std.proofs.lemmas.Slice.Eq.{bytes_eq-Decides}
 use Rattle.dns_name.specs.Names.{wire_of, labels_of, labels_from, is_label, is_name}
-use Rattle.dns_name.proofs.Wire.{front_of, wire_of-front, front_of-push, both, and_true, label_some, label_most, label_is, name_each, name_short, name_is, list_head, list_tail}
+use Rattle.dns_name.proofs.Wire.{front_of, wire_of-front, front_of-push, label_some, label_most, label_is, name_each, name_short, name_is, list_head, list_tail}
 use Rattle.std.proofs.lemmas.List.Folds.{list_all-append}
 use Rattle.dns_record.specs.Records.{after_name}
 
@@ -30,9 +30,9 @@ labels_from-label (b ∷ label) rest more e = rw (labels_from-label label rest m
 labels_from-front : (name : List (List ℕ)) (more : List ℕ) → list_all is_label name ≡ true → labels_from 0 (wire_of name ++ more) ≡ [] ∷ name
 labels_from-front [] more h = refl
 labels_from-front (label ∷ rest) more h =
-    let some : 1 ≤ length label = label_some label (both _ _ h).0 in
+    let some : 1 ≤ length label = label_some label (and_parts _ _ h).0 in
     let inside : labels_from (length label) (label ++ (wire_of rest ++ more)) ≡ label ∷ rest =
-    labels_from-label label (wire_of rest ++ more) rest (labels_from-front rest more (both (is_label label) (list_all is_label rest) h).1) in
+    labels_from-label label (wire_of rest ++ more) rest (labels_from-front rest more (and_parts (is_label label) (list_all is_label rest) h).1) in
     rw (append_assoc label (wire_of rest) more, ne_eqb (length label) 0 (λ e. absurd (omega arith)), inside) refl
 
 -- bytes that begin with a name's wire form
@@ -70,7 +70,7 @@ one_more bytes after size so_far some most within room =
     let whole : length bytes ≡ length (front_of labels) + length after + 1 = omega (arith, ap length so_far.parts, length-append (front_of labels) (size ∷ after)) in
     record {
       labels = labels ++ label ∷ [];
-      each = list_all-append is_label labels (label ∷ []) ∙ and_true (list_all is_label labels) (is_label label && true) so_far.each (and_true (is_label label) true (label_is label (omega arith) (omega arith)) refl);
+      each = list_all-append is_label labels (label ∷ []) ∙ and_from (list_all is_label labels) (is_label label && true) so_far.each (and_from (is_label label) true (label_is label (omega arith) (omega arith)) refl);
       parts = so_far.parts ∙ ap (λ (l : List ℕ). front_of labels ++ size ∷ l) (sym (take-append-drop size after)) ∙ regrouped (front_of labels) label (drop size after) size n
           ∙ ap (λ (l : List ℕ). l ++ drop size after) (sym pushed);
       short = omega (arith, ap length pushed, length-append (front_of labels) (length label ∷ label));
@@ -103,12 +103,12 @@ shared : (labels name : List (List ℕ)) (rest more : List ℕ) → list_all is_
     → (later : List (List ℕ)) × (name ≡ labels ++ later) × (rest ≡ wire_of later ++ more)
 shared [] name rest more each e = (name, refl, e)
 shared (label ∷ labels) [] rest more each e =
-    absurd (omega (arith, label_some label (both _ _ each).0, list_head (length label) 0 (label ++ front_of labels ++ rest) more e))
+    absurd (omega (arith, label_some label (and_parts _ _ each).0, list_head (length label) 0 (label ++ front_of labels ++ rest) more e))
 shared (label ∷ labels) (first ∷ name) rest more each e =
     let size : length label ≡ length first = list_head (length label) (length first) (label ++ front_of labels ++ rest) (first ++ wire_of name ++ more) e in
     let tails : label ++ front_of labels ++ rest ≡ first ++ wire_of name ++ more = list_tail (length label) (length first) (label ++ front_of labels ++ rest) (first ++ wire_of name ++ more) e in
     let parts = split_equal label first (front_of labels ++ rest) (wire_of name ++ more) size (sym (append_assoc label (front_of labels) rest) ∙ tails ∙ append_assoc first (wire_of name) more) in
-    let ih = shared labels name rest more (both (is_label label) (list_all is_label labels) each).1 parts.1 in
+    let ih = shared labels name rest more (and_parts (is_label label) (list_all is_label labels) each).1 parts.1 in
     (ih.0, (λ i. sym parts.0 i ∷ ih.1 i), ih.2)
 
 wire_of-append : (labels later : List (List ℕ)) → wire_of (labels ++ later) ≡ front_of labels ++ wire_of later
@@ -129,7 +129,7 @@ no_name bytes rest so_far never = at_result (after_name bytes) refl
         let name = labels_of bytes in
         let s = shared so_far.labels name rest more so_far.each (sym so_far.parts ∙ p.1) in
         let each : list_all is_label name ≡ true = name_each name p.0 in
-        let later_each : list_all is_label s.0 ≡ true = (both (list_all is_label so_far.labels) (list_all is_label s.0) (sym (list_all-append is_label so_far.labels s.0) ∙ ap (list_all is_label) (sym s.1) ∙ each)).1 in
+        let later_each : list_all is_label s.0 ≡ true = (and_parts (list_all is_label so_far.labels) (list_all is_label s.0) (sym (list_all-append is_label so_far.labels s.0) ∙ ap (list_all is_label) (sym s.1) ∙ each)).1 in
         let size : length (wire_of name) ≡ length (front_of so_far.labels) + length (wire_of s.0) =
         ap (λ l. length (wire_of l)) s.1 ∙ ap length (wire_of-append so_far.labels s.0) ∙ length-append (front_of so_far.labels) (wire_of s.0) in
         absurd (never s.0 more later_each s.2 (omega (arith, name_short name p.0)))
@@ -155,6 +155,6 @@ no_label bytes after size so_far some bad = no_name bytes (size ∷ after) so_fa
     refuse (label ∷ later) more each e room =
         let n : size ≡ length label = list_head size (length label) after (label ++ wire_of later ++ more) e in
         let tail : after ≡ label ++ wire_of later ++ more = list_tail size (length label) after (label ++ wire_of later ++ more) e in
-        bad (omega (arith, label_most label (both _ _ each).0))
+        bad (omega (arith, label_most label (and_parts _ _ each).0))
         (omega (arith, ap length tail, length-append (label ++ wire_of later) more, length-append label (wire_of later)))
         (omega (arith, whole, length-append label (wire_of later), wire_some later))

@@ -1,5 +1,5 @@
 -- Records are the same exactly where their identities are one, and record order is an order of identities.
-use Rattle.std.proofs.Common.{◌≡◌, ◌&&◌, ◌∙◌, Bool, true, false, ℕ, List, ap, sym, eqb, arith, rules, refl, subst, Ordering, Less, Equal, Greater}
+use Rattle.std.proofs.Common.{◌≡◌, ◌&&◌, ◌∙◌, Bool, true, false, ap, sym, eqb, refl, subst, Ordering, Less, Equal, Greater}
 use Rattle.std.specs.Prelude.{◌↔◌, IsTrue}
 use Rattle.std.specs.Bool.{Decides}
 use Rattle.std.specs.Str.{bytes_eq}
@@ -15,7 +15,7 @@ use Rattle.std.proofs.lemmas.Bool.Decides.{Decides-eqb}
 use Rattle.dns_name.specs.Names.{folded_eq, name_cmp}
 use Rattle.dns_record.specs.declared.record.Rr.{Rr}
 use Rattle.dns_record.specs.declared.record.Rdata.{Rdata}
-use Rattle.dns_record.specs.Records.{Identity, identity_of, identity_cmp, is_same, same, data_eq, data_of, kind_of, rdata_cmp, record_cmp}
+use Rattle.dns_record.specs.Records.{Identity, identity_of, same, data_eq, data_of, kind_of, rdata_cmp, record_cmp}
 
 all_three : (a b c : Bool) → (a && (b && c)) ≡ true → (a ≡ true) × (b ≡ true) × (c ≡ true)
 all_three true true c h = (refl, refl, h)
@@ -25,9 +25,18 @@ all_three false b c h = absurd (false≢true h)
 one_identity : (left right : Identity) → left.owner ≡ right.owner → left.kind ≡ right.kind → left.bytes ≡ right.bytes → left ≡ right
 one_identity left right owner kind content = λ i. record { owner = owner i; kind = kind i; bytes = content i }
 
+-- the order of identities: by owner, then by type, then by data
+abbrev pub identity_cmp : Identity → Identity → Ordering
+identity_cmp left right =
+    ordering_then (slice_cmp nat_cmp left.owner right.owner)
+    (ordering_then (nat_cmp left.kind right.kind) (slice_cmp nat_cmp left.bytes right.bytes))
+
+-- whether two identities are one
+abbrev pub is_same : Identity → Identity → Bool
+is_same left right = bytes_eq left.owner right.owner && (eqb left.kind right.kind && bytes_eq left.bytes right.bytes)
+
 -- the test of sameness decides equality of identities
 pub is_same-Decides : (left right : Identity) → Decides (is_same left right) (left ≡ right)
-unfolding is_same
 is_same-Decides left right =
     let owners = bytes_eq-Decides left.owner right.owner in
     let kinds = Decides-eqb left.kind right.kind in
@@ -38,7 +47,7 @@ is_same-Decides left right =
 
 -- sameness of records is that of their identities
 pub same-identities : (left right : Rr) → same left right ≡ is_same (identity_of left) (identity_of right)
-unfolding same is_same folded_eq data_eq
+unfolding same folded_eq data_eq
 same-identities left right = refl
 
 -- records are the same exactly where their identities are one

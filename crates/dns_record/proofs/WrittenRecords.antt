@@ -1,14 +1,15 @@
 -- What is written of a record is read as that record.
-use Rattle.std.proofs.Common.{◌≡◌, ℕ, ◌+◌, ◌/◌, ◌%◌, ◌<◌, ◌≤◌, ◌^◌, ◌++◌, ◌&&◌, ◌||◌, ◌∙◌, Bool, true, false, not, cond, List, [], ◌∷◌, eqb, leb, Option, Some, None, refl, sym, ap, arith, rules, append_assoc}
+use Rattle.std.proofs.Common.{◌≡◌, ℕ, ◌+◌, ◌/◌, ◌%◌, ◌<◌, ◌^◌, ◌++◌, ◌||◌, ◌∙◌, Bool, true, false, not, cond, List, [], ◌∷◌, eqb, leb, Option, Some, None, refl, sym, ap, arith, append_assoc}
 use Rattle.std.specs.Prelude.{IsTrue, decimal, option_and_then}
-use Rattle.std.specs.List.{list_any, flat_map}
+use Rattle.std.specs.List.{flat_map}
 use Rattle.std.specs.Option.{option_map}
-use Rattle.std.proofs.lemmas.Bool.{ne_eqb, eqb-true, false≢true, leb-false, and_parts}
+use Rattle.std.specs.Result.{result_ok}
+use Rattle.std.proofs.lemmas.Bool.{ne_eqb, eqb-true, false≢true, leb-false, and_parts, not-true}
 use Rattle.std.proofs.lemmas.List.Folds.{list_any-append}
-use Rattle.mdns_base.specs.Cut.{cut_of}
 use Rattle.mdns_base.specs.Digits.{decimal_below, hex_of, hex_text, ipv4_of, ipv4_text, ipv6_of, ipv6_text}
 use Rattle.mdns_base.proofs.Joined.{lacks, cut_of-joined}
 use Rattle.mdns_base.proofs.Decimals.{decimal_below_written, decimal_lacks}
+use Rattle.dns_name.specs.ReadName.{read_name}
 use Rattle.dns_name.specs.NameText.{three_digits, byte_text, label_text, name_text}
 use Rattle.dns_record.specs.Records.{kind_of, is_rdata, is_typed, has_raw_form}
 use Rattle.dns_record.specs.RecordText.{srv_text, data_text, flush_text, kind_text, record_text}
@@ -52,6 +53,10 @@ labels_lack (label ∷ labels) =
 name_lacks : (name : List (List ℕ)) → lacks 32 (name_text name) ≡ false
 name_lacks [] = refl
 name_lacks (label ∷ labels) = labels_lack (label ∷ labels)
+
+-- a name's text is one token, so it is read as the name that it spells
+pub name_back : (name : List (List ℕ)) → result_ok (read_name (name_text name)) ≡ Some name → name_read (name_text name) ≡ Some name
+name_back name e = rw (name_lacks name) e
 
 flush_lacks : (flush : Bool) → lacks 32 (flush_text flush) ≡ false
 flush_lacks true = refl
@@ -98,13 +103,9 @@ untyped kind h = (other 1 refl, other 28 refl, other 12 refl, other 5 refl, othe
     other : (v : ℕ) → is_typed v ≡ true → eqb kind v ≡ false
     other v t = ne_eqb kind v (λ e. false≢true (sym h ∙ ap is_typed e ∙ t))
 
-not_true : (b : Bool) → not b ≡ true → b ≡ false
-not_true true h = absurd (cc)
-not_true false h = refl
-
 other_type : (kind : ℕ) (bytes : List ℕ) → IsTrue (is_rdata (Raw kind bytes)) → is_typed kind ≡ false
 unfolding is_rdata
-other_type kind bytes valid = not_true (is_typed kind) (and_parts (not (is_typed kind)) (has_raw_form kind bytes) valid).0
+other_type kind bytes valid = not-true (is_typed kind) (and_parts (not (is_typed kind)) (has_raw_form kind bytes) valid).0
 
 pub raw_written : (kind : ℕ) (bytes : List ℕ) → IsTrue (is_rdata (Raw kind bytes)) → hex_of (hex_text bytes) ≡ Some bytes → rdata_read kind (hex_text bytes) ≡ Some (Raw kind bytes)
 unfolding rdata_read raw_read

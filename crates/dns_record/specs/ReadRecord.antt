@@ -1,21 +1,18 @@
--- Types, data and records read from text: exactly what is written, digits of hexadecimal and IPv6 in either case.
-use Rattle.std.specs.Prelude.{ℕ, ◌+◌, ◌^◌, ◌==◌, ◌&&◌, Bool, true, false, List, [], ◌∷◌, ◌++◌, take, drop, Option, Some, None, option_and_then, is_some, decimal, codes, if◌then◌else◌}
-use Rattle.std.specs.List.{find}
+-- Types, data and records read from text: exactly what is written, but that digits of hexadecimal and IPv6 have either case, a name's last dot may
+-- be missing, and a byte of a name may be written in any way that spells it.
+use Rattle.std.specs.Prelude.{ℕ, ◌^◌, ◌==◌, Bool, true, false, List, [], ◌∷◌, take, drop, Option, Some, None, is_some, codes, if◌then◌else◌}
+use Rattle.std.specs.List.{find, list_any}
 use Rattle.std.specs.Option.{option_map, option_map_or, option_or}
 use Rattle.std.specs.Result.{result_ok}
 use Rattle.std.specs.Str.{bytes_eq}
 use Rattle.mdns_base.specs.Cut.{cut_of}
-use Rattle.mdns_base.specs.Digits.{decimal_below, hex_of, ipv4_of, ipv6_of}
+use Rattle.mdns_base.specs.Digits.{◌>>=◌, decimal_below, hex_of, ipv4_of, ipv6_of}
 use Rattle.dns_name.specs.ReadName.{read_name}
 use Rattle.dns_record.specs.Records.{is_rdata}
 use Rattle.dns_record.specs.RecordText.{kind_name}
 use Rattle.dns_record.specs.declared.record.Rdata.{Rdata}
 use Rattle.dns_record.specs.declared.record.Rdata.TheVariants as data_of
 use Rattle.dns_record.specs.declared.record.Rr.{Rr}
-
-infixl 10 ◌>>=◌
-abbrev pub ◌>>=◌ : {A B : Type 0} → Option A → (A → Option B) → Option B
-o >>= f = option_and_then f o
 
 -- the types that have a name
 abbrev pub named_kinds : List ℕ
@@ -35,9 +32,9 @@ numbered_kind text = do
 unfoldable pub kind_read : List ℕ → Option ℕ
 kind_read text = option_or (find (is_name_of text) named_kinds) (numbered_kind text)
 
--- the name that a text spells, if it does
+-- the name that a token spells, if it does: a token has no space
 abbrev pub name_read : List ℕ → Option (List (List ℕ))
-name_read text = result_ok (read_name text)
+name_read text = if list_any (λ b. b == 32) text then None else result_ok (read_name text)
 
 -- priority, weight, port and target
 unfoldable pub srv_read : List ℕ → Option Rdata

@@ -52,16 +52,6 @@ pub record Identity : Type 0 where
 abbrev pub identity_of : Rr → Identity
 identity_of rr = record { owner = wire_of (folded rr.owner); kind = kind_of rr.rdata; bytes = data_of rr.rdata }
 
--- the order of identities: by owner, then by type, then by data
-abbrev pub identity_cmp : Identity → Identity → Ordering
-identity_cmp left right =
-    ordering_then (slice_cmp nat_cmp left.owner right.owner)
-    (ordering_then (nat_cmp left.kind right.kind) (slice_cmp nat_cmp left.bytes right.bytes))
-
--- whether two identities are one
-unfoldable pub is_same : Identity → Identity → Bool
-is_same left right = bytes_eq left.owner right.owner && ((left.kind == right.kind) && bytes_eq left.bytes right.bytes)
-
 -- whether two data are equal: the type and the bytes agree
 unfoldable pub data_eq : Rdata → Rdata → Bool
 data_eq left right = (kind_of left == kind_of right) && bytes_eq (data_of left) (data_of right)
@@ -112,7 +102,7 @@ has_raw_form kind bytes =
     else if kind == 6 then leaves 20 (option_and_then after_name (after_name bytes))
     else true
 
--- Raw data are of another type than those that have a variant, and have their type's form.
+-- Raw data are of another type than OPT and those that have a variant, and have their type's form.
 unfoldable pub is_rdata : Rdata → Bool
 is_rdata (Raw kind bytes) = not (is_typed kind) && has_raw_form kind bytes
 is_rdata _ = true

@@ -28,6 +28,15 @@ impl Bytes {
         }
     }
 
+    /// A list of these bytes. Refused only for want of memory.
+    pub fn from_slice(alloc: Global, bytes: &[u8]) -> Result<Self, AllocError>
+        ensures { IfOk result (λ copy. copy ≡ bytes.now) }
+    {
+        Ok(Bytes {
+            items: Vec::from_slice(alloc, bytes)?,
+        })
+    }
+
     /// The bytes of a vector. Takes no memory.
     pub fn from_vec(items: Vec<u8>) -> Self
         ensures { result ≡ items.items }
@@ -63,8 +72,6 @@ impl Bytes {
     pub fn copy(&self, alloc: Global) -> Result<Self, AllocError>
         ensures { IfOk result (λ copy. copy ≡ self.now) }
     {
-        Ok(Bytes {
-            items: Vec::from_slice(alloc, self.items.as_slice())?,
-        })
+        Bytes::from_slice(alloc, self.items.as_slice())
     }
 }

@@ -1,12 +1,15 @@
 // When two records are the same, their order, and which records a question asks for.
-ghost use Rattle.std.specs.Prelude.{◌≡◌, ◌↔◌, ◌++◌, ◌≤◌, length, IsTrue};
+ghost use Rattle.std.specs.Prelude.{◌≡◌, ◌↔◌, [], ◌++◌, ◌≤◌, length, IsTrue};
 ghost use Rattle.std.specs.Int.{to_be_bytes, w32};
+ghost use Rattle.std.specs.List.{list_any};
 ghost use Rattle.std.specs.Ordering.{nat_cmp};
 ghost use Rattle.std.specs.Cmp.Lexicographic.{slice_cmp};
+ghost use Rattle.dns_name.specs.Names.{wire_of};
 ghost use Rattle.dns_record.specs.Records.{data_of, data_eq, identity_of, same, record_cmp, rdata_cmp, matches};
 
 use crate::{Key, Rdata, Rr};
 use arrayvec::ArrayVec;
+use dns_name::Name;
 use std::cmp::Ordering;
 
 // Data as they stand in a message in which no name is compressed: fixed bytes, a name in wire form, other bytes.
@@ -21,23 +24,10 @@ impl Rdata {
     fn parts(&self) -> Parts<'_>
         ensures { result.fixed.items ++ result.name.now ++ result.rest.now ≡ data_of self.now }
     {
-        let none: &[u8] = &[];
         match self {
-            Rdata::A(address) => Parts {
-                fixed: fixed(&address.to_be_bytes()),
-                name: none,
-                rest: none,
-            },
-            Rdata::Aaaa(address) => Parts {
-                fixed: fixed(&address.to_be_bytes()),
-                name: none,
-                rest: none,
-            },
-            Rdata::Ptr(name) | Rdata::Cname(name) => Parts {
-                fixed: ArrayVec::new(),
-                name: name.as_wire(),
-                rest: none,
-            },
+            Rdata::A(address) => plain_parts(&address.to_be_bytes(), &[]),
+            Rdata::Aaaa(address) => plain_parts(&address.to_be_bytes(), &[]),
+            Rdata::Ptr(name) | Rdata::Cname(name) => named_parts(&[], name, &[]),
             Rdata::Srv {
                 priority,
                 weight,
@@ -47,22 +37,10 @@ impl Rdata {
                 let [a, b] = priority.to_be_bytes();
                 let [c, d] = weight.to_be_bytes();
                 let [e, f] = port.to_be_bytes();
-                Parts {
-                    fixed: fixed(&[a, b, c, d, e, f]),
-                    name: target.as_wire(),
-                    rest: none,
-                }
+                named_parts(&[a, b, c, d, e, f], target, &[])
             }
-            Rdata::Nsec { next, bitmap } => Parts {
-                fixed: ArrayVec::new(),
-                name: next.as_wire(),
-                rest: bitmap.as_slice(),
-            },
-            Rdata::Txt(bytes) | Rdata::Raw { bytes, .. } => Parts {
-                fixed: ArrayVec::new(),
-                name: none,
-                rest: bytes.as_slice(),
-            },
+            Rdata::Nsec { next, bitmap } => named_parts(&[], next, bitmap.as_slice()),
+            Rdata::Txt(bytes) | Rdata::Raw { bytes, .. } => plain_parts(&[], bytes.as_slice()),
         }
     }
 
@@ -104,6 +82,34 @@ fn order_of(left: &Parts<'_>, right: &Parts<'_>) -> Ordering
         .chain(right.name.iter())
         .chain(right.rest.iter());
     left.cmp(right)
+}
+
+// The parts of data with a name in them.
+fn named_parts<'a>(front: &[u8], name: &'a Name, rest: &'a [u8]) -> Parts<'a>
+    requires { length front.now ≤ 16 }
+    ensures fixed { result.fixed.items ≡ front.now }
+    ensures name { result.name.now ≡ wire_of name.now }
+    ensures rest { result.rest.now ≡ rest.now }
+{
+    Parts {
+        fixed: fixed(front),
+        name: name.as_wire(),
+        rest,
+    }
+}
+
+// The parts of data without a name.
+fn plain_parts<'a>(front: &[u8], rest: &'a [u8]) -> Parts<'a>
+    requires { length front.now ≤ 16 }
+    ensures fixed { result.fixed.items ≡ front.now }
+    ensures name { result.name.now ≡ [] }
+    ensures rest { result.rest.now ≡ rest.now }
+{
+    Parts {
+        fixed: fixed(front),
+        name: &[],
+        rest,
+    }
 }
 
 // So many fixed bytes.
@@ -167,4 +173,11 @@ pub fn matches(question: &Key, rr: &Rr) -> bool
     ensures { result ≡ matches question.now rr.now }
 {
     question.name.folded_eq(&rr.owner) && (question.kind == 255 || question.kind == rr.rdata.kind())
+}
+
+/// Whether one of the questions asks for the record.
+pub fn matches_any(keys: &[Key], rr: &Rr) -> bool
+    ensures { result ≡ list_any (λ key. matches key rr.now) keys.now }
+{
+    keys.iter().any(|key| matches(key, rr))
 }

@@ -11,12 +11,12 @@ mod record;
 mod write;
 
 pub use bytes::Bytes;
-pub use compare::{matches, rdata_cmp, record_cmp};
+pub use compare::{matches, matches_any, rdata_cmp, record_cmp};
 pub use error::RecordError;
 pub use law::record_order_is_total;
 pub use read::read_kind;
 pub use record::{Key, Question, Rdata, Rr};
-pub use write::{put_kind, put_name, put_rdata, put_record};
+pub use write::{put_kind, put_name, put_rdata, put_record, put_srv};
 
 #[cfg(test)]
 mod tests;

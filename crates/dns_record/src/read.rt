@@ -1,6 +1,6 @@
 // Types, data and records read from text.
-ghost use Rattle.std.specs.Prelude.{◌≡◌, ◌^◌, Some, None, decimal, IfOk, IfSome, IsTrue, MatchResult};
-ghost use Rattle.std.specs.List.{find};
+ghost use Rattle.std.specs.Prelude.{◌≡◌, ◌^◌, ◌==◌, Some, None, decimal, IfOk, IfSome, IsTrue, MatchResult};
+ghost use Rattle.std.specs.List.{find, list_any};
 ghost use Rattle.std.specs.Option.{option_map};
 ghost use Rattle.mdns_base.specs.Cut.{cut_of};
 ghost use Rattle.mdns_base.specs.Digits.{IsReadFrom, hex_of};
@@ -65,11 +65,20 @@ fn numbered_kind(text: &[u8]) -> Option<u16>
     }
 }
 
-// The name that a text spells.
+// The name that a token spells: a token has no space.
 fn read_name(text: &str) -> Option<Name>
     ensures { result ≡ name_read text.now }
 {
+    if has_space(text.as_bytes()) {
+        return None;
+    }
     Name::parse_text(text).ok()
+}
+
+fn has_space(text: &[u8]) -> bool
+    ensures { result ≡ list_any (λ b. b == 32) text.now }
+{
+    text.iter().any(|b| *b == b' ')
 }
 
 // The word before the first space, and what follows the space.

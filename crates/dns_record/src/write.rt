@@ -44,6 +44,7 @@ pub fn put_record(out: &mut Vec<u8>, rr: &Rr) -> Result<(), AllocError>
 }
 
 /// Appends the text of a name, which is read as that name. Refused only for want of memory.
+#[tactic(auto, using(crate::proofs::WrittenRecords::name_back))]
 pub fn put_name(out: &mut Vec<u8>, name: &Name) -> Result<(), AllocError>
     ensures text { OnOk result (out.new.items ≡ out.old.items ++ name_text name.now) }
     ensures read { name_read (name_text name.now) ≡ Some name.now }
@@ -91,7 +92,7 @@ fn put_kind_name(out: &mut Vec<u8>, kind: u16) -> Result<(), AllocError>
     }
 }
 
-// The name of a type, if it has one.
+/// The name of a type, if it has one.
 #[tactic(auto, unfolding(crate::specs::RecordText::kind_name))]
 pub(crate) fn kind_name(kind: u16) -> Option<&'static [u8]>
     ensures { option_map (λ name. name.now) result ≡ kind_name kind }
@@ -144,8 +145,10 @@ pub fn put_rdata(out: &mut Vec<u8>, rdata: &Rdata) -> Result<(), AllocError>
     Ok(())
 }
 
+/// Appends priority, weight, port and target, parted by spaces, which are read as these data of SRV. Refused only for want
+/// of memory.
 #[tactic(auto, using(crate::proofs::WrittenRecords::srv_written))]
-fn put_srv(
+pub fn put_srv(
     out: &mut Vec<u8>,
     priority: u16,
     weight: u16,

@@ -7,7 +7,7 @@ use Rattle.std.proofs.lemmas.Str.Parse.{IsNumeralModel, numerals_by_fold}
 use Rattle.mdns_base.proofs.Joined.{lacks}
 use Rattle.std.specs.Str.{bytes_eq, all_ascii_digits}
 use Rattle.std.specs.Str.Parse.{digits_value, ParsesUnsigned}
-use Rattle.std.proofs.lemmas.Bool.{ne_eqb, false≢true, ltb-true}
+use Rattle.std.proofs.lemmas.Bool.{ne_eqb, false≢true, ltb-true, and_parts}
 use Rattle.std.proofs.lemmas.Bool.Decides.{nat_tests}
 use Rattle.std.proofs.lemmas.Fmt.{decimal_is_IsNumeral, digits_decimal, parse-decimal}
 use Rattle.std.proofs.lemmas.Slice.Eq.{bytes_eq-Decides}
@@ -23,10 +23,6 @@ decimal_some text n small e =
     let same : bytes_eq (decimal n) text ≡ true = (bytes_eq-Decides (decimal n) text).1 (sym e) in
     rw (value, fits, same) refl
 
-both : (a b : Bool) → (a && b) ≡ true → (a ≡ true) × (b ≡ true)
-both true b h = (refl, h)
-both false b h = absurd (false≢true h)
-
 -- what is the print of no number is read as none
 pub decimal_none : (text : List ℕ) → ((n : ℕ) → n < 2 ^ 64 → text ≡ decimal n → ⊥) → None ≡ decimal_of text
 unfolding decimal_of
@@ -35,7 +31,7 @@ decimal_none text no_number = at_test (ltb (digits_value 10 text) (2 ^ 64) && by
     at_test : (b : Bool) → (ltb (digits_value 10 text) (2 ^ 64) && bytes_eq (decimal (digits_value 10 text)) text) ≡ b → None ≡ cond b (Some (digits_value 10 text)) None
     at_test false e = refl
     at_test true e =
-        let p = both _ _ e in
+        let p = and_parts _ _ e in
         absurd (no_number (digits_value 10 text) (ltb-true (digits_value 10 text) (2 ^ 64) p.0) (sym ((bytes_eq-Decides (decimal (digits_value 10 text)) text).0 p.1)))
 
 -- what is read is the number whose print the text is
@@ -53,7 +49,7 @@ decimal_of-exact text = at_test (ltb (digits_value 10 text) (2 ^ 64) && bytes_eq
     at_test : (b : Bool) → (ltb (digits_value 10 text) (2 ^ 64) && bytes_eq (decimal (digits_value 10 text)) text) ≡ b → IsReadFrom decimal (2 ^ 64) text (cond b (Some (digits_value 10 text)) None)
     at_test false e = unread e
     at_test true e =
-        let p = both _ _ e in
+        let p = and_parts _ _ e in
         (ltb-true (digits_value 10 text) (2 ^ 64) p.0, sym ((bytes_eq-Decides (decimal (digits_value 10 text)) text).0 p.1))
 
 pub read_text : {E : Type 0} (text : List ℕ) (r : Option ℕ) (n : ℕ) (p : Result ℕ E) → p ≡ Ok n → ParsesUnsigned 64 10 text p → MatchOption r (text ≢ decimal n) (λ m. (m ≡ n) × (m < 2 ^ 64) × (text ≡ decimal n)) → r ≡ decimal_of text
@@ -108,7 +104,7 @@ decimal_written n h = sym (decimal_some (decimal n) n h refl)
 digits_lack : (c : ℕ) (ds : List ℕ) → is_ascii_digit c ≡ false → all_ascii_digits ds ≡ true → lacks c ds ≡ false
 digits_lack c [] h k = refl
 digits_lack c (d ∷ ds) h k =
-    let p = both (is_ascii_digit d) (all_ascii_digits ds) k in
+    let p = and_parts (is_ascii_digit d) (all_ascii_digits ds) k in
     let other : eqb d c ≡ false = ne_eqb d c (λ e. false≢true (sym h ∙ ap is_ascii_digit (sym e) ∙ p.0)) in
     rw (other, digits_lack c ds h p.1) refl
 

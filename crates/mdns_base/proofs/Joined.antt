@@ -1,10 +1,10 @@
 -- Four parts with a separator between them.
-use Rattle.std.proofs.Common.{◌≡◌, ℕ, ◌++◌, ◌||◌, List, [], ◌∷◌, ◌∙◌, Bool, true, false, cond, eqb, Option, Some, None, refl, sym, ap, append_assoc, eq-eqb}
+use Rattle.std.proofs.Common.{◌≡◌, ℕ, ◌++◌, List, [], ◌∷◌, ◌∙◌, Bool, true, false, cond, eqb, Option, Some, None, refl, sym, ap, append_assoc, eq-eqb}
 use Rattle.std.specs.Char.{to_ascii_lowercase}
 use Rattle.std.specs.List.{list_any}
 use Rattle.std.specs.Option.{option_map, option_and_then}
 use Rattle.std.specs.Str.{str_to_ascii_lowercase}
-use Rattle.std.proofs.lemmas.Bool.{eqb-true}
+use Rattle.std.proofs.lemmas.Bool.{eqb-true, or_parts}
 use Rattle.std.proofs.lemmas.Option.{option_and_then_some}
 use Rattle.mdns_base.specs.Cut.{cut_of}
 use Rattle.mdns_base.specs.Digits.{four_of, four_text}
@@ -12,10 +12,6 @@ use Rattle.mdns_base.specs.Digits.{four_of, four_text}
 -- no byte is the separator
 abbrev pub lacks : ℕ → List ℕ → Bool
 lacks c text = list_any (λ b. eqb b c) text
-
-either : (a b : Bool) → (a || b) ≡ false → (a ≡ false) × (b ≡ false)
-either true b h = absurd (cc)
-either false b h = (refl, h)
 
 -- equal pairs
 pub same_pair : (p q : List ℕ × List ℕ) → Some p ≡ Some q → (p.0 ≡ q.0) × (p.1 ≡ q.1)
@@ -47,7 +43,7 @@ pub cut_of-joined : (c : ℕ) (x y : List ℕ) → lacks c x ≡ false → cut_o
 unfolding cut_of
 cut_of-joined c [] y h = rw (eq-eqb c c refl) refl
 cut_of-joined c (b ∷ x) y h =
-    let p = either (eqb b c) (lacks c x) h in
+    let p = or_parts (eqb b c) (lacks c x) h in
     rw (p.0, cut_of-joined c x y p.1) refl
 
 regrouped : (c : ℕ) (x y z w : List ℕ) → x ++ c ∷ y ++ c ∷ z ++ c ∷ w ≡ x ++ (c ∷ (y ++ (c ∷ (z ++ c ∷ w))))

@@ -5,4 +5,5 @@ pub mod HexText
 pub mod Ipv6Text
 pub mod Joined
 pub mod Ipv4Text
+pub mod Permutations
 mod Rows

@@ -13,6 +13,7 @@ use Rattle.mdns_base.specs.Cut.{cut_of}
 abbrev pub IsReadFrom : (ℕ → List ℕ) → ℕ → List ℕ → Option ℕ → Type 0
 IsReadFrom print limit text result = MatchOption result ((n : ℕ) → n < limit → text ≢ print n) (λ n. (n < limit) × (text ≡ print n))
 
+-- what comes of a value, if there is one
 infixl 10 ◌>>=◌
 abbrev pub ◌>>=◌ : {A B : Type 0} → Option A → (A → Option B) → Option B
 o >>= f = option_and_then f o

@@ -16,13 +16,14 @@ pub struct MemSource {
 }
 
 impl MemSource {
-    ghost use Rattle.mdns_base.specs.Memory.{source_left, source_failing, source_calls};
+    ghost use Rattle.mdns_base.specs.Memory.{source_left, source_failing, source_faults, source_calls};
 
     /// A source that has these bytes left. Its calls of `read` with the numbers in `failing` fail, the first being 1.
     pub fn new(bytes: Vec<u8>, failing: Vec<u64>) -> Self
         ensures left { source_left result ≡ bytes.items }
         ensures failing { source_failing result ≡ failing.items }
         ensures calls { source_calls result ≡ 0 }
+        ensures faults { source_faults result ≡ 0 }
     {
         MemSource {
             bytes,
@@ -35,7 +36,7 @@ impl MemSource {
 }
 
 impl Source for MemSource {
-    ghost use Rattle.std.specs.Prelude.{IsErr, Contains, ◌↔◌};
+    ghost use Rattle.std.specs.Prelude.{IsErr, OnErr, Contains, ◌↔◌};
     ghost use Rattle.std.specs.Io.{ReadsAtMost};
     ghost use Rattle.std.specs.Io.KnownBytes.{ReadConsumes};
     ghost use Rattle.mdns_base.specs.Outside.{HasCause};
@@ -51,6 +52,7 @@ impl Source for MemSource {
         ensures bytes { ReadConsumes (Some (source_left self.old)) (Some (source_left self.new)) result into.new }
         ensures cause { HasCause (source_faults self.old) (source_faults self.new) result }
         ensures calls { source_calls self.new ≡ next_call (source_calls self.old) }
+        ensures counted { OnErr result (source_faults self.new ≡ next_call (source_faults self.old)) }
         ensures listed { IsErr result ↔ Contains (source_failing self.old) (source_calls self.new) }
         ensures failing { source_failing self.new ≡ source_failing self.old }
     {
@@ -78,13 +80,14 @@ pub struct MemSink {
 }
 
 impl MemSink {
-    ghost use Rattle.mdns_base.specs.Memory.{sink_held, sink_failing, sink_calls};
+    ghost use Rattle.mdns_base.specs.Memory.{sink_held, sink_failing, sink_faults, sink_calls};
 
     /// An empty sink. Its calls of `put` with the numbers in `failing` fail, the first being 1.
     pub fn new(alloc: Global, failing: Vec<u64>) -> Self
         ensures held { sink_held result ≡ [] }
         ensures failing { sink_failing result ≡ failing.items }
         ensures calls { sink_calls result ≡ 0 }
+        ensures faults { sink_faults result ≡ 0 }
     {
         MemSink {
             bytes: Vec::new(alloc),
@@ -103,7 +106,7 @@ impl MemSink {
 }
 
 impl Sink for MemSink {
-    ghost use Rattle.std.specs.Prelude.{IsErr, Contains};
+    ghost use Rattle.std.specs.Prelude.{IsErr, OnErr, Contains};
     ghost use Rattle.mdns_base.specs.Outside.{HasCause, PutAppends};
     ghost use Rattle.mdns_base.specs.Memory.{sink_held, sink_failing, sink_faults, sink_calls, next_call};
 
@@ -116,6 +119,8 @@ impl Sink for MemSink {
         ensures bytes { PutAppends (Some (sink_held self.old)) (Some (sink_held self.new)) result piece.now }
         ensures cause { HasCause (sink_faults self.old) (sink_faults self.new) result }
         ensures calls { sink_calls self.new ≡ next_call (sink_calls self.old) }
+        ensures kept { OnErr result (sink_held self.new ≡ sink_held self.old) }
+        ensures counted { OnErr result (sink_faults self.new ≡ next_call (sink_faults self.old)) }
         ensures listed { Contains (sink_failing self.old) (sink_calls self.new) → IsErr result }
         ensures failing { sink_failing self.new ≡ sink_failing self.old }
     {

@@ -17,7 +17,7 @@ pub trait Source {
     ghost faults: { Self → ℕ };
 
     /// Moves the next bytes to the front of `into` and says how many they are. 0 for a buffer that isn't empty is the
-    /// end. `Failed` only where the count of faults rose in this call; then no byte was moved.
+    /// end. `Failed` only where the count of faults rose in this call; then no byte was moved. Else the count stays.
     fn read(&mut self, into: &mut [u8]) -> Result<usize, Failed>
         ensures bound { ReadsAtMost result into.new }
         ensures bytes { ReadConsumes (left self.old) (left self.new) result into.new }
@@ -33,7 +33,7 @@ pub trait Sink {
     ghost faults: { Self → ℕ };
 
     /// Appends the piece. `Failed` only where the count of faults rose in this call; then a front of the piece was
-    /// appended, which may be empty.
+    /// appended, which may be empty. Else the count stays.
     fn put(&mut self, piece: &[u8]) -> Result<(), Failed>
         ensures bytes { PutAppends (held self.old) (held self.new) result piece.now }
         ensures cause { HasCause (faults self.old) (faults self.new) result };

@@ -1,17 +1,13 @@
 -- Where the string with a key stands in the data of strings.
-use Rattle.std.proofs.Common.{◌≡◌, ℕ, ◌+◌, ◌≤◌, ◌++◌, ◌||◌, Bool, true, false, List, [], ◌∷◌, ◌∙◌, length, take, drop, refl, ap, sym, arith, append_assoc, append-nil, length-append, length-take, length-drop}
+use Rattle.std.proofs.Common.{◌≡◌, ℕ, ◌+◌, ◌≤◌, ◌++◌, true, false, List, [], ◌∷◌, ◌∙◌, length, take, drop, refl, ap, sym, arith, append_assoc, append-nil, length-append, length-take, length-drop}
 use Rattle.std.proofs.lemmas.List.{take_at, drop_at}
 use Rattle.std.proofs.lemmas.List.Folds.{list_any-append, list_all-map}
-use Rattle.std.proofs.lemmas.Bool.{true≢false}
+use Rattle.std.proofs.lemmas.Bool.{or_parts}
 use Rattle.std.specs.List.{list_any}
 use Rattle.txt_record.specs.Strings.{txt_data}
 use Rattle.txt_record.specs.Places.{IsPlaceOf}
 use Rattle.txt_record.specs.Pairs.{has_key, put, without_key}
 use Rattle.txt_record.proofs.Runs.{txt_data-append}
-
-neither : (a b : Bool) → (a || b) ≡ false → (a ≡ false) × (b ≡ false)
-neither true b h = absurd (true≢false h)
-neither false b h = (refl, h)
 
 -- the strings up to start were passed, and none of them has the key
 pub record HasPassed (key : List ℕ) (strings left : List (List ℕ)) (start : ℕ) : Type 0 where
@@ -66,25 +62,25 @@ passed_within key strings left rest string start h e =
 put-front : (key entry string : List ℕ) (front back : List (List ℕ)) → list_any (has_key key) front ≡ false → has_key key string ≡ true → put key entry (front ++ string ∷ back) ≡ front ++ entry ∷ back
 put-front key entry string [] back none this = rw this refl
 put-front key entry string (other ∷ front) back none this =
-    let parts = neither (has_key key other) _ none in
+    let parts = or_parts (has_key key other) _ none in
     rw parts.0 (ap (λ rest. other ∷ rest) (put-front key entry string front back parts.1 this))
 
 put-none : (key entry : List ℕ) (strings : List (List ℕ)) → list_any (has_key key) strings ≡ false → put key entry strings ≡ strings ++ entry ∷ []
 put-none key entry [] none = refl
 put-none key entry (other ∷ strings) none =
-    let parts = neither (has_key key other) _ none in
+    let parts = or_parts (has_key key other) _ none in
     rw parts.0 (ap (λ rest. other ∷ rest) (put-none key entry strings parts.1))
 
 without_key-front : (key string : List ℕ) (front back : List (List ℕ)) → list_any (has_key key) front ≡ false → has_key key string ≡ true → without_key key (front ++ string ∷ back) ≡ front ++ back
 without_key-front key string [] back none this = rw this refl
 without_key-front key string (other ∷ front) back none this =
-    let parts = neither (has_key key other) _ none in
+    let parts = or_parts (has_key key other) _ none in
     rw parts.0 (ap (λ rest. other ∷ rest) (without_key-front key string front back parts.1 this))
 
 pub without_key-none : (key : List ℕ) (strings : List (List ℕ)) → list_any (has_key key) strings ≡ false → strings ≡ without_key key strings
 without_key-none key [] none = refl
 without_key-none key (other ∷ strings) none =
-    let parts = neither (has_key key other) _ none in
+    let parts = or_parts (has_key key other) _ none in
     rw parts.0 (ap (λ rest. other ∷ rest) (without_key-none key strings parts.1))
 
 -- what stands before the place, and what stands behind it

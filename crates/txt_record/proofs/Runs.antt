@@ -1,7 +1,7 @@
 -- A run of strings behind their lengths, and the list of its strings.
-use Rattle.std.proofs.Common.{◌≡◌, ℕ, zero, suc, ◌-◌, ◌<◌, ◌≤◌, ◌++◌, ◌&&◌, Bool, true, false, List, [], ◌∷◌, ◌∙◌, length, take, drop, refl, ap, sym, arith, append_assoc, length-append}
+use Rattle.std.proofs.Common.{◌≡◌, ℕ, zero, suc, ◌-◌, ◌<◌, ◌≤◌, ◌++◌, true, false, List, [], ◌∷◌, ◌∙◌, length, take, drop, refl, ap, sym, arith, append_assoc, length-append}
 use Rattle.std.proofs.lemmas.List.{take_rest}
-use Rattle.std.proofs.lemmas.Bool.{false≢true, leb-true, le-leb}
+use Rattle.std.proofs.lemmas.Bool.{false≢true, leb-true, le-leb, and_parts}
 use Rattle.std.specs.List.{onto_first}
 use Rattle.txt_record.specs.Strings.{is_txt, ends_whole, strings_from, strings_of, txt_data}
 
@@ -109,16 +109,12 @@ txt_data-strings_of (size ∷ bytes) whole =
     let inner = cut_from size bytes whole in
     rw (inner.cut, inner.size, inner.all) refl
 
-both : (a b : Bool) → (a && b) ≡ true → (a ≡ true) × (b ≡ true)
-both true b h = (refl, h)
-both false b h = absurd (false≢true h)
-
 -- what holds of the bytes of a record
 pub whole_from_is_txt : (bytes : List ℕ) → is_txt bytes ≡ true → ends_whole 0 bytes ≡ true
-whole_from_is_txt bytes txt = (both _ _ txt).1
+whole_from_is_txt bytes txt = (and_parts _ _ txt).1
 
 pub short_from_is_txt : (bytes : List ℕ) → is_txt bytes ≡ true → length bytes ≤ 8192
-short_from_is_txt bytes txt = leb-true (length bytes) 8192 (both _ _ txt).0
+short_from_is_txt bytes txt = leb-true (length bytes) 8192 (and_parts _ _ txt).0
 
 -- bytes that are a record are the data of the strings that they are seen as
 pub bytes_are : (bytes : List ℕ) (strings : List (List ℕ)) → is_txt bytes ≡ true → strings_of bytes ≡ strings → bytes ≡ txt_data strings

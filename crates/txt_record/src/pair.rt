@@ -31,7 +31,7 @@ impl Pair {
         entry_len(self.key.as_slice(), self.value())
     }
 
-    // The bytes of its value, if it has one.
+    /// The bytes of its value, if it has one.
     pub(crate) fn value(&self) -> Option<&[u8]>
         ensures { option_copied result ≡ self.now.value }
     {
@@ -47,7 +47,7 @@ const EQUALS: u8 = b'=';
 // How many bytes an entry may have.
 pub(crate) const MAX_ENTRY: usize = 255;
 
-// Whether these bytes are a key: at least one, each a visible ASCII character or a space, none of them `=`.
+/// Whether these bytes are a key: at least one, each a visible ASCII character or a space, none of them `=`.
 pub(crate) fn is_key(key: &[u8]) -> bool
     ensures { result ≡ is_key key.now }
 {
@@ -66,7 +66,7 @@ fn is_key_byte(byte: u8) -> bool
     (32..=126).contains(&byte) && byte != EQUALS
 }
 
-// The key of a string, and its value where it has a `=`.
+/// The key of a string, and its value where it has a `=`.
 pub(crate) fn split_entry(string: &[u8]) -> (&[u8], Option<&[u8]>)
     ensures key { result.0.now ≡ key_of string.now }
     ensures value { option_copied result.1 ≡ value_of string.now }
@@ -83,7 +83,7 @@ fn equals_place(string: &[u8]) -> Option<usize>
     string.iter().position(|b| *b == EQUALS)
 }
 
-// Whether the string has this key, case aside.
+/// Whether the string has this key, case aside.
 pub(crate) fn has_key(string: &[u8], key: &[u8]) -> bool
     ensures { result ≡ has_key key.now string.now }
 {
@@ -91,7 +91,7 @@ pub(crate) fn has_key(string: &[u8], key: &[u8]) -> bool
     !key.is_empty() && key.eq_ignore_ascii_case(found)
 }
 
-// How many bytes the entry of a key and its value has.
+/// How many bytes the entry of a key and its value has.
 pub(crate) fn entry_len(key: &[u8], value: Option<&[u8]>) -> usize
     ensures { result ≡ length (entry_of key.now (option_copied value.entry)) }
 {
@@ -101,7 +101,7 @@ pub(crate) fn entry_len(key: &[u8], value: Option<&[u8]>) -> usize
     }
 }
 
-// Puts the entry of a key and its value behind its length.
+/// Puts the entry of a key and its value behind its length.
 pub(crate) fn write_entry(
     bytes: &mut Vec<u8>,
     key: &[u8],
@@ -120,8 +120,8 @@ pub(crate) fn write_entry(
     Ok(())
 }
 
+/// What speaks against a record of these pairs.
 #[tactic(auto, using(crate::proofs::Places::mapped_tests))]
-// What speaks against a record of these pairs.
 pub(crate) fn refusal_of(pairs: &[Pair]) -> Option<TxtError>
     ensures { result ≡ pairs_refusal pairs.now }
 {

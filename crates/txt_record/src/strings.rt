@@ -25,7 +25,7 @@ impl<'a> Model for Strings<'a> {
 }
 
 impl<'a> Strings<'a> {
-    // The strings of a whole run.
+    /// The strings of a whole run.
     pub(crate) fn new(bytes: &'a [u8]) -> Strings<'a>
         requires { ends_whole 0 bytes.now ≡ true }
         ensures { result ≡ strings_of bytes.now }

@@ -19,14 +19,14 @@ fn pairs_are_made_found_set_and_removed(rt: HostRuntime) -> Result<(), Fail> {
         pair(rt.alloc(), b"a", Some(b"1"))?,
         pair(rt.alloc(), b"b", None)?,
     ]?;
-    let mut txt = Txt::from_pairs(rt.alloc(), pairs.as_slice()).map_err(|_| "from_pairs")?;
+    let mut txt = Txt::from_pairs(rt.alloc(), pairs.as_slice())?;
     assert_eq!(rt; txt.as_slice(), b"\x03a=1\x01b".as_slice());
-    txt.set("A", Some(b"2")).map_err(|_| "set")?;
+    txt.set("A", Some(b"2"))?;
     assert_eq!(rt; txt.as_slice(), b"\x03A=2\x01b".as_slice());
     assert!(rt; txt.get("b") == Some(Found::Bare));
     assert!(rt; txt.get("a") == Some(Found::Value(b"2")));
     assert!(rt; txt.get("c").is_none());
-    txt.set("c", Some(b"")).map_err(|_| "set")?;
+    txt.set("c", Some(b""))?;
     assert_eq!(rt; txt.as_slice(), b"\x03A=2\x01b\x02c=".as_slice());
     assert!(rt; txt.remove("B"));
     assert!(rt; !txt.remove("B"));
@@ -42,7 +42,7 @@ fn the_first_of_two_strings_with_one_key_counts(rt: HostRuntime) -> Result<(), F
     assert!(rt; txt.get("aB") == Some(Found::Value(b"")));
     assert!(rt; txt.get("").is_none());
     assert!(rt; !txt.remove(""));
-    txt.set("AB", None).map_err(|_| "set")?;
+    txt.set("AB", None)?;
     assert_eq!(rt;
         txt.as_slice(),
         b"\x00\x04=odd\x02AB\x05aB=12\x04ab=3".as_slice()
@@ -62,15 +62,25 @@ fn each_refusal_has_its_cause(rt: HostRuntime) -> Result<(), Fail> {
     assert!(rt; txt.set("k", Some(&long[..254])) == Err(TxtError::LongEntry));
     assert!(rt; txt.push(&long) == Err(TxtError::LongEntry));
     assert_eq!(rt; txt.as_slice().len(), 0);
-    assert!(rt; txt.set("k", Some(&long[..253])).is_ok());
+    txt.set("k", Some(&long[..253]))?;
     for _ in 1..32u8 {
-        assert!(rt; txt.push(&long[..255]).is_ok());
+        txt.push(&long[..255])?;
     }
     assert_eq!(rt; txt.as_slice().len(), 8192);
     assert!(rt; txt.push(&[]) == Err(TxtError::LongTxt));
     assert!(rt; txt.set("~ ", None) == Err(TxtError::LongTxt));
-    assert!(rt; txt.set("K", Some(&long[..253])).is_ok());
+    txt.set("K", Some(&long[..253]))?;
     assert_eq!(rt; txt.as_slice().len(), 8192);
+    assert_eq!(rt;
+        [
+            TxtError::BadKey as u8,
+            TxtError::LongEntry as u8,
+            TxtError::LongTxt as u8,
+            TxtError::NoMemory as u8
+        ]
+        .as_slice(),
+        [1, 2, 3, 4].as_slice()
+    );
     Ok(())
 }
 

@@ -1,4 +1,4 @@
-use Rattle.std.proofs.Common.{arith, rules}
+use Rattle.std.proofs.Common.{arith}
 use Rattle.std.proofs.lemmas.List.{take_rest}
 use Rattle.dns_record.proofs.RawForms.{at_label, one_more, name_ends, runs_out, no_label}
 use Rattle.dns_record.proofs.forms.after_name.Goals as goal
