@@ -5,6 +5,7 @@ use Rattle.std.specs.Option.{unwrap_or}
 use Rattle.std.specs.List.{list_all}
 use Rattle.std.proofs.Math.Seq.{take-append_seam}
 use Rattle.std.proofs.lemmas.Nat.{from_be_bytes-to_be_bytes_2, from_be_bytes-to_be_bytes_4}
+use Rattle.std.proofs.lemmas.Bool.{and_parts, ltb-true}
 use Rattle.dns_name.specs.Names.{wire_of, labels_of, is_name}
 use Rattle.dns_name.proofs.Wire.{labels_of-wire_of, name_each}
 use Rattle.dns_record.specs.declared.record.Rdata.{Rdata}
@@ -16,9 +17,7 @@ use Rattle.sd_call.specs.declared.answer.Answer.{Answer}
 use Rattle.sd_call.specs.declared.answer.Answer.TheVariants.{Datum, Found, Resolved, Named, Conflict}
 use Rattle.sd_call.specs.Answers.{answer_bytes}
 use Rattle.mdns_history.specs.Typed.{is_typed_answer}
-use Rattle.mdns_history.proofs.Texts.{both}
-use Rattle.mdns_history.proofs.TokenTexts.{below}
-use Rattle.mdns_history.proofs.RecordTexts.{three, four, kind_small}
+use Rattle.mdns_history.proofs.RecordTexts.{kind_small}
 
 from_be_bytes-to_be_bytes_16 : (n : ℕ) → n < 2 ^ 128 → from_be_bytes w128 (to_be_bytes w128 n) ≡ n
 from_be_bytes-to_be_bytes_16 n h = omega arith
@@ -51,7 +50,7 @@ data_read kind bytes =
     (cond (eqb kind 47) (Nsec (front_name bytes) (rest_of bytes)) (Raw kind bytes)))))))
 
 named : (name : List (List ℕ)) → is_spellable_name name ≡ true → is_name name ≡ true
-named name h = (both (is_name name) (list_all are_bytes name) h).0
+named name h = (and_parts (is_name name) (list_all are_bytes name) h).0
 
 wire_back : (name : List (List ℕ)) → is_spellable_name name ≡ true → labels_of (wire_of name) ≡ name
 wire_back name h = labels_of-wire_of name (name_each name (named name h))
@@ -78,25 +77,27 @@ raw_back kind bytes h = at (eqb kind 1) (eqb kind 5) (eqb kind 12) (eqb kind 16)
 
 data_back : (rdata : Rdata) → is_spellable_data rdata ≡ true → data_read (kind_of rdata) (data_of rdata) ≡ rdata
 unfolding is_rdata
-data_back (A address) h = ap A (from_be_bytes-to_be_bytes_4 address (below 32 address h))
-data_back (Aaaa address) h = ap Aaaa (from_be_bytes-to_be_bytes_16 address (below 128 address h))
+data_back (A address) h = ap A (from_be_bytes-to_be_bytes_4 address (ltb-true address (2 ^ 32) h))
+data_back (Aaaa address) h = ap Aaaa (from_be_bytes-to_be_bytes_16 address (ltb-true address (2 ^ 128) h))
 data_back (Ptr name) h = ap Ptr (wire_back name h)
 data_back (Cname name) h = ap Cname (wire_back name h)
 data_back (Srv priority weight port target) h =
-    let p = four (is_below 16 priority) (is_below 16 weight) (is_below 16 port) (is_spellable_name target) h in
-    let a : from_be_bytes w16 (to_be_bytes w16 priority) ≡ priority = from_be_bytes-to_be_bytes_2 priority (below 16 priority p.0) in
-    let b : from_be_bytes w16 (to_be_bytes w16 weight) ≡ weight = from_be_bytes-to_be_bytes_2 weight (below 16 weight p.1) in
-    let c : from_be_bytes w16 (to_be_bytes w16 port) ≡ port = from_be_bytes-to_be_bytes_2 port (below 16 port p.2) in
-    let d : labels_of (wire_of target) ≡ target = wire_back target p.3 in
+    let all = and_parts (is_below 16 priority && is_below 16 weight && is_below 16 port) (is_spellable_name target) h in
+    let numbers = and_parts (is_below 16 priority && is_below 16 weight) (is_below 16 port) all.0 in
+    let first = and_parts (is_below 16 priority) (is_below 16 weight) numbers.0 in
+    let a : from_be_bytes w16 (to_be_bytes w16 priority) ≡ priority = from_be_bytes-to_be_bytes_2 priority (ltb-true priority (2 ^ 16) first.0) in
+    let b : from_be_bytes w16 (to_be_bytes w16 weight) ≡ weight = from_be_bytes-to_be_bytes_2 weight (ltb-true weight (2 ^ 16) first.1) in
+    let c : from_be_bytes w16 (to_be_bytes w16 port) ≡ port = from_be_bytes-to_be_bytes_2 port (ltb-true port (2 ^ 16) numbers.1) in
+    let d : labels_of (wire_of target) ≡ target = wire_back target all.1 in
     λ i. Srv (a i) (b i) (c i) (d i)
 data_back (Txt bytes) h = refl
 data_back (Nsec next bitmap) h =
-    let p = both (is_spellable_name next) (are_bytes bitmap) h in
+    let p = and_parts (is_spellable_name next) (are_bytes bitmap) h in
     let a : front_name (wire_of next ++ bitmap) ≡ next = front_is next bitmap (named next p.0) in
     let b : rest_of (wire_of next ++ bitmap) ≡ bitmap = rest_is next bitmap (named next p.0) in
     λ i. Nsec (a i) (b i)
 data_back (Raw kind bytes) h =
-    raw_back kind bytes (both (not (is_typed kind)) (has_raw_form kind bytes) (three (is_below 16 kind) (are_bytes bytes) (is_rdata (Raw kind bytes)) h).2).0
+    raw_back kind bytes (and_parts (not (is_typed kind)) (has_raw_form kind bytes) (and_parts (is_below 16 kind && are_bytes bytes) (is_rdata (Raw kind bytes)) h).1).0
 
 -- the answer of bytes
 abbrev answer_read : List ℕ → Answer
@@ -115,9 +116,9 @@ answer_back (Datum rdata) h =
 answer_back (Found instance) h = ap Found (wire_back instance h)
 answer_back (Resolved priority weight port target txt) h =
     let p = five (is_below 16 priority) (is_below 16 weight) (is_below 16 port) (is_spellable_name target) (are_bytes txt) h in
-    let a : from_be_bytes w16 (to_be_bytes w16 priority) ≡ priority = from_be_bytes-to_be_bytes_2 priority (below 16 priority p.0) in
-    let b : from_be_bytes w16 (to_be_bytes w16 weight) ≡ weight = from_be_bytes-to_be_bytes_2 weight (below 16 weight p.1) in
-    let c : from_be_bytes w16 (to_be_bytes w16 port) ≡ port = from_be_bytes-to_be_bytes_2 port (below 16 port p.2) in
+    let a : from_be_bytes w16 (to_be_bytes w16 priority) ≡ priority = from_be_bytes-to_be_bytes_2 priority (ltb-true priority (2 ^ 16) p.0) in
+    let b : from_be_bytes w16 (to_be_bytes w16 weight) ≡ weight = from_be_bytes-to_be_bytes_2 weight (ltb-true weight (2 ^ 16) p.1) in
+    let c : from_be_bytes w16 (to_be_bytes w16 port) ≡ port = from_be_bytes-to_be_bytes_2 port (ltb-true port (2 ^ 16) p.2) in
     let d : front_name (wire_of target ++ txt) ≡ target = front_is target txt (named target p.3) in
     let e : rest_of (wire_of target ++ txt) ≡ txt = rest_is target txt (named target p.3) in
     λ i. Resolved (a i) (b i) (c i) (d i) (e i)

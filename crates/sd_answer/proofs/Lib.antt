@@ -1,4 +1,3 @@
-pub mod Ordered
 pub mod Puts
 pub mod Known
 pub mod Members

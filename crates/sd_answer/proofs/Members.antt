@@ -6,6 +6,9 @@ use Rattle.std.specs.Ordering.{is_eq}
 use Rattle.std.specs.Cmp.{both_ways}
 use Rattle.std.proofs.lemmas.List.Folds.{Any-from_list_any, list_any-from_Any, list_any-append}
 use Rattle.std.proofs.lemmas.List.Sorted.{list_any-IsPermutation}
+use Rattle.std.proofs.lemmas.Bool.{and_from, and_parts}
+use Rattle.std.proofs.lemmas.Map.Text.{is_eq-slice_cmp}
+use Rattle.std.proofs.lemmas.Slice.Eq.{bytes_eq-Decides}
 use Rattle.dns_name.specs.Names.{folded_eq}
 use Rattle.dns_name.specs.Lists.{ordered}
 use Rattle.dns_record.specs.declared.record.Rdata.{Rdata}
@@ -19,13 +22,11 @@ use Rattle.sd_call.specs.declared.request.Request.{Request}
 use Rattle.sd_call.specs.declared.request.Request.TheVariants as request
 use Rattle.sd_call.specs.declared.answer.Answer.{Answer}
 use Rattle.sd_call.specs.Answers.{answer_bytes, answer_cmp}
-use Rattle.sd_call.proofs.AnswerLists.{eq_path}
 use Rattle.mdns_history.specs.Typed.{is_typed_answer}
 use Rattle.mdns_history.specs.Questions.{keys_of, key_of, address_keys, browse_keys, resolve_keys}
 use Rattle.mdns_history.specs.Answers.{matching, datum_of, found_in, resolved_with, answers_from, answers_over}
-use Rattle.mdns_history.proofs.RecordTexts.{four}
 use Rattle.sd_answer.specs.Laws.{have_data, IsOrderFree, IsCountFree, IsOfOneName, IsNothingUnasked}
-use Rattle.sd_answer.proofs.Ordered.{same-ordered}
+use Rattle.dns_name.proofs.InOrder.{all-filter, any-filter, same-ordered}
 use Rattle.sd_answer.proofs.Puts.{answer_cmp-total}
 use Rattle.sd_answer.proofs.Known.{answer_told}
 
@@ -36,14 +37,6 @@ AreAlike {X} xs ys = (t : X → Bool) → list_any t xs ≡ list_any t ys
 list_any-ext : {X : Type 0} (p q : X → Bool) → ((x : X) → p x ≡ q x) → (xs : List X) → list_any p xs ≡ list_any q xs
 list_any-ext p q same [] = refl
 list_any-ext p q same (x ∷ xs) = λ i. same x i || list_any-ext p q same xs i
-
-any-filter : {X : Type 0} (t p : X → Bool) (xs : List X) → list_any t (filter p xs) ≡ list_any (λ x. p x && t x) xs
-any-filter t p [] = refl
-any-filter t p (x ∷ xs) = kept (p x) (any-filter t p xs)
-  where
-    kept : (b : Bool) → list_any t (filter p xs) ≡ list_any (λ x. p x && t x) xs → list_any t (cond b (x ∷ filter p xs) (filter p xs)) ≡ ((b && t x) || list_any (λ x. p x && t x) xs)
-    kept true ih = ap (λ (b : Bool). t x || b) ih
-    kept false ih = ih
 
 abbrev passes : {Y : Type 0} → (Y → Bool) → Option Y → Bool
 passes t None = false
@@ -95,22 +88,6 @@ all-is p (x ∷ xs) = at (p x) (all-is p xs)
 alike-all : {X : Type 0} (p : X → Bool) (xs ys : List X) → AreAlike xs ys → list_all p xs ≡ list_all p ys
 alike-all p xs ys h = all-is p xs ∙ ap not (h (λ x. not (p x))) ∙ sym (all-is p ys)
 
-parts : (a b : Bool) → (a && b) ≡ true → (a ≡ true) × (b ≡ true)
-parts true b h = (refl, h)
-parts false b h = absurd (cc)
-
-join : (a b : Bool) → a ≡ true → b ≡ true → (a && b) ≡ true
-join true b h k = k
-join false b h k = absurd (cc)
-
-all-filter : {X : Type 0} (t p : X → Bool) (xs : List X) → list_all t xs ≡ true → list_all t (filter p xs) ≡ true
-all-filter t p [] h = refl
-all-filter t p (x ∷ xs) h = kept (p x) (all-filter t p xs (parts (t x) (list_all t xs) h).1)
-  where
-    kept : (b : Bool) → list_all t (filter p xs) ≡ true → list_all t (cond b (x ∷ filter p xs) (filter p xs)) ≡ true
-    kept true ih = join (t x) (list_all t (filter p xs)) (parts (t x) (list_all t xs) h).0 ih
-    kept false ih = ih
-
 abbrev holds : {Y : Type 0} → (Y → Bool) → Option Y → Bool
 holds t None = true
 holds t (Some y) = t y
@@ -118,21 +95,21 @@ holds t (Some y) = t y
 all-filter_map : {X Y : Type 0} (p : X → Bool) (t : Y → Bool) (f : X → Option Y) → ((x : X) → p x ≡ true → holds t (f x) ≡ true) → (xs : List X) → list_all p xs ≡ true → list_all t (filter_map f xs) ≡ true
 all-filter_map p t f good [] h = refl
 all-filter_map {Y = Y} p t f good (x ∷ xs) h =
-    given (f x) (good x (parts (p x) (list_all p xs) h).0) (all-filter_map p t f good xs (parts (p x) (list_all p xs) h).1)
+    given (f x) (good x (and_parts (p x) (list_all p xs) h).0) (all-filter_map p t f good xs (and_parts (p x) (list_all p xs) h).1)
   where
     given : (o : Option Y) → holds t o ≡ true → list_all t (filter_map f xs) ≡ true → list_all t (cons_option o (filter_map f xs)) ≡ true
     given None e ih = ih
-    given (Some y) e ih = join (t y) (list_all t (filter_map f xs)) e ih
+    given (Some y) e ih = and_from (t y) (list_all t (filter_map f xs)) e ih
 
 all-append : {X : Type 0} (t : X → Bool) (xs ys : List X) → list_all t xs ≡ true → list_all t ys ≡ true → list_all t (xs ++ ys) ≡ true
 all-append t [] ys h k = k
 all-append t (x ∷ xs) ys h k =
-    let p = parts (t x) (list_all t xs) h in join (t x) (list_all t (xs ++ ys)) p.0 (all-append t xs ys p.1 k)
+    let p = and_parts (t x) (list_all t xs) h in and_from (t x) (list_all t (xs ++ ys)) p.0 (all-append t xs ys p.1 k)
 
 all-flat_map : {X Y : Type 0} (p : X → Bool) (t : Y → Bool) (f : X → List Y) → ((x : X) → p x ≡ true → list_all t (f x) ≡ true) → (xs : List X) → list_all p xs ≡ true → list_all t (flat_map f xs) ≡ true
 all-flat_map p t f good [] h = refl
 all-flat_map p t f good (x ∷ xs) h =
-    let q = parts (p x) (list_all p xs) h in all-append t (f x) (flat_map f xs) (good x q.0) (all-flat_map p t f good xs q.1)
+    let q = and_parts (p x) (list_all p xs) h in all-append t (f x) (flat_map f xs) (good x q.0) (all-flat_map p t f good xs q.1)
 
 found_typed : (rdata : Rdata) → is_spellable_data rdata ≡ true → holds is_typed_answer (found_in rdata) ≡ true
 found_typed (Ptr name) h = h
@@ -140,11 +117,7 @@ found_typed _ h = refl
 
 pair_typed : (srv txt : Rdata) → is_spellable_data srv ≡ true → is_spellable_data txt ≡ true → holds is_typed_answer (resolved_with srv txt) ≡ true
 pair_typed (Srv priority weight port target) (Txt bytes) h k =
-    let p = four (is_below 16 priority) (is_below 16 weight) (is_below 16 port) (is_spellable_name target) h in five p.0 p.1 p.2 p.3 k
-  where
-    five : is_below 16 priority ≡ true → is_below 16 weight ≡ true → is_below 16 port ≡ true → is_spellable_name target ≡ true → are_bytes bytes ≡ true →
-        (is_below 16 priority && is_below 16 weight && is_below 16 port && is_spellable_name target && are_bytes bytes) ≡ true
-    five a b c d e = rw (a, b, c, d, e) refl
+    and_from (is_below 16 priority && is_below 16 weight && is_below 16 port && is_spellable_name target) (are_bytes bytes) h k
 pair_typed _ _ h k = refl
 
 typed-given : (request : Request) (xs : List Rr) → have_data xs ≡ true → list_all is_typed_answer (answers_from request xs) ≡ true
@@ -162,7 +135,7 @@ typed-given request.Stop xs h = refl
 
 told : (left right : Answer) → is_typed_answer left ≡ true → is_typed_answer right ≡ true → is_eq (answer_cmp left right) ≡ true → left ≡ right
 unfolding answer_cmp
-told left right h k e = answer_told left right h k (eq_path (answer_bytes left) (answer_bytes right) e)
+told left right h k e = answer_told left right h k ((bytes_eq-Decides (answer_bytes left) (answer_bytes right)).0 (sym (is_eq-slice_cmp (answer_bytes left) (answer_bytes right)) ∙ e))
 
 -- records that no test tells apart give the same answers
 alike_over : (request : Request) (one other : List Rr) → have_data one ≡ true → AreAlike (matching (keys_of request) one) (matching (keys_of request) other) →
@@ -279,7 +252,7 @@ of_one_name request question more all collected asked h same =
     alike t = any-filter t test collected
         ∙ both_ways (list_any (λ rr. test rr && t rr) collected) (list_any (λ rr. test rr && t rr) all)
         (carried (λ rr. test rr && t rr) (λ rr. test rr && t rr) collected all (λ rr there e. (((same rr).0 there).0, e)))
-        (carried (λ rr. test rr && t rr) (λ rr. test rr && t rr) all collected (λ rr there e. ((same rr).1 (there, of_name rr (parts (test rr) (t rr) e).0), e)))
+        (carried (λ rr. test rr && t rr) (λ rr. test rr && t rr) all collected (λ rr there e. ((same rr).1 (there, of_name rr (and_parts (test rr) (t rr) e).0), e)))
         ∙ sym (any-filter t test all)
 
     kept : have_data collected ≡ true

@@ -17,7 +17,7 @@ use Rattle.sd_call.specs.Answers.{answer_bytes, answer_cmp}
 use Rattle.sd_call.specs.declared.request.Request.{Request}
 use Rattle.mdns_history.specs.Questions.{keys_of}
 use Rattle.mdns_history.specs.Answers.{resolved_with, answers_from, answers_over, matching}
-use Rattle.sd_answer.proofs.Ordered.{sorted-ordered}
+use Rattle.dns_name.proofs.InOrder.{sorted-ordered}
 
 -- the order of answers is a total order
 pub answer_cmp-total : IsTotalOrder answer_cmp

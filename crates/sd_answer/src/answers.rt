@@ -1,13 +1,14 @@
 // The answers of requests.
 ghost use Rattle.std.specs.Prelude.{◌≡◌, [], ◌∷◌, ◌++◌, IsTrue, IfOk, OnOk};
-ghost use Rattle.std.specs.List.{list_any, filter_map, flat_map};
-ghost use Rattle.dns_record.specs.Records.{matches};
+ghost use Rattle.std.specs.List.{filter_map, flat_map};
+ghost use Rattle.std.specs.List.Sorted.{IsSorted};
+ghost use Rattle.sd_call.specs.Answers.{answer_cmp};
 ghost use Rattle.sd_call.specs.Requests.{well_formed};
 ghost use Rattle.mdns_history.specs.Answers.{matching, datum_of, found_in, resolved_with, resolved_pairs, answers_from, answers_over};
 
 use crate::{Answers, questions_of};
 use dns_message::Rrs;
-use dns_record::{Bytes, Key, Rdata, Rr, matches};
+use dns_record::{Bytes, Key, Rdata, Rr, matches_any};
 use sd_call::{Answer, Request};
 use std::alloc::{AllocError, Global};
 
@@ -18,7 +19,8 @@ use std::alloc::{AllocError, Global};
 #[tactic(auto, unfolding(mdns_history::specs::Answers::answers_over))]
 pub fn answers_of(alloc: Global, request: &Request, rrs: &Rrs) -> Result<Answers, AllocError>
     requires { IsTrue (well_formed request.now) }
-    ensures { IfOk result (λ answers. answers ≡ answers_over request.now rrs.now) }
+    ensures value { IfOk result (λ answers. answers ≡ answers_over request.now rrs.now) }
+    ensures sorted { IfOk result (λ answers. IsSorted answer_cmp answers) }
 {
     let mut answers = Answers::new(alloc);
     let questions = questions_of(request);
@@ -78,7 +80,7 @@ fn put_datum(
 ) -> Result<(), AllocError>
     ensures { OnOk result (answers.new ≡ answers.old ++ filter_map datum_of (matching questions.now (rr.now ∷ []))) }
 {
-    if !is_asked(questions, rr) {
+    if !matches_any(questions, rr) {
         return Ok(());
     }
     let rdata = rr.rdata.copy(alloc)?;
@@ -100,7 +102,7 @@ fn put_instances(answers: &mut Answers, questions: &[Key], rrs: &[Rr]) -> Result
 fn put_instance(answers: &mut Answers, questions: &[Key], rr: &Rr) -> Result<(), AllocError>
     ensures { OnOk result (answers.new ≡ answers.old ++ filter_map (λ rr. found_in rr.rdata) (matching questions.now (rr.now ∷ []))) }
 {
-    if !is_asked(questions, rr) {
+    if !matches_any(questions, rr) {
         return Ok(());
     }
     match &rr.rdata {
@@ -139,7 +141,7 @@ fn put_place(
 ) -> Result<(), AllocError>
     ensures { OnOk result (answers.new ≡ answers.old ++ flat_map (λ srv. filter_map (λ txt. resolved_with srv.rdata txt.rdata) (matching questions.now rrs.now)) (matching questions.now (rr.now ∷ []))) }
 {
-    if !is_asked(questions, rr) {
+    if !matches_any(questions, rr) {
         return Ok(());
     }
     put_pairs(alloc, answers, &rr.rdata, questions, rrs)?;
@@ -175,7 +177,7 @@ fn put_pair(
 ) -> Result<(), AllocError>
     ensures { OnOk result (answers.new ≡ answers.old ++ filter_map (λ txt. resolved_with place.now txt.rdata) (matching questions.now (rr.now ∷ []))) }
 {
-    if !is_asked(questions, rr) {
+    if !matches_any(questions, rr) {
         return Ok(());
     }
     match pair(alloc, place, &rr.rdata)? {
@@ -209,11 +211,4 @@ fn pair(alloc: Global, place: &Rdata, txt: &Rdata) -> Result<Option<Answer>, All
         })),
         _ => Ok(None),
     }
-}
-
-// Whether a record matches one of the questions.
-fn is_asked(questions: &[Key], rr: &Rr) -> bool
-    ensures { result ≡ list_any (λ key. matches key rr.now) questions.now }
-{
-    questions.iter().any(|question| matches(question, rr))
 }

@@ -1,5 +1,6 @@
 -- Lists of answers as sets of bytes.
 use Rattle.std.proofs.Common.{◌≡◌, ℕ, Bool, true, false, cond, not, ◌&&◌, ◌||◌, List, [], ◌∷◌, refl, ap, ◌∙◌, sym}
+use Rattle.std.proofs.lemmas.Bool.{or_from, or_parts}
 use Rattle.std.specs.Prelude.{filter}
 use Rattle.std.specs.List.{list_any}
 use Rattle.std.specs.Ordering.{nat_cmp, is_lt, is_eq, eq_by_cmp}
@@ -7,6 +8,7 @@ use Rattle.std.specs.Cmp.{eq_by_cmp_equiv, Equal-is}
 use Rattle.std.specs.Cmp.Lexicographic.{slice_cmp, nat_list_cmp_total}
 use Rattle.std.specs.FinSet as set
 use Rattle.dns_name.specs.Lists.{each_once, insert_by, sorted_by, ordered, without}
+use Rattle.dns_name.proofs.InOrder.{none-filter, any-insert, any-sorted}
 use Rattle.sd_call.specs.declared.answer.Answer.{Answer}
 use Rattle.sd_call.specs.Answers.{answer_bytes, answer_cmp, answer_eq}
 
@@ -44,27 +46,9 @@ abbrev pub AreDifferent : List Answer → Type 0
 AreDifferent [] = Unit {0}
 AreDifferent (a ∷ us) = (any_of (answer_bytes a) us ≡ false) × AreDifferent us
 
-or_false : (a b : Bool) → a ≡ false → b ≡ false → (a || b) ≡ false
-or_false true b p q = p
-or_false false b p q = q
-
-pub or_first : (a b : Bool) → (a || b) ≡ false → a ≡ false
-or_first true b e = e
-or_first false b e = refl
-
-pub or_second : (a b : Bool) → (a || b) ≡ false → b ≡ false
-or_second true b e = cc
-or_second false b e = e
-
 -- a filter leaves out, and keeps answers different
 any_of-filter : (bytes : List ℕ) (p : Answer → Bool) (us : List Answer) → any_of bytes us ≡ false → any_of bytes (filter p us) ≡ false
-any_of-filter bytes p [] none = refl
-any_of-filter bytes p (a ∷ us) none = kept (p a)
-    (or_first (eq bytes (answer_bytes a)) (any_of bytes us) none) (any_of-filter bytes p us (or_second (eq bytes (answer_bytes a)) (any_of bytes us) none))
-  where
-    kept : (b : Bool) → eq bytes (answer_bytes a) ≡ false → any_of bytes (filter p us) ≡ false → any_of bytes (cond b (a ∷ filter p us) (filter p us)) ≡ false
-    kept true other rest = or_false _ _ other rest
-    kept false other rest = rest
+any_of-filter bytes p us none = none-filter (λ a. eq bytes (answer_bytes a)) p us none
 
 pub AreDifferent-filter : (p : Answer → Bool) (us : List Answer) → AreDifferent us → AreDifferent (filter p us)
 AreDifferent-filter p [] d = tt
@@ -86,7 +70,7 @@ any_of-removed a (b ∷ us) = removed (is_eq (answer_cmp a b)) (is_eq-answer_cmp
     removed : (c : Bool) → c ≡ eq (answer_bytes a) (answer_bytes b) → any_of (answer_bytes a) (filter (λ y. not (is_eq (answer_cmp a y))) us) ≡ false →
         any_of (answer_bytes a) (cond (not c) (b ∷ filter (λ y. not (is_eq (answer_cmp a y))) us) (filter (λ y. not (is_eq (answer_cmp a y))) us)) ≡ false
     removed true e rest = rest
-    removed false e rest = or_false _ _ (sym e) rest
+    removed false e rest = or_from _ _ (sym e) rest
 
 AreDifferent-each_once : (us : List Answer) → AreDifferent (each_once (λ x y. is_eq (answer_cmp x y)) us)
 AreDifferent-each_once [] = tt
@@ -95,34 +79,22 @@ AreDifferent-each_once (a ∷ us) =
 
 -- an insertion adds just the answer
 any_of-insert_by : (bytes : List ℕ) (a : Answer) (us : List Answer) → any_of bytes (insert_by answer_cmp a us) ≡ (eq bytes (answer_bytes a) || any_of bytes us)
-any_of-insert_by bytes a [] = refl
-any_of-insert_by bytes a (b ∷ us) = placed (is_lt (answer_cmp b a)) (any_of-insert_by bytes a us)
-  where
-    swap : (x y z : Bool) → (y || (x || z)) ≡ (x || (y || z))
-    swap true true z = refl
-    swap true false z = refl
-    swap false y z = refl
-
-    placed : (c : Bool) → any_of bytes (insert_by answer_cmp a us) ≡ (eq bytes (answer_bytes a) || any_of bytes us) →
-        any_of bytes (cond c (b ∷ insert_by answer_cmp a us) (a ∷ b ∷ us)) ≡ (eq bytes (answer_bytes a) || (eq bytes (answer_bytes b) || any_of bytes us))
-    placed true rest = ap (λ c. eq bytes (answer_bytes b) || c) rest ∙ swap (eq bytes (answer_bytes a)) (eq bytes (answer_bytes b)) (any_of bytes us)
-    placed false rest = refl
+any_of-insert_by bytes a us = any-insert answer_cmp (λ b. eq bytes (answer_bytes b)) a us
 
 AreDifferent-insert_by : (a : Answer) (us : List Answer) → any_of (answer_bytes a) us ≡ false → AreDifferent us → AreDifferent (insert_by answer_cmp a us)
 AreDifferent-insert_by a [] new d = (refl, tt)
 AreDifferent-insert_by a (b ∷ us) new d = placed (is_lt (answer_cmp b a))
-    (AreDifferent-insert_by a us (or_second (eq (answer_bytes a) (answer_bytes b)) (any_of (answer_bytes a) us) new) d.1)
+    (AreDifferent-insert_by a us (or_parts (eq (answer_bytes a) (answer_bytes b)) (any_of (answer_bytes a) us) new).1 d.1)
   where
     other : eq (answer_bytes b) (answer_bytes a) ≡ false
-    other = eq_symm (answer_bytes b) (answer_bytes a) ∙ or_first (eq (answer_bytes a) (answer_bytes b)) (any_of (answer_bytes a) us) new
+    other = eq_symm (answer_bytes b) (answer_bytes a) ∙ (or_parts (eq (answer_bytes a) (answer_bytes b)) (any_of (answer_bytes a) us) new).0
 
     placed : (c : Bool) → AreDifferent (insert_by answer_cmp a us) → AreDifferent (cond c (b ∷ insert_by answer_cmp a us) (a ∷ b ∷ us))
-    placed true rest = (any_of-insert_by (answer_bytes b) a us ∙ or_false _ _ other d.0, rest)
+    placed true rest = (any_of-insert_by (answer_bytes b) a us ∙ or_from _ _ other d.0, rest)
     placed false rest = (new, d)
 
 any_of-sorted_by : (bytes : List ℕ) (us : List Answer) → any_of bytes (sorted_by answer_cmp us) ≡ any_of bytes us
-any_of-sorted_by bytes [] = refl
-any_of-sorted_by bytes (a ∷ us) = any_of-insert_by bytes a (sorted_by answer_cmp us) ∙ ap (λ c. eq bytes (answer_bytes a) || c) (any_of-sorted_by bytes us)
+any_of-sorted_by bytes us = any-sorted answer_cmp (λ b. eq bytes (answer_bytes b)) us
 
 AreDifferent-sorted_by : (us : List Answer) → AreDifferent us → AreDifferent (sorted_by answer_cmp us)
 AreDifferent-sorted_by [] d = tt

@@ -1,5 +1,6 @@
 -- What the lists that a client holds stand for, as operations and answers come and go.
 use Rattle.std.proofs.Common.{◌≡◌, ◌<◌, ◌≤◌, ℕ, zero, suc, arith, length, take, get_or, Bool, true, false, cond, not, eqb, ◌&&◌, ◌||◌, List, [], ◌∷◌, ◌++◌, map, refl, ap, ◌∙◌, sym, Option, Some, None}
+use Rattle.std.proofs.Math.Bool.{or-false}
 use Rattle.std.specs.Prelude.{filter, slice_get}
 use Rattle.std.specs.List.{list_any}
 use Rattle.std.specs.Option.{option_and_then}
@@ -9,6 +10,8 @@ use Rattle.std.specs.Cmp.Lexicographic.{nat_list_cmp_total}
 use Rattle.std.specs.FinMap as fin
 use Rattle.std.specs.FinSet as set
 use Rattle.std.proofs.lemmas.List.Folds.{list_any-append}
+use Rattle.std.proofs.lemmas.Bool.{and_parts, not-true, or_parts}
+use Rattle.dns_name.proofs.InOrder.{any-filter, none-filter}
 use Rattle.sd_call.specs.declared.answer.Answer.{Answer}
 use Rattle.sd_call.specs.declared.replayed.Kept.{Kept}
 use Rattle.sd_call.specs.declared.item.Item.TheVariants.{Add, Remove}
@@ -26,18 +29,6 @@ list_any-ext p q same (x ∷ xs) = λ i. same x i || list_any-ext p q same xs i
 list_any-none : {X : Type 0} (p : X → Bool) → ((x : X) → p x ≡ false) → (xs : List X) → list_any p xs ≡ false
 list_any-none p none [] = refl
 list_any-none p none (x ∷ xs) = ap (λ b. b || list_any p xs) (none x) ∙ list_any-none p none xs
-
-any-filter : {X : Type 0} (t p : X → Bool) (xs : List X) → list_any t (filter p xs) ≡ list_any (λ x. p x && t x) xs
-any-filter t p [] = refl
-any-filter t p (x ∷ xs) = kept (p x) (any-filter t p xs)
-  where
-    kept : (b : Bool) → list_any t (filter p xs) ≡ list_any (λ x. p x && t x) xs → list_any t (cond b (x ∷ filter p xs) (filter p xs)) ≡ ((b && t x) || list_any (λ x. p x && t x) xs)
-    kept true ih = ap (λ b. t x || b) ih
-    kept false ih = ih
-
-or_none : (b : Bool) → (b || false) ≡ b
-or_none true = refl
-or_none false = refl
 
 one_number : (m n : ℕ) → eqb m n ≡ true → m ≡ n
 one_number m n e = (unsigned_Decides m n).0 e
@@ -181,7 +172,7 @@ added operations kept op answer there missing =
     others q bytes e =
         list_any-append (holds q bytes) kept (one ∷ [])
         ∙ ap (λ b. list_any (holds q bytes) kept || ((b && eq bytes (answer_bytes answer)) || false)) (turned op q ∙ e)
-        ∙ or_none (list_any (holds q bytes) kept)
+        ∙ or-false (list_any (holds q bytes) kept)
 
 pub removed : (operations : List ℕ) (kept : List Kept) (op : ℕ) (answer : Answer) → has op operations ≡ true → list_any (is_it op answer) kept ≡ true →
     replay_item (Remove op answer) (sets_in operations kept) ≡ Some (sets_in operations (filter (λ one. not (is_it op answer one)) kept))
@@ -316,7 +307,7 @@ started_newly operations kept op = started operations (operations ++ op ∷ []) 
     others : (q : ℕ) → eqb q op ≡ false → has q (operations ++ op ∷ []) ≡ has q operations
     others q e =
         list_any-append (λ other. eqb other q) operations (op ∷ [])
-        ∙ ap (λ b. has q operations || (b || false)) (turned op q ∙ e) ∙ or_none (has q operations)
+        ∙ ap (λ b. has q operations || (b || false)) (turned op q ∙ e) ∙ or-false (has q operations)
 
 pub stopped : (operations : List ℕ) (kept : List Kept) (op : ℕ) →
     sets_in (filter (λ other. not (eqb other op)) operations) (filter (λ one. not (eqb one.op op)) kept) ≡ fin.remove (sets_in operations kept) op
@@ -385,26 +376,6 @@ past_end (first ∷ answers) (suc place) h = past_end answers place (omega arith
 
 -- ---- no answer twice
 
-and_parts : (a b : Bool) → (a && b) ≡ true → (a ≡ true) × (b ≡ true)
-and_parts true b h = (refl, h)
-and_parts false b h = absurd (cc)
-
-not_true : (a : Bool) → not a ≡ true → a ≡ false
-not_true true h = absurd (cc)
-not_true false h = refl
-
-or_parts : (a b : Bool) → (a || b) ≡ false → (a ≡ false) × (b ≡ false)
-or_parts true b h = absurd (cc)
-or_parts false b h = (refl, h)
-
-any-kept : (t p : Kept → Bool) (kept : List Kept) → list_any t kept ≡ false → list_any t (filter p kept) ≡ false
-any-kept t p [] h = refl
-any-kept t p (one ∷ kept) h = at (p one) (or_parts (t one) (list_any t kept) h).0 (any-kept t p kept (or_parts (t one) (list_any t kept) h).1)
-  where
-    at : (b : Bool) → t one ≡ false → list_any t (filter p kept) ≡ false → list_any t (cond b (one ∷ filter p kept) (filter p kept)) ≡ false
-    at true e ih = ap (λ b. b || list_any t (filter p kept)) e ∙ ih
-    at false e ih = ih
-
 -- fewer answers are none of them twice
 pub once_kept : (p : Kept → Bool) (kept : List Kept) → are_once kept ≡ true → are_once (filter p kept) ≡ true
 once_kept p [] h = refl
@@ -414,7 +385,7 @@ once_kept p (one ∷ kept) h = at (p one) (once_kept p kept parts.1)
     parts = and_parts (not (list_any (is_it one.op one.answer) kept)) (are_once kept) h
 
     at : (b : Bool) → are_once (filter p kept) ≡ true → are_once (cond b (one ∷ filter p kept) (filter p kept)) ≡ true
-    at true ih = ap (λ b. not b && are_once (filter p kept)) (any-kept (is_it one.op one.answer) p kept (not_true (list_any (is_it one.op one.answer) kept) parts.0)) ∙ ih
+    at true ih = ap (λ b. not b && are_once (filter p kept)) (none-filter (is_it one.op one.answer) p kept (not-true (list_any (is_it one.op one.answer) kept) parts.0)) ∙ ih
     at false ih = ih
 
 is_it-turned : (one other : Kept) → is_it one.op one.answer other ≡ is_it other.op other.answer one
@@ -430,7 +401,7 @@ once_added [] last away h = refl
 once_added (one ∷ kept) last away h =
     ap (λ b. not b && are_once (kept ++ last ∷ []))
     (list_any-append (is_it one.op one.answer) kept (last ∷ [])
-    ∙ ap (λ b. b || (is_it one.op one.answer last || false)) (not_true (list_any (is_it one.op one.answer) kept) parts.0)
+    ∙ ap (λ b. b || (is_it one.op one.answer last || false)) (not-true (list_any (is_it one.op one.answer) kept) parts.0)
     ∙ ap (λ b. b || false) (is_it-turned one last ∙ others.0))
     ∙ once_added kept last others.1 parts.1
   where

@@ -1,5 +1,6 @@
 -- Replaying the removes and the adds of many operations.
 use Rattle.std.proofs.Common.{◌≡◌, ℕ, Bool, true, false, cond, List, [], ◌∷◌, ◌++◌, map, Option, Some, None, refl, ap, ◌∙◌, sym}
+use Rattle.std.proofs.lemmas.Bool.{or_parts}
 use Rattle.std.specs.List.{list_any, flat_map}
 use Rattle.std.specs.Option.{option_and_then, option_or}
 use Rattle.std.specs.Ordering.{nat_cmp, eq_by_cmp}
@@ -12,7 +13,7 @@ use Rattle.sd_call.specs.declared.item.Item.{Item}
 use Rattle.sd_call.specs.declared.item.Item.TheVariants.{Add, Remove}
 use Rattle.sd_call.specs.Answers.{answer_bytes, answer_eq}
 use Rattle.sd_call.specs.Replay.{AnswerSet, AnswerSets, replay_item, replay_from, set_at, put_answer, take_answer}
-use Rattle.sd_call.proofs.AnswerLists.{AreDifferent, or_first, or_second}
+use Rattle.sd_call.proofs.AnswerLists.{AreDifferent}
 use Rattle.sd_call.proofs.ReplayLaws.{set_of, minus, plus, CanTake, CanPut, can_take_old, can_put_new, plus-minus}
 
 -- whether two numbers are one
@@ -111,8 +112,8 @@ module _ {O : Type 0} (number : O → ℕ) where
   Has-insert : (f : O → AnswerSet) (m : AnswerSets) (n : ℕ) (s : AnswerSet) (os : List O) → list_any (λ p. is_at (number p) n) os ≡ false → Has f m os → Has f (fin.insert m n s) os
   Has-insert f m n s [] apart has = tt
   Has-insert f m n s (o ∷ os) apart has = (
-    get-insert m n s (number o) ∙ ap (λ b. cond b (Some s) (fin.get m (number o))) (or_first (is_at (number o) n) (list_any (λ p. is_at (number p) n) os) apart) ∙ has.0,
-    Has-insert f m n s os (or_second (is_at (number o) n) (list_any (λ p. is_at (number p) n) os) apart) has.1,
+    get-insert m n s (number o) ∙ ap (λ b. cond b (Some s) (fin.get m (number o))) (or_parts (is_at (number o) n) (list_any (λ p. is_at (number p) n) os) apart).0 ∙ has.0,
+    Has-insert f m n s os (or_parts (is_at (number o) n) (list_any (λ p. is_at (number p) n) os) apart).1 has.1,
   )
 
   all_taken : (f : O → AnswerSet) (old : O → List Answer) (os : List O) (m : AnswerSets) → AreApart os → Has f m os → Each (λ o. CanTake (f o) (old o)) os →
@@ -135,8 +136,8 @@ module _ {O : Type 0} (number : O → ℕ) where
   found_none : (f : O → AnswerSet) (os : List O) (n : ℕ) → list_any (λ p. is_at (number p) n) os ≡ false → found f os n ≡ None
   found_none f [] n apart = refl
   found_none f (o ∷ os) n apart =
-      ap (λ b. cond b (Some (f o)) (found f os n)) (is_at_symm n (number o) ∙ or_first (is_at (number o) n) (list_any (λ p. is_at (number p) n) os) apart)
-      ∙ found_none f os n (or_second (is_at (number o) n) (list_any (λ p. is_at (number p) n) os) apart)
+      ap (λ b. cond b (Some (f o)) (found f os n)) (is_at_symm n (number o) ∙ (or_parts (is_at (number o) n) (list_any (λ p. is_at (number p) n) os) apart).0)
+      ∙ found_none f os n (or_parts (is_at (number o) n) (list_any (λ p. is_at (number p) n) os) apart).1
 
   found_at : (f : O → AnswerSet) (os : List O) (q n : ℕ) → is_at q n ≡ true → found f os q ≡ found f os n
   found_at f os q n e = ap (λ k. found f os k) (fin.nat_cmp-IsAntisymmetric q n ((Equal-is (nat_cmp q n)).0 e))

@@ -20,7 +20,7 @@ AnswerSet = set.FinSet (slice_cmp nat_cmp)
 abbrev pub AnswerSets : Type 0
 AnswerSets = map.FinMap nat_cmp AnswerSet
 
--- an answer put into a set that lacks it, and one taken out of a set that has it
+-- an answer put into a set that lacks it
 abbrev pub put_answer : List ℕ → AnswerSet → Option AnswerSet
 put_answer answer answers = if set.contains answers answer then None else Some (set.insert answers answer)
 

@@ -1,12 +1,12 @@
 // Requests, answers and items as text.
 ghost use Rattle.std.specs.Prelude.{◌≡◌, ◌++◌, OnOk};
 ghost use Rattle.std.specs.Fmt.{signed_decimal};
-ghost use Rattle.dns_record.specs.RecordText.{srv_text};
+ghost use Rattle.sd_call.specs.declared.request.Request.{Request};
 ghost use Rattle.sd_call.specs.CallText.{request_text, families_text, norename_text, answer_text, verb_text, item_text};
 
-use crate::{Answer, Item, Request, Verb, put_label, put_type};
+use crate::{Answer, Item, Request, Text, Verb, put_label, put_type};
 use dns_name::Name;
-use dns_record::{put_kind, put_name, put_rdata};
+use dns_record::{put_kind, put_name, put_rdata, put_srv};
 use itoa::Buffer;
 use mdns_base::{put_decimal, put_hex};
 use std::alloc::AllocError;
@@ -16,32 +16,10 @@ pub fn put_request(out: &mut Vec<u8>, request: &Request) -> Result<(), AllocErro
     ensures { OnOk result (out.new.items ≡ out.old.items ++ request_text request.now) }
 {
     match request {
-        Request::Query { kind, name } => {
-            out.extend_from_slice(b"query ")?;
-            put_kind(out, *kind)?;
-            out.push(b' ')?;
-            put_name(out, name)?;
-            Ok(())
-        }
-        Request::Browse { regtype } => {
-            out.extend_from_slice(b"browse ")?;
-            put_type(out, regtype.as_str().as_bytes())?;
-            Ok(())
-        }
-        Request::Resolve { label, regtype } => {
-            out.extend_from_slice(b"resolve ")?;
-            put_label(out, label.as_str().as_bytes())?;
-            out.push(b' ')?;
-            put_type(out, regtype.as_str().as_bytes())?;
-            Ok(())
-        }
-        Request::Address { families, name } => {
-            out.extend_from_slice(b"address ")?;
-            put_families(out, *families)?;
-            out.push(b' ')?;
-            put_name(out, name)?;
-            Ok(())
-        }
+        Request::Query { kind, name } => put_query(out, *kind, name),
+        Request::Browse { regtype } => put_browse(out, regtype),
+        Request::Resolve { label, regtype } => put_resolve(out, label, regtype),
+        Request::Address { families, name } => put_address(out, *families, name),
         Request::Register {
             label,
             regtype,
@@ -71,6 +49,44 @@ pub fn put_request(out: &mut Vec<u8>, request: &Request) -> Result<(), AllocErro
             Ok(())
         }
     }
+}
+
+fn put_query(out: &mut Vec<u8>, kind: u16, name: &Name) -> Result<(), AllocError>
+    ensures { OnOk result (out.new.items ≡ out.old.items ++ request_text (Request.Query kind name.now)) }
+{
+    out.extend_from_slice(b"query ")?;
+    put_kind(out, kind)?;
+    out.push(b' ')?;
+    put_name(out, name)?;
+    Ok(())
+}
+
+fn put_browse(out: &mut Vec<u8>, regtype: &Text) -> Result<(), AllocError>
+    ensures { OnOk result (out.new.items ≡ out.old.items ++ request_text (Request.Browse regtype.now)) }
+{
+    out.extend_from_slice(b"browse ")?;
+    put_type(out, regtype.as_str().as_bytes())?;
+    Ok(())
+}
+
+fn put_resolve(out: &mut Vec<u8>, label: &Text, regtype: &Text) -> Result<(), AllocError>
+    ensures { OnOk result (out.new.items ≡ out.old.items ++ request_text (Request.Resolve label.now regtype.now)) }
+{
+    out.extend_from_slice(b"resolve ")?;
+    put_label(out, label.as_str().as_bytes())?;
+    out.push(b' ')?;
+    put_type(out, regtype.as_str().as_bytes())?;
+    Ok(())
+}
+
+fn put_address(out: &mut Vec<u8>, families: u8, name: &Name) -> Result<(), AllocError>
+    ensures { OnOk result (out.new.items ≡ out.old.items ++ request_text (Request.Address families name.now)) }
+{
+    out.extend_from_slice(b"address ")?;
+    put_families(out, families)?;
+    out.push(b' ')?;
+    put_name(out, name)?;
+    Ok(())
 }
 
 fn put_families(out: &mut Vec<u8>, families: u8) -> Result<(), AllocError>
@@ -147,26 +163,6 @@ pub fn put_answer(out: &mut Vec<u8>, answer: &Answer) -> Result<(), AllocError>
             Ok(())
         }
     }
-}
-
-// Priority, weight, port and target.
-fn put_srv(
-    out: &mut Vec<u8>,
-    priority: u16,
-    weight: u16,
-    port: u16,
-    target: &Name,
-) -> Result<(), AllocError>
-    ensures { OnOk result (out.new.items ≡ out.old.items ++ srv_text priority weight port target.now) }
-{
-    put_decimal(out, u64::from(priority))?;
-    out.push(b' ')?;
-    put_decimal(out, u64::from(weight))?;
-    out.push(b' ')?;
-    put_decimal(out, u64::from(port))?;
-    out.push(b' ')?;
-    put_name(out, target)?;
-    Ok(())
 }
 
 /// Appends the text of an item. Refused only for want of memory.

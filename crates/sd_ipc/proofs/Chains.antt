@@ -1,5 +1,5 @@
 -- Bytes appended one piece after another, and read piece by piece.
-use Rattle.std.proofs.Common.{◌≡◌, ℕ, ◌++◌, ◌∙◌, List, [], ◌∷◌, Ok, sym, ap}
+use Rattle.std.proofs.Common.{◌≡◌, ℕ, ◌++◌, ◌∙◌, List, [], Ok, sym, ap}
 use Rattle.std.proofs.lemmas.List.{append-nil}
 use Rattle.sd_ipc.specs.Parts.{Part}
 

@@ -1,16 +1,13 @@
 -- The data of records are read again.
-use Rattle.std.proofs.Common.{◌≡◌, ℕ, ◌<◌, ◌^◌, ◌++◌, ◌∙◌, ◌&&◌, ◌||◌, not, eqb, cond, Bool, true, false, List, [], ◌∷◌, Ok, Err, length, refl, sym, ap, arith, append_assoc}
+use Rattle.std.proofs.Common.{◌≡◌, ℕ, ◌<◌, ◌^◌, ◌++◌, ◌∙◌, ◌&&◌, ◌||◌, not, eqb, Bool, true, false, List, Ok, refl, ap, append_assoc}
 use Rattle.std.specs.Prelude.{IsTrue}
-use Rattle.std.specs.Int.{to_be_bytes, from_be_bytes, w16, w32, w128}
-use Rattle.std.proofs.lemmas.Bool.{false≢true}
+use Rattle.std.specs.Int.{to_be_bytes, w16, w32, w128}
+use Rattle.std.proofs.lemmas.Bool.{false≢true, and_parts, not-true}
 use Rattle.std.proofs.lemmas.Nat.{from_be_bytes-to_be_bytes_4}
 use Rattle.dns_name.specs.Names.{wire_of}
-use Rattle.dns_record.specs.Records.{is_rdata, is_typed, has_raw_form}
-use Rattle.dns_name.proofs.Wire.{both}
-use Rattle.dns_record.specs.declared.record.Rdata.{Rdata}
+use Rattle.dns_record.specs.Records.{is_rdata, has_raw_form}
 use Rattle.dns_record.specs.declared.record.Rdata.TheVariants.{A, Aaaa, Ptr, Cname, Srv, Txt, Nsec, Raw}
-use Rattle.sd_ipc.specs.declared.error.FrameError.{FrameError}
-use Rattle.sd_ipc.specs.Parts.{◌>>=◌, Part, u16_part, name_part}
+use Rattle.sd_ipc.specs.Parts.{Part, u16_part, name_part}
 use Rattle.sd_ipc.specs.Reading.{a_of, aaaa_of, last_name_of, srv_of, nsec_of, raw_of, rdata_of}
 use Rattle.sd_ipc.specs.Again.{ReadsNumber, ReadsName, IsData}
 use Rattle.sd_ipc.proofs.Numbers.{from_be_bytes-to_be_bytes_16}
@@ -76,10 +73,6 @@ not_or true y h = absurd (false≢true h)
 not_or false true h = absurd (false≢true h)
 not_or false false h = (refl, refl)
 
-not_true : (x : Bool) → not x ≡ true → x ≡ false
-not_true true h = absurd (false≢true h)
-not_true false h = refl
-
 -- eight tests that fail
 record Apart (a b c d e f g : Bool) : Type 0 where
   first : a ≡ false
@@ -92,14 +85,14 @@ record Apart (a b c d e f g : Bool) : Type 0 where
 
 apart : (a b c d e f g h r : Bool) → (not (((((((a || b) || c) || d) || e) || f) || g) || h) && r) ≡ true → Apart a b c d e f g
 apart a b c d e f g h r k =
-    let s8 = not_or (((((((a || b) || c) || d) || e) || f) || g)) h (both (not (((((((a || b) || c) || d) || e) || f) || g) || h)) r k).0 in
+    let s8 = not_or (((((((a || b) || c) || d) || e) || f) || g)) h (and_parts (not (((((((a || b) || c) || d) || e) || f) || g) || h)) r k).0 in
     let s7 = not_or ((((((a || b) || c) || d) || e) || f)) g s8.0 in
     let s6 = not_or (((((a || b) || c) || d) || e)) f s7.0 in
     let s5 = not_or ((((a || b) || c) || d)) e s6.0 in
     let s4 = not_or (((a || b) || c)) d s5.0 in
     let s3 = not_or ((a || b)) c s4.0 in
     let s2 = not_or a b s3.0 in
-    record { first = not_true a s2.0; second = s2.1; third = s3.1; fourth = s4.1; fifth = s5.1; sixth = s6.1; seventh = s7.1 }
+    record { first = not-true a s2.0; second = s2.1; third = s3.1; fourth = s4.1; fifth = s5.1; sixth = s6.1; seventh = s7.1 }
 
 raw_is : (kind : ℕ) (bytes : List ℕ) → is_rdata (Raw kind bytes) ≡ true → raw_of kind bytes ≡ Ok (Raw kind bytes)
 unfolding raw_of

@@ -1,5 +1,5 @@
 -- Whole frames are read again, whatever follows.
-use Rattle.std.proofs.Common.{◌≡◌, ℕ, ◌+◌, ◌-◌, ◌^◌, ◌<◌, ◌≤◌, ◌++◌, ◌∙◌, ◌&&◌, min, Bool, true, false, eqb, leb, ltb, List, [], ◌∷◌, Option, Some, None, Result, Ok, Err, length, take, drop, refl, sym, ap, subst, arith, length-append, append_assoc}
+use Rattle.std.proofs.Common.{◌≡◌, ℕ, ◌+◌, ◌^◌, ◌<◌, ◌≤◌, ◌++◌, ◌∙◌, false, eqb, ltb, List, [], ◌∷◌, Some, Result, Ok, Err, length, take, drop, refl, sym, ap, subst, arith, length-append, append_assoc}
 use Rattle.std.specs.Prelude.{IsTrue, IfOk}
 use Rattle.std.specs.Int.{to_be_bytes, from_be_bytes, w32}
 use Rattle.std.specs.declared.alloc.AllocError.{AllocError}
@@ -9,11 +9,11 @@ use Rattle.std.proofs.lemmas.Nat.{from_be_bytes-to_be_bytes_4}
 use Rattle.sd_call.specs.declared.request.Request.{Request}
 use Rattle.sd_call.specs.declared.item.Item.{Item}
 use Rattle.sd_call.specs.declared.item.Item.TheVariants.{Reply, Add, Remove}
-use Rattle.sd_call.specs.Answers.{answer_bytes, frame_len}
+use Rattle.sd_call.specs.Answers.{frame_len}
 use Rattle.sd_ipc.specs.declared.error.FrameError.{FrameError}
 use Rattle.sd_ipc.specs.Frames.{frame_bytes, length_word, request_kind, item_kind, item_op, item_body}
 use Rattle.sd_ipc.specs.Parts.{◌>>=◌, u32_part}
-use Rattle.sd_ipc.specs.Reading.{is_length, word_at, whole_frame, behind_word, frame_of, size_behind, frame_size, request_of, item_of, framed_request, framed_item, if_any, request_in, item_in}
+use Rattle.sd_ipc.specs.Reading.{word_at, whole_frame, behind_word, frame_of, size_behind, frame_size, request_of, item_of, framed_request, framed_item, if_any, request_in, item_in}
 use Rattle.sd_ipc.specs.Again.{IsBody, IsItemBody, has_item_data}
 use Rattle.sd_ipc.proofs.PartsAgain.{u32_again}
 

@@ -1,21 +1,19 @@
 -- The bodies of items are read again.
-use Rattle.std.proofs.Common.{◌≡◌, ℕ, ◌+◌, ◌<◌, ◌^◌, ◌++◌, ◌∙◌, Bool, true, false, List, [], ◌∷◌, Result, Ok, length, refl, sym, ap, subst, arith, append_assoc}
-use Rattle.std.specs.Prelude.{IsTrue, ℤ, FitsSigned}
-use Rattle.std.specs.Int.{to_be_bytes, from_be_bytes, cast_signed, cast_unsigned, w16, w32}
+use Rattle.std.proofs.Common.{◌≡◌, ℕ, ◌++◌, ◌∙◌, List, [], ◌∷◌, Ok, refl, ap, subst, append_assoc}
+use Rattle.std.specs.Prelude.{ℤ, FitsSigned}
+use Rattle.std.specs.Int.{to_be_bytes, cast_signed, cast_unsigned, w16, w32}
 use Rattle.std.proofs.lemmas.Int.{to_z-of_z}
 use Rattle.std.proofs.Math.Facts.{Fits-of_z, Fits-lt-pow}
 use Rattle.dns_name.specs.Names.{wire_of}
-use Rattle.dns_record.specs.Records.{kind_of, data_of, is_rdata}
+use Rattle.dns_record.specs.Records.{kind_of}
 use Rattle.dns_record.specs.declared.record.Rdata.{Rdata}
 use Rattle.sd_call.specs.declared.request.Verb.{Verb}
 use Rattle.sd_call.specs.declared.request.Verb.TheVariants as verb
 use Rattle.sd_call.specs.declared.answer.Answer.{Answer}
 use Rattle.sd_call.specs.declared.answer.Answer.TheVariants.{Datum, Found, Resolved, Named, Conflict}
-use Rattle.sd_call.specs.declared.item.Item.{Item}
 use Rattle.sd_call.specs.declared.item.Item.TheVariants.{Reply, Add, Remove}
-use Rattle.sd_ipc.specs.declared.error.FrameError.{FrameError}
-use Rattle.sd_ipc.specs.Frames.{verb_number, item_body}
-use Rattle.sd_ipc.specs.Parts.{◌>>=◌, Part, u16_part, u32_part, name_part}
+use Rattle.sd_ipc.specs.Frames.{verb_number}
+use Rattle.sd_ipc.specs.Parts.{Part, u16_part, u32_part, name_part}
 use Rattle.sd_ipc.specs.Reading.{rdata_of, datum_of, resolved_of, tagged_of, answer_of, verb_of, reply_of, item_of}
 use Rattle.sd_ipc.specs.Again.{ReadsNumber, ReadsName, IsData, IsAnswer, IsItemBody}
 use Rattle.sd_ipc.proofs.Chains.{at_end}

@@ -1,13 +1,14 @@
 -- Names in wire form at the front of bytes, label by label.
-use Rattle.std.proofs.Common.{◌≡◌, ℕ, ◌+◌, ◌-◌, ◌≤◌, ◌++◌, ◌∙◌, ◌&&◌, Bool, true, List, [], ◌∷◌, Option, Some, None, Ok, Err, length, take, drop, refl, sym, ap, subst, arith, length-append, length-take, append_assoc}
+use Rattle.std.proofs.Common.{◌≡◌, ℕ, ◌+◌, ◌≤◌, ◌++◌, ◌∙◌, ◌&&◌, true, List, [], ◌∷◌, Some, None, Ok, Err, length, take, drop, refl, sym, ap, subst, arith, length-append, length-take, append_assoc}
 use Rattle.std.specs.Prelude.{IsTrue}
 use Rattle.std.specs.List.{list_all}
 use Rattle.std.proofs.lemmas.List.{append_cancel_right, take-append-drop}
 use Rattle.std.proofs.lemmas.List.Folds.{list_all-append}
+use Rattle.std.proofs.lemmas.Bool.{and_from}
 use Rattle.dns_name.specs.Names.{wire_of, labels_of, is_label, is_name}
-use Rattle.dns_name.proofs.Wire.{front_of, wire_of-front, front_of-push, length-wire_of-push, and_true, label_is, labels_of-wire_of, name_each, name_short, name_is}
+use Rattle.dns_name.proofs.Wire.{front_of, wire_of-front, front_of-push, length-wire_of-push, label_is, labels_of-wire_of, name_each, name_is}
 use Rattle.dns_record.specs.Records.{after_name}
-use Rattle.dns_record.proofs.RawForms.{ReadSoFar, after_name-is, after_name-parts, name_ends, runs_out, no_label}
+use Rattle.dns_record.proofs.RawForms.{ReadSoFar, after_name-is, after_name-parts, runs_out, no_label}
 use Rattle.sd_ipc.specs.Parts.{name_part, named}
 use Rattle.sd_ipc.specs.declared.error.FrameError.TheVariants.{BadBody}
 
@@ -71,7 +72,7 @@ one_more bytes after name size r some most within room =
     let n : length label ≡ size = omega (arith, length-take size after) in
     let pushed : front_of (name ++ label ∷ []) ≡ front_of name ++ length label ∷ label = front_of-push name label in
     record {
-      each = list_all-append is_label name (label ∷ []) ∙ and_true (list_all is_label name) (is_label label && true) r.each (and_true (is_label label) true (label_is label (omega arith) (omega arith)) refl);
+      each = list_all-append is_label name (label ∷ []) ∙ and_from (list_all is_label name) (is_label label && true) r.each (and_from (is_label label) true (label_is label (omega arith) (omega arith)) refl);
       parts = r.parts ∙ ap (λ (l : List ℕ). front_of name ++ size ∷ l) (sym (take-append-drop size after)) ∙ regrouped (front_of name) label (drop size after) size n
           ∙ ap (λ (l : List ℕ). l ++ drop size after) (sym pushed);
       short = omega (arith, length-wire_of-push name label);

@@ -1,5 +1,5 @@
 -- What bytes spell is never a failure of the source.
-use Rattle.std.proofs.Common.{◌≡◌, ◌⊎◌, inl, inr, ℕ, Bool, true, false, cond, eqb, List, [], ◌∷◌, Option, Some, None, Result, Ok, Err}
+use Rattle.std.proofs.Common.{◌≡◌, inl, inr, ℕ, Bool, true, false, cond, eqb, List, [], ◌∷◌, Option, Some, None, Result, Ok, Err}
 use Rattle.dns_record.specs.Records.{after_name}
 use Rattle.dns_record.specs.declared.record.Rdata.TheVariants.{Ptr, Cname, Txt}
 use Rattle.sd_call.specs.declared.request.Request.TheVariants as request

@@ -1,5 +1,5 @@
 -- Numbers of 16 bytes come back from their bytes.
-use Rattle.std.proofs.Common.{◌≡◌, ℕ, ◌+◌, ◌*◌, ◌/◌, ◌%◌, ◌^◌, ◌<◌, ◌∙◌, arith, sym, ap}
+use Rattle.std.proofs.Common.{◌≡◌, ℕ, ◌+◌, ◌*◌, ◌/◌, ◌%◌, ◌^◌, ◌<◌, arith}
 use Rattle.std.specs.Int.{to_be_bytes, from_be_bytes, w128}
 use native.Mathlib.Nat as nat
 

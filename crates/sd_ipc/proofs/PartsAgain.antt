@@ -1,5 +1,5 @@
 -- Numbers, names, texts and TXT data are read again.
-use Rattle.std.proofs.Common.{◌≡◌, ℕ, ◌+◌, ◌^◌, ◌<◌, ◌≤◌, ◌++◌, ◌∙◌, Bool, true, false, ◌&&◌, ◌↔◌, Option, Some, None, IsSome, List, [], ◌∷◌, Result, Ok, Err, cond, leb, length, take, drop, refl, sym, ap, arith, length-append, length-take, append_assoc}
+use Rattle.std.proofs.Common.{◌≡◌, ℕ, ◌^◌, ◌<◌, ◌≤◌, ◌++◌, ◌∙◌, Bool, true, false, ◌&&◌, ◌↔◌, Option, Some, None, IsSome, List, [], Result, Ok, Err, cond, leb, length, take, drop, refl, sym, ap, arith, length-append, length-take, append_assoc}
 use Rattle.std.specs.Prelude.{IsTrue}
 use Rattle.std.specs.Int.{to_be_bytes, from_be_bytes, w16, w32}
 use Rattle.std.specs.Str.{IsUtf8, is_utf8}
@@ -7,12 +7,12 @@ use Rattle.std.proofs.Math.Seq.{take-append_seam, drop-append_seam}
 use Rattle.std.proofs.lemmas.Bool.{le-leb, leb-true, false≢true}
 use Rattle.std.proofs.lemmas.Nat.{from_be_bytes-to_be_bytes_2, from_be_bytes-to_be_bytes_4}
 use Rattle.std.proofs.lemmas.Str.{is_utf8-from_IsUtf8, IsUtf8-from_is_utf8}
-use Rattle.dns_name.specs.Names.{wire_of, is_name}
+use Rattle.dns_name.specs.Names.{is_name}
 use Rattle.dns_name.proofs.Wire.{name_short}
 use Rattle.sd_ipc.specs.declared.error.FrameError.{FrameError}
 use Rattle.sd_ipc.specs.declared.error.FrameError.TheVariants.{BadBody}
 use Rattle.sd_ipc.specs.Frames.{counted}
-use Rattle.sd_ipc.specs.Parts.{◌>>=◌, Part, u16_part, u32_part, bytes_part, counted_part, text_part, txt_part, name_part}
+use Rattle.sd_ipc.specs.Parts.{◌>>=◌, Part, u16_part, u32_part, bytes_part, counted_part, text_part, txt_part}
 use Rattle.sd_ipc.specs.Again.{ReadsNumber, ReadsName, ReadsText, ReadsTxt}
 use Rattle.sd_ipc.proofs.Names.{name_part-is}
 

@@ -1,12 +1,10 @@
 -- The bodies of requests are read again.
-use Rattle.std.proofs.Common.{◌≡◌, ℕ, ◌+◌, ◌≤◌, ◌++◌, ◌∙◌, Bool, true, false, List, [], ◌∷◌, Result, Ok, length, refl, sym, ap, arith, length-append, append_assoc}
+use Rattle.std.proofs.Common.{◌≡◌, ℕ, ◌+◌, ◌++◌, ◌∙◌, Bool, true, false, List, [], ◌∷◌, Ok, length, refl, ap, arith, length-append, append_assoc}
 use Rattle.std.specs.Int.{to_be_bytes, w16}
 use Rattle.dns_name.specs.Names.{wire_of}
-use Rattle.sd_call.specs.declared.request.Request.{Request}
 use Rattle.sd_call.specs.declared.request.Request.TheVariants.{Query, Browse, Resolve, Address, Register, Update, Stop}
-use Rattle.sd_ipc.specs.declared.error.FrameError.{FrameError}
 use Rattle.sd_ipc.specs.Frames.{counted, flags_of, request_body}
-use Rattle.sd_ipc.specs.Parts.{◌>>=◌, Part, u16_part, text_part, txt_part, name_part}
+use Rattle.sd_ipc.specs.Parts.{Part, u16_part, text_part, txt_part, name_part}
 use Rattle.sd_ipc.specs.Reading.{query_of, browse_of, resolve_of, address_of, register_of, update_of, request_of}
 use Rattle.sd_ipc.specs.Again.{ReadsNumber, ReadsName, ReadsText, ReadsTxt, IsBody}
 use Rattle.sd_ipc.proofs.Chains.{at_end}

@@ -1,11 +1,10 @@
 -- What was taken from a source, and what it has left.
-use Rattle.std.proofs.Common.{◌≡◌, ◌⊎◌, inl, inr, Bool, true, false, cond, eqb, leb, ltb, ◌&&◌, refl, ℕ, ◌+◌, ◌≤◌, ◌++◌, ◌∙◌, List, Option, Some, None, Result, Ok, Err, length, take, drop, sym, ap, subst, arith, length-append, length-take, append_assoc}
+use Rattle.std.proofs.Common.{◌≡◌, inl, inr, Bool, true, false, cond, eqb, leb, ltb, ◌&&◌, refl, ℕ, ◌+◌, ◌≤◌, ◌++◌, ◌∙◌, List, Option, Some, None, Result, Ok, Err, length, take, drop, sym, ap, subst, arith, length-append, length-take, append_assoc}
 use Rattle.std.proofs.Math.Seq.{drop-append_seam}
 use Rattle.std.specs.Io.KnownBytes.{Consumes}
 use Rattle.std.proofs.lemmas.List.{drop-drop}
-use Rattle.std.proofs.lemmas.Bool.{leb-true}
+use Rattle.std.proofs.lemmas.Bool.{leb-true, and_parts}
 use Rattle.std.specs.Int.{from_be_bytes, w32}
-use Rattle.dns_name.proofs.Wire.{both}
 use Rattle.sd_ipc.specs.declared.error.FrameError.{FrameError}
 use Rattle.sd_ipc.specs.declared.error.FrameError.TheVariants.{BadLength, Truncated, ReadFault, NoMemory}
 use Rattle.sd_ipc.specs.Parts.{◌>>=◌, IsReadAs}
@@ -88,7 +87,7 @@ pub frame_most : (bytes : List ℕ) → frame_size bytes ≤ 65540
 unfolding frame_size word_at
 frame_most bytes =
     let size : ℕ = from_be_bytes w32 (take 4 (take 4 bytes)) in
-    let most = word_most (eqb (length (take 4 bytes)) 0) (ltb (length (take 4 bytes)) 4) (leb 5 size && leb size 65536) size (λ h. leb-true size 65536 (both (leb 5 size) (leb size 65536) h).1) in
+    let most = word_most (eqb (length (take 4 bytes)) 0) (ltb (length (take 4 bytes)) 4) (leb 5 size && leb size 65536) size (λ h. leb-true size 65536 (and_parts (leb 5 size) (leb size 65536) h).1) in
     omega (arith, most)
 
 -- an error passes

@@ -1,5 +1,5 @@
 -- What is written is read again, whatever follows.
-use Rattle.std.specs.Prelude.{◌≡◌, ℕ, ◌+◌, ◌≤◌, Bool, true, List, ◌++◌, length, nat_le, IsTrue, Ok}
+use Rattle.std.specs.Prelude.{◌≡◌, ℕ, ◌≤◌, Bool, true, List, ◌++◌, length, IsTrue, Ok}
 use Rattle.std.specs.Int.{to_be_bytes, w16}
 use Rattle.dns_name.specs.Names.{wire_of}
 use Rattle.dns_record.specs.Records.{kind_of, data_of, is_rdata}

@@ -1,5 +1,5 @@
 -- Which frame bytes begin with, and which request or item it spells; else the first fault, in the order of the tests.
-use Rattle.std.specs.Prelude.{ℕ, ◌+◌, ◌-◌, ◌==◌, nat_le, nat_lt, Bool, true, false, ◌&&◌, not, List, [], ◌∷◌, length, take, drop, Option, Some, None, Result, Ok, Err, if◌then◌else◌}
+use Rattle.std.specs.Prelude.{ℕ, ◌+◌, ◌==◌, nat_le, nat_lt, Bool, true, false, ◌&&◌, List, length, take, drop, Option, Some, None, Result, Ok, Err, if◌then◌else◌}
 use Rattle.std.specs.Int.{from_be_bytes, cast_signed, w32, w128}
 use Rattle.dns_record.specs.Records.{is_rdata}
 use Rattle.dns_record.specs.declared.record.Rdata.{Rdata}

@@ -1,5 +1,5 @@
 -- What a source that tells its bytes has left after a frame was read.
-use Rattle.std.specs.Prelude.{◌≡◌, ◌⊎◌, ℕ, ◌≤◌, List, length, drop, Option, Some, Result, Err}
+use Rattle.std.specs.Prelude.{◌≡◌, ◌⊎◌, ℕ, ◌≤◌, List, drop, Option, Some, Result, Err}
 use Rattle.sd_ipc.specs.declared.error.FrameError.{FrameError}
 use Rattle.sd_ipc.specs.declared.error.FrameError.TheVariants.{ReadFault, NoMemory}
 

@@ -25,7 +25,6 @@ pub(crate) fn request_kind(request: &Request) -> u8
 }
 
 /// The body of a request's frame.
-
 #[tactic(auto, using(crate::proofs::RequestsAgain::stop_body))]
 pub(crate) fn request_body(alloc: Global, request: &Request) -> Result<Vec<u8>, AllocError>
     requires { IsTrue (is_short request.now) }

@@ -4,9 +4,9 @@ ghost use Rattle.sd_ipc.specs.Parts.{IsReadAs};
 ghost use Rattle.sd_ipc.specs.Reading.{a_of, aaaa_of, last_name_of, srv_of, nsec_of, raw_of, rdata_of};
 
 use crate::FrameError;
-use crate::parts::{copied, ended, name_part, u16_part};
+use crate::parts::{ended, name_part, u16_part};
 use dns_name::Name;
-use dns_record::Rdata;
+use dns_record::{Bytes, Rdata};
 use std::alloc::Global;
 
 /// The data of a type.
@@ -20,7 +20,7 @@ pub(crate) fn rdata_of(alloc: Global, kind: u16, bytes: &[u8]) -> Result<Rdata, 
         12 => Ok(Rdata::Ptr(last_name_of(bytes)?)),
         5 => Ok(Rdata::Cname(last_name_of(bytes)?)),
         33 => srv_of(bytes),
-        16 => Ok(Rdata::Txt(copied(alloc, bytes)?)),
+        16 => Ok(Rdata::Txt(Bytes::from_slice(alloc, bytes)?)),
         47 => nsec_of(alloc, bytes),
         _ => raw_of(alloc, kind, bytes),
     }
@@ -79,7 +79,7 @@ fn nsec_of(alloc: Global, bytes: &[u8]) -> Result<Rdata, FrameError>
     let (next, rest) = name_part(bytes)?;
     Ok(Rdata::Nsec {
         next,
-        bitmap: copied(alloc, rest)?,
+        bitmap: Bytes::from_slice(alloc, rest)?,
     })
 }
 
@@ -90,7 +90,7 @@ fn raw_of(alloc: Global, kind: u16, bytes: &[u8]) -> Result<Rdata, FrameError>
 {
     let rdata = Rdata::Raw {
         kind,
-        bytes: copied(alloc, bytes)?,
+        bytes: Bytes::from_slice(alloc, bytes)?,
     };
     if !rdata.is_valid() {
         return Err(FrameError::BadBody);

@@ -1,12 +1,12 @@
 // The parts with which bytes begin, each with what follows it. Numbers have their byte of the greatest worth first.
-ghost use Rattle.std.specs.Prelude.{◌≡◌, ◌⊎◌, ◌≤◌, length, Ok, Err, IfOk, MatchResult};
+ghost use Rattle.std.specs.Prelude.{◌≡◌, ◌⊎◌, ◌≤◌, length, Ok, Err, MatchResult};
 ghost use Rattle.sd_ipc.specs.Parts.{byte_part, u16_part, u32_part, bytes_part, counted_part, text_part, txt_part, name_part, ended};
 
 use crate::FrameError;
 use dns_name::Name;
 use dns_record::Bytes;
 use sd_call::Text;
-use std::alloc::{AllocError, Global};
+use std::alloc::Global;
 use std::str;
 
 /// A first byte.
@@ -80,7 +80,7 @@ pub(crate) fn txt_part(alloc: Global, bytes: &[u8]) -> Result<(Bytes, &[u8]), Fr
     ensures { MatchResult result (λ p. txt_part bytes.now ≡ Ok (p.0, p.1.now)) (λ e. (e ≡ FrameError.NoMemory) ⊎ (txt_part bytes.now ≡ Err e)) }
 {
     let (txt, rest) = counted_part(8192, bytes)?;
-    Ok((copied(alloc, txt)?, rest))
+    Ok((Bytes::from_slice(alloc, txt)?, rest))
 }
 
 /// A name in wire form, without pointers.
@@ -114,11 +114,4 @@ pub(crate) fn ended(rest: &[u8]) -> Result<(), FrameError>
     } else {
         Err(FrameError::BadBody)
     }
-}
-
-/// A list of these bytes.
-pub(crate) fn copied(alloc: Global, bytes: &[u8]) -> Result<Bytes, AllocError>
-    ensures { IfOk result (λ copy. copy ≡ bytes.now) }
-{
-    Ok(Bytes::from_vec(Vec::from_slice(alloc, bytes)?))
 }

@@ -1,5 +1,5 @@
 // Requests and items from a source.
-ghost use Rattle.std.specs.Prelude.{◌≡◌, ◌≤◌, Err};
+ghost use Rattle.std.specs.Prelude.{◌≡◌, ◌≢◌, ◌≤◌, Err};
 ghost use Rattle.mdns_base.specs.Outside.{Rose};
 ghost use Rattle.sd_ipc.specs.Parts.{IsReadAs};
 ghost use Rattle.sd_ipc.specs.Reading.{frame_size, framed_request, framed_item, request_in, item_in};
@@ -18,8 +18,8 @@ use std::alloc::Global;
 /// source may give its bytes in any pieces. At most 65,540 bytes are taken, and none of the next frame.
 ///
 /// The errors have the order of the tests: `Truncated` where the source ends within the length word, `BadLength`,
-/// `Truncated` where it ends within the bytes behind, `BadKind`, `BadBody`. `ReadFault` only where the source failed in
-/// this call. `NoMemory` may come at any bytes; what was taken stays taken.
+/// `Truncated` where it ends within the bytes behind, `BadKind`, `BadBody`. `ReadFault` exactly where the source failed
+/// in this call. `NoMemory` may come at any bytes; what was taken stays taken.
 #[tactic(auto, using(crate::proofs::Sources::frame_most))]
 pub fn read_request<S: Source>(
     alloc: Global,
@@ -30,6 +30,7 @@ pub fn read_request<S: Source>(
     ensures within { Told (S.left input.old) (λ bytes. TakesUpTo (frame_size bytes) bytes (S.left input.new)) }
     ensures most { Told (S.left input.old) (λ bytes. frame_size bytes ≤ 65540) }
     ensures fault { result ≡ Err FrameError.ReadFault → Rose (S.faults input.old) (S.faults input.new) }
+    ensures quiet { result ≢ Err FrameError.ReadFault → S.faults input.new ≡ S.faults input.old }
     ensures later { S.faults input.old ≤ S.faults input.new }
 {
     let Some(frame) = next_frame(alloc, input)? else {
@@ -47,6 +48,7 @@ pub fn read_item<S: Source>(alloc: Global, input: &mut S) -> Result<Option<Item>
     ensures within { Told (S.left input.old) (λ bytes. TakesUpTo (frame_size bytes) bytes (S.left input.new)) }
     ensures most { Told (S.left input.old) (λ bytes. frame_size bytes ≤ 65540) }
     ensures fault { result ≡ Err FrameError.ReadFault → Rose (S.faults input.old) (S.faults input.new) }
+    ensures quiet { result ≢ Err FrameError.ReadFault → S.faults input.new ≡ S.faults input.old }
     ensures later { S.faults input.old ≤ S.faults input.new }
 {
     let Some(frame) = next_frame(alloc, input)? else {

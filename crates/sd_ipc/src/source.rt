@@ -18,6 +18,7 @@ pub(crate) fn next_frame<S: Source>(
     ensures whole { Told (S.left input.old) (λ bytes. TakesWhole result (frame_size bytes) bytes (S.left input.new)) }
     ensures within { Told (S.left input.old) (λ bytes. TakesUpTo (frame_size bytes) bytes (S.left input.new)) }
     ensures fault { result ≡ Err FrameError.ReadFault → Rose (S.faults input.old) (S.faults input.new) }
+    ensures quiet { result ≢ Err FrameError.ReadFault → S.faults input.new ≡ S.faults input.old }
     ensures later { S.faults input.old ≤ S.faults input.new }
 {
     let word = take_up_to(alloc, input, 4)?;
@@ -67,6 +68,7 @@ fn take_up_to<S: Source>(alloc: Global, input: &mut S, wanted: usize) -> Result<
     ensures most { IfOk result (λ taken. length taken.items ≤ wanted) }
     ensures refused { OnErr result (IsRefused result) }
     ensures fault { result ≡ Err FrameError.ReadFault → Rose (S.faults input.old) (S.faults input.new) }
+    ensures quiet { result ≢ Err FrameError.ReadFault → S.faults input.new ≡ S.faults input.old }
     ensures later { S.faults input.old ≤ S.faults input.new }
 {
     let mut taken = Vec::new(alloc);

@@ -248,6 +248,18 @@ fn faults_in_the_order_of_the_tests(rt: HostRuntime) -> Result<(), Fail> {
     assert_eq!(rt; request_fault(alloc, &flags)?, Some(FrameError::BadBody));
     let reply = b"\x00\x00\x00\x0a\x40\x00\x00\x00\x01\x01\x00\x00\x00";
     assert_eq!(rt; item_fault(alloc, reply)?, Some(FrameError::Truncated));
+    assert_eq!(rt;
+        [
+            FrameError::BadLength as u8,
+            FrameError::BadKind as u8,
+            FrameError::BadBody as u8,
+            FrameError::Truncated as u8,
+            FrameError::ReadFault as u8,
+            FrameError::NoMemory as u8
+        ]
+        .as_slice(),
+        [1, 2, 3, 4, 5, 6].as_slice()
+    );
     Ok(())
 }
 

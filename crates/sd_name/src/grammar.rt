@@ -18,7 +18,7 @@ fn has_no_control(label: &[u8]) -> bool
     label.iter().all(|b| !b.is_ascii_control())
 }
 
-// Whether these bytes are a subtype.
+/// Whether these bytes are a subtype.
 pub(crate) fn is_subtype(bytes: &[u8]) -> bool
     ensures { result ≡ is_subtype bytes.now }
 {
@@ -33,7 +33,7 @@ fn are_subtype_bytes(bytes: &[u8]) -> bool
         .all(|b| !(b.is_ascii_control() || *b == b',' || *b == b'.'))
 }
 
-// Whether these are the labels of a type, and nothing but perhaps a final dot stands behind them.
+/// Whether these are the labels of a type, and nothing but perhaps a final dot stands behind them.
 pub(crate) fn are_type_labels(app: &[u8], transport: &[u8], rest: Option<&[u8]>) -> bool
     ensures { result ≡ (is_app_label app.now && is_transport transport.now && is_end (pieces_of 46 (option_copied rest.entry))) }
 {
@@ -93,7 +93,7 @@ fn has_hyphens_apart(bytes: &[u8]) -> bool
     bytes.split(|b| *b == b'-').all(|part| !part.is_empty())
 }
 
-// The first of the pieces between such bytes, and what stands behind it where another piece follows.
+/// The first of the pieces between such bytes, and what stands behind it where another piece follows.
 pub(crate) fn cut(bytes: &[u8], byte: u8) -> (&[u8], Option<&[u8]>)
     ensures pieces { slice_split (λ b. b == byte) bytes.now ≡ result.0.now ∷ pieces_of byte (option_copied result.1) }
     ensures shorter { IfSome result.1 (λ rest. length rest.now < length bytes.now) }

@@ -48,7 +48,7 @@ pub fn local_name() -> Name
     name
 }
 
-// Puts the label of these bytes at the right end.
+/// Puts the label of these bytes at the right end.
 pub(crate) fn push_bytes(name: &mut Name, bytes: &[u8])
     requires label { IsTrue (is_label bytes.now) }
     requires room { length (wire_of name.old) + length bytes.now + 1 ≤ 255 }

@@ -74,6 +74,10 @@ fn a_queue_that_passes_the_limit_is_cut(rt: HostRuntime) -> Result<(), Fail> {
     assert!(rt; matches!(outbox.take(), Taken::Cut));
     assert!(rt; outbox.is_cut());
     assert_eq!(rt; outbox.bytes(), 0);
+    assert_eq!(rt;
+        [AppendError::Cut as u8, AppendError::NoMemory as u8].as_slice(),
+        [1, 2].as_slice()
+    );
     Ok(())
 }
 

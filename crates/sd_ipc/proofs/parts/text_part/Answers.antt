@@ -1,4 +1,4 @@
-use Rattle.std.proofs.Common.{◌≡◌, ◌∙◌, inr, arith}
+use Rattle.std.proofs.Common.{◌∙◌, inr}
 use Rattle.sd_ipc.proofs.PartsAgain.{text_is, text_bad, text_found, counted_short}
 use Rattle.sd_ipc.proofs.parts.text_part.Goals as goal
 

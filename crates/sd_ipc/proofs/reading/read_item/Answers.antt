@@ -1,6 +1,5 @@
-use Rattle.std.proofs.Common.{Ok, Err, Some}
 use Rattle.std.proofs.lemmas.Result.{err_from_is_err_and}
-use Rattle.sd_ipc.specs.Reading.{framed_item, item_in, frame_size}
+use Rattle.sd_ipc.specs.Reading.{item_in, frame_size}
 use Rattle.sd_ipc.proofs.NoFault.{item_frame, no_fault}
 use Rattle.sd_ipc.proofs.Sources.{no_frame, no_frame_whole, none_of, some_of, some_err, whole_of, other_fault}
 use Rattle.sd_ipc.proofs.reading.read_item.Goals as goal

@@ -1,4 +1,4 @@
-use Rattle.std.proofs.Common.{◌∙◌, sym, ap, Ok, Err, inl, inr}
+use Rattle.std.proofs.Common.{◌∙◌, ap, inr}
 use Rattle.std.proofs.lemmas.Result.{err_from_is_err_and}
 use Rattle.sd_ipc.specs.Reading.{word_at}
 use Rattle.sd_ipc.proofs.Sources.{bad_word, no_word, a_word, word_within, frame_within, other_fault}

@@ -4,7 +4,7 @@ use Rattle.sd_ipc.proofs.source.take_up_to.Given as goal
 abbrev pub invariant-pieces : goal.invariant-pieces
 invariant-pieces g l = record {
   all : (bytes : List ℕ) → g.S.Source.left l.fn.input ≡ Some bytes → (rest : List ℕ) × (bytes ≡ l.taken.items ++ rest) × (g.S.Source.left l.input ≡ Some rest);
-  later : g.S.Source.faults l.fn.input ≤ g.S.Source.faults l.input;
+  quiet : g.S.Source.faults l.input ≡ g.S.Source.faults l.fn.input;
   most : length l.taken.items ≤ l.wanted;
 }
 

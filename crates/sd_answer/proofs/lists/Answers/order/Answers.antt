@@ -4,7 +4,7 @@ use Rattle.std.proofs.lemmas.Fn.{dedup_same}
 use Rattle.std.proofs.lemmas.List.Sorted.{ranks_by, answers_always}
 use Rattle.dns_name.specs.Lists.{ordered}
 use Rattle.sd_call.specs.Answers.{answer_cmp}
-use Rattle.sd_answer.proofs.Ordered.{sorted-once}
+use Rattle.dns_name.proofs.InOrder.{sorted-once}
 use Rattle.sd_answer.proofs.Puts.{answer_cmp-total}
 use Rattle.sd_answer.proofs.lists.Answers.order.Goals as goal
 
