@@ -1,15 +1,15 @@
 -- How many records are held after the records of a packet.
-use Rattle.std.proofs.Common.{◌≡◌, ◌↔◌, ℕ, ◌+◌, ◌-◌, leb, ⊎_elim, ◌<◌, ◌≤◌, ◌&&◌, ◌||◌, Bool, true, false, not, cond, List, [], ◌∷◌, ◌++◌, map, filter, length, nat_lt, count_by, refl, sym, ap, ◌∙◌, arith, length-append}
-use Rattle.std.proofs.lemmas.Bool.{leb-true, le-leb, both_ways, cases_lt}
+use Rattle.std.proofs.Common.{◌≡◌, ◌↔◌, ℕ, ◌+◌, ⊎_elim, ◌<◌, ◌≤◌, ◌&&◌, ◌||◌, Bool, true, false, not, cond, List, [], ◌∷◌, ◌++◌, map, filter, length, nat_lt, nat_le, count_by, refl, sym, ap, ◌∙◌, arith, length-append}
+use Rattle.std.proofs.lemmas.Bool.{leb-true, both_ways, cases_lt}
 use Rattle.std.proofs.lemmas.List.Elements.{filter-append, filter_agree}
-use Rattle.std.proofs.lemmas.List.Sums.{length-filter}
+use Rattle.std.proofs.lemmas.List.Sums.{length-filter, count_by-le-length}
 use Rattle.std.proofs.lemmas.List.Sorted.{length_permutation}
 use Rattle.dns_record.specs.declared.record.Rr.{Rr}
 use Rattle.dns_record.specs.Records.{same}
 use Rattle.mdns_history.specs.declared.held.Held.{Held}
 use Rattle.mdns_history.specs.Hearings.{Hearing}
-use Rattle.mdns_history.specs.Lifetimes.{live_of, is_live_at}
-use Rattle.mdns_cache.specs.Lifetimes.{Stands, AllLive, hearing_at, hearings_at, renewed, shortened, is_other, is_renewed_by, count_renewed, after_hearing, after_hearings}
+use Rattle.mdns_history.specs.Lifetimes.{live_of, is_live_at, is_other}
+use Rattle.mdns_cache.specs.Lifetimes.{Stands, AllLive, hearing_at, hearings_at, renewed, shortened, is_renewed_by, count_renewed, after_hearing, after_hearings}
 use Rattle.mdns_cache.proofs.ListLemmas.{filter-filter, length-filter-map}
 use Rattle.mdns_cache.proofs.Hearing.{filter_live, AllLive-filter_live, Holds-after_hearings}
 
@@ -46,19 +46,19 @@ length-after_hearings moment word (rr ∷ rrs) held =
     cut hs = length-filter-map (is_left rrs) (shortened hearing) (λ one. refl) hs
 
     of : (b : Bool) → nat_lt 0 rr.ttl ≡ b →
-        length (filter (is_left rrs) (cond b (map (shortened hearing) (filter (is_other hearing) held) ++ renewed hearing ∷ []) (map (shortened hearing) held))) + count_renewed rrs
+        length (filter (is_left rrs) (cond b (map (shortened hearing) (filter (is_other hearing.rr) held) ++ renewed hearing ∷ []) (map (shortened hearing) held))) + count_renewed rrs
         ≡ length (filter (is_left (rr ∷ rrs)) held) + (cond (b && not (is_renewed_by rr rrs)) 1 0 + count_renewed rrs)
     of true e =
-        let both : filter (is_left rrs) (map (shortened hearing) (filter (is_other hearing) held) ++ renewed hearing ∷ [])
-        ≡ filter (is_left rrs) (map (shortened hearing) (filter (is_other hearing) held)) ++ filter (is_left rrs) (renewed hearing ∷ []) =
-        filter-append (is_left rrs) (map (shortened hearing) (filter (is_other hearing) held)) (renewed hearing ∷ []) in
-        let others : length (filter (is_left rrs) (map (shortened hearing) (filter (is_other hearing) held))) ≡ length (filter (is_left (rr ∷ rrs)) held) =
-        cut (filter (is_other hearing) held)
-        ∙ ap length (filter-filter (is_left rrs) (is_other hearing) held)
+        let both : filter (is_left rrs) (map (shortened hearing) (filter (is_other hearing.rr) held) ++ renewed hearing ∷ [])
+        ≡ filter (is_left rrs) (map (shortened hearing) (filter (is_other hearing.rr) held)) ++ filter (is_left rrs) (renewed hearing ∷ []) =
+        filter-append (is_left rrs) (map (shortened hearing) (filter (is_other hearing.rr) held)) (renewed hearing ∷ []) in
+        let others : length (filter (is_left rrs) (map (shortened hearing) (filter (is_other hearing.rr) held))) ≡ length (filter (is_left (rr ∷ rrs)) held) =
+        cut (filter (is_other hearing.rr) held)
+        ∙ ap length (filter-filter (is_left rrs) (is_other hearing.rr) held)
         ∙ ap length (filter_agree _ _ (λ one. other_left (same one.rr rr) (is_renewed_by one.rr rrs) (nat_lt 0 rr.ttl) e) held) in
-        let sum : length (filter (is_left rrs) (map (shortened hearing) (filter (is_other hearing) held) ++ renewed hearing ∷ []))
+        let sum : length (filter (is_left rrs) (map (shortened hearing) (filter (is_other hearing.rr) held) ++ renewed hearing ∷ []))
         ≡ length (filter (is_left (rr ∷ rrs)) held) + cond (not (is_renewed_by rr rrs)) 1 0 =
-        ap length both ∙ length-append (filter (is_left rrs) (map (shortened hearing) (filter (is_other hearing) held))) (filter (is_left rrs) (renewed hearing ∷ []))
+        ap length both ∙ length-append (filter (is_left rrs) (map (shortened hearing) (filter (is_other hearing.rr) held))) (filter (is_left rrs) (renewed hearing ∷ []))
         ∙ ap (λ n. n + length (filter (is_left rrs) (renewed hearing ∷ []))) others
         ∙ ap (λ n. length (filter (is_left (rr ∷ rrs)) held) + n) (length-one (not (is_renewed_by rr rrs)) (renewed hearing)) in
         ap (λ n. n + count_renewed rrs) sum ∙ assoc (length (filter (is_left (rr ∷ rrs)) held)) (cond (not (is_renewed_by rr rrs)) 1 0) (count_renewed rrs)
@@ -88,19 +88,22 @@ length-after moment word rrs held live =
     length-after_hearings moment word rrs held
     ∙ ap (λ n. n + count_renewed rrs) (ap (λ (hs : List Held). length (filter (is_left rrs) hs)) (sym (filter_live moment held live)) ∙ ap length (filter-filter (is_left rrs) (is_live_at moment) held) ∙ length-filter (λ one. is_live_at moment one && is_left rrs one) held)
 
--- the test of what fits, where as many are left as the limit allows
-pub fits_left : (all left anew limit : ℕ) → all ≡ left + anew → left ≤ limit → (leb anew (limit - left) ≡ true) ↔ (all ≤ limit)
-fits_left all left anew limit sum within = (
-  λ h. let k : anew ≤ limit - left = leb-true anew (limit - left) h in omega arith,
-  λ h. le-leb anew (limit - left) (omega arith),
-)
+-- no more are heard anew than are heard
+count_renewed-within : (rrs : List Rr) → count_renewed rrs ≤ length rrs
+count_renewed-within [] = omega arith
+count_renewed-within (rr ∷ rrs) = of (nat_lt 0 rr.ttl && not (is_renewed_by rr rrs)) (count_renewed-within rrs)
+  where
+    of : (b : Bool) → count_renewed rrs ≤ length rrs → cond b 1 0 + count_renewed rrs ≤ length (rr ∷ rrs)
+    of true ih = omega arith
+    of false ih = omega arith
 
--- and where more are left
-pub fits_none : (all left anew limit : ℕ) → all ≡ left + anew → limit < left → (leb left limit ≡ true) ↔ (all ≤ limit)
-fits_none all left anew limit sum past = (
-  λ h. let k : left ≤ limit = leb-true left limit h in absurd (omega arith),
-  λ h. absurd (omega arith),
-)
+-- where there is room for all that is held and heard, there is room for those that are left and those that are heard anew
+pub room_for_all : (p : Held → Bool) (held : List Held) (rrs : List Rr) (limit : ℕ) → nat_le (length held + length rrs) limit ≡ true → count_by p held + count_renewed rrs ≤ limit
+room_for_all p held rrs limit within =
+    let all : length held + length rrs ≤ limit = leb-true (length held + length rrs) limit within in
+    let left : count_by p held ≤ length held = count_by-le-length p held in
+    let anew : count_renewed rrs ≤ length rrs = count_renewed-within rrs in
+    omega arith
 
 -- what doesn't fit passes the limit
 pub past_limit : (b : Bool) (all limit : ℕ) → (b ≡ true) ↔ (all ≤ limit) → b ≡ false → limit < all

@@ -10,10 +10,11 @@ use Rattle.dns_record.specs.Records.{same}
 use Rattle.dns_record.proofs.Same.{same_tells}
 use Rattle.mdns_history.specs.declared.held.Held.{Held}
 use Rattle.mdns_history.specs.Hearings.{Hearing}
-use Rattle.mdns_history.specs.Lifetimes.{live_of, is_live_at, cuts, held_from, renewals}
+use Rattle.mdns_history.specs.Lifetimes.{live_of, is_live_at, is_other, cuts, held_from, renewals}
 use Rattle.mdns_history.proofs.LifetimeSteps.{live_of-later, live_of-renewal, live_of-goodbye}
-use Rattle.mdns_cache.specs.Lifetimes.{Holds, Stands, AllLive, AllHeard, hearing_at, hearings_at, renewed, shortened, is_other, after_hearing, after_hearings}
-use Rattle.mdns_cache.proofs.ListLemmas.{IsPermutation-filter, filter_all, filter_less, each-append, each-filter, each-passes, each-map, each-weaker}
+use Rattle.mdns_cache.specs.Lifetimes.{Holds, Stands, AllLive, AllHeard, hearing_at, hearings_at, renewed, shortened, after_hearing, after_hearings}
+use Rattle.mdns_base.proofs.Permutations.{IsPermutation-filter}
+use Rattle.mdns_cache.proofs.ListLemmas.{filter_all, filter_less, each-append, each-filter, each-passes, each-map, each-weaker}
 
 same_itself : (rr : Rr) → same rr rr ≡ true
 same_itself rr = (same_tells rr rr).1 refl
@@ -52,10 +53,10 @@ AllLive-after_hearing hearing held live = of (nat_lt 0 hearing.rr.ttl) refl
     cut hs h = each-map _ _ (shortened hearing) (shortened_live hearing) hs h
 
     of : (b : Bool) → nat_lt 0 hearing.rr.ttl ≡ b →
-        AllLive hearing.moment (cond b (map (shortened hearing) (filter (is_other hearing) held) ++ renewed hearing ∷ []) (map (shortened hearing) held))
+        AllLive hearing.moment (cond b (map (shortened hearing) (filter (is_other hearing.rr) held) ++ renewed hearing ∷ []) (map (shortened hearing) held))
     of true e =
         let positive : 0 < hearing.rr.ttl = ltb-true 0 hearing.rr.ttl e in
-        each-append _ (map (shortened hearing) (filter (is_other hearing) held)) (renewed hearing ∷ []) (cut _ (each-filter _ (is_other hearing) held live)) (omega (arith, positive), tt)
+        each-append _ (map (shortened hearing) (filter (is_other hearing.rr) held)) (renewed hearing ∷ []) (cut _ (each-filter _ (is_other hearing.rr) held live)) (omega (arith, positive), tt)
     of false e = cut held live
 
 pub AllHeard-after_hearing : (hearing : Hearing) (held : List Held) → AllHeard hearing.moment held → AllHeard hearing.moment (after_hearing held hearing)
@@ -64,8 +65,8 @@ AllHeard-after_hearing hearing held heard = of (nat_lt 0 hearing.rr.ttl)
     cut : (hs : List Held) → AllHeard hearing.moment hs → AllHeard hearing.moment (map (shortened hearing) hs)
     cut hs h = each-map _ _ (shortened hearing) (λ one k. k) hs h
 
-    of : (b : Bool) → AllHeard hearing.moment (cond b (map (shortened hearing) (filter (is_other hearing) held) ++ renewed hearing ∷ []) (map (shortened hearing) held))
-    of true = each-append _ (map (shortened hearing) (filter (is_other hearing) held)) (renewed hearing ∷ []) (cut _ (each-filter _ (is_other hearing) held heard)) (omega arith, tt)
+    of : (b : Bool) → AllHeard hearing.moment (cond b (map (shortened hearing) (filter (is_other hearing.rr) held) ++ renewed hearing ∷ []) (map (shortened hearing) held))
+    of true = each-append _ (map (shortened hearing) (filter (is_other hearing.rr) held)) (renewed hearing ∷ []) (cut _ (each-filter _ (is_other hearing.rr) held heard)) (omega arith, tt)
     of false = cut held heard
 
 -- THE STEP: one more hearing, where nothing held has ended
@@ -82,9 +83,9 @@ Holds-after_hearing hearing held past live holds = of (nat_lt 0 hearing.rr.ttl) 
 
     of : (b : Bool) → nat_lt 0 hearing.rr.ttl ≡ b → Holds (after_hearing held hearing) (hearing ∷ past) hearing.moment
     of true e =
-        let others = IsPermutation-map (shortened hearing) _ _ (IsPermutation-filter (is_other hearing) _ _ holds) in
-        by_live (renewed hearing ∷ map (shortened hearing) (filter (is_other hearing) (live_of past hearing.moment)))
-        (rw e (IsPermutation-trans _ _ _ (IsPermutation-to_front (map (shortened hearing) (filter (is_other hearing) held)) (renewed hearing)) (IsPermutation-cons (renewed hearing) _ _ others)))
+        let others = IsPermutation-map (shortened hearing) _ _ (IsPermutation-filter (is_other hearing.rr) _ _ holds) in
+        by_live (renewed hearing ∷ map (shortened hearing) (filter (is_other hearing.rr) (live_of past hearing.moment)))
+        (rw e (IsPermutation-trans _ _ _ (IsPermutation-to_front (map (shortened hearing) (filter (is_other hearing.rr) held)) (renewed hearing)) (IsPermutation-cons (renewed hearing) _ _ others)))
         (live_of-renewal hearing past hearing.moment (same_itself hearing.rr) e)
     of false e =
         by_live (map (shortened hearing) (live_of past hearing.moment)) (rw e (IsPermutation-map (shortened hearing) _ _ holds)) (live_of-goodbye hearing past hearing.moment e)

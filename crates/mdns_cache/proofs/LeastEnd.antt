@@ -5,7 +5,7 @@ use Rattle.std.proofs.lemmas.List.Sorted.{length_permutation}
 use Rattle.dns_name.specs.Lists.{least_of}
 use Rattle.mdns_history.specs.declared.held.Held.{Held}
 use Rattle.mdns_cache.specs.Lifetimes.{next_end_of}
-use Rattle.mdns_cache.proofs.ListLemmas.{along_permutation}
+use Rattle.mdns_base.proofs.Permutations.{along_permutation}
 
 abbrev pub end_of : Held → ℕ
 end_of one = one.end

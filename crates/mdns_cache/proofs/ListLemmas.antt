@@ -1,58 +1,8 @@
--- Lemmas on lists that std lacks: filters in turn and under a permutation, and what holds of each element.
-use Rattle.std.proofs.Common.{◌≡◌, ℕ, zero, suc, ◌<◌, ◌&&◌, Bool, true, false, cond, List, [], ◌∷◌, ◌++◌, map, filter, length, get_or, set, swap, refl, sym, ap, ◌∙◌, arith, IsPermutation}
+-- Lemmas on lists that std lacks: filters in turn, and what holds of each element.
+use Rattle.std.proofs.Common.{◌≡◌, suc, ◌&&◌, Bool, true, false, cond, List, [], ◌∷◌, ◌++◌, map, filter, length, refl, sym, ap, ◌∙◌}
 use Rattle.std.specs.List.{AllByRecursion}
-use Rattle.std.proofs.lemmas.List.Sorted.{IsPermutation-refl, IsPermutation-keeps, IsPermutation-trans, IsPermutation-cons, IsPermutation-append_left, IsPermutation-append_comm}
-
--- A relation holds along each permutation if it is reflexive and transitive, and goes under a head and over an exchange of two heads.
-module _ {X : Type 0} (R : List X → List X → Type 0) (same : (xs : List X) → R xs xs)
-    (skip : (x : X) (xs ys : List X) → R xs ys → R (x ∷ xs) (x ∷ ys))
-    (turn : (x y : X) (xs : List X) → R (x ∷ y ∷ xs) (y ∷ x ∷ xs))
-    (chain : (xs ys zs : List X) → R xs ys → R ys zs → R xs zs) where
-  to_head : (l : List X) (j : ℕ) (x d : X) → j < length l → R (x ∷ l) (get_or l j d ∷ set l j x)
-  to_head [] j x d h = absurd (omega arith)
-  to_head (y ∷ l) zero x d h = turn x y l
-  to_head (y ∷ l) (suc j) x d h =
-      chain _ _ _ (turn x y l) (chain _ _ _ (skip y _ _ (to_head l j x d (omega arith))) (turn y (get_or l j d) (set l j x)))
-
-  exchanged : (l : List X) (i j : ℕ) (d : X) → i < length l → j < length l → R l (set (set l i (get_or l j d)) j (get_or l i d))
-  exchanged [] i j d p q = absurd (omega arith)
-  exchanged (x ∷ l) zero zero d p q = same (x ∷ l)
-  exchanged (x ∷ l) zero (suc j) d p q = to_head l j x d (omega arith)
-  exchanged (x ∷ l) (suc i) zero d p q = to_head l i x d (omega arith)
-  exchanged (x ∷ l) (suc i) (suc j) d p q = skip x _ _ (exchanged l i j d (omega arith) (omega arith))
-
-  swapped : (l : List X) (i j : ℕ) → i < length l → j < length l → R l (swap l i j)
-  swapped [] i j p q = same []
-  swapped (x ∷ l) i j p q = exchanged (x ∷ l) i j x p q
-
-  pub along_permutation : (xs ys : List X) → IsPermutation xs ys → R xs ys
-  along_permutation xs = IsPermutation-keeps xs (R xs) (same xs) (λ l i j p q h. chain xs l _ h (swapped l i j p q))
 
 module _ {X : Type 0} (p : X → Bool) where
-  skip-filter : (x : X) (xs ys : List X) → IsPermutation (filter p xs) (filter p ys) → IsPermutation (filter p (x ∷ xs)) (filter p (x ∷ ys))
-  skip-filter x xs ys h = of (p x)
-    where
-      of : (b : Bool) → IsPermutation (cond b (x ∷ filter p xs) (filter p xs)) (cond b (x ∷ filter p ys) (filter p ys))
-      of true = IsPermutation-cons x _ _ h
-      of false = h
-
-  turn-filter : (x y : X) (xs : List X) → IsPermutation (filter p (x ∷ y ∷ xs)) (filter p (y ∷ x ∷ xs))
-  turn-filter x y xs = of (p x) (p y)
-    where
-      rest : List X
-      rest = filter p xs
-
-      of : (b c : Bool) → IsPermutation (cond b (x ∷ cond c (y ∷ rest) rest) (cond c (y ∷ rest) rest)) (cond c (y ∷ cond b (x ∷ rest) rest) (cond b (x ∷ rest) rest))
-      of true true = IsPermutation-append_left rest (x ∷ y ∷ []) (y ∷ x ∷ []) (IsPermutation-append_comm (x ∷ []) (y ∷ []))
-      of true false = IsPermutation-refl _
-      of false true = IsPermutation-refl _
-      of false false = IsPermutation-refl _
-
-  -- what passes of a permutation is one
-  pub IsPermutation-filter : (xs ys : List X) → IsPermutation xs ys → IsPermutation (filter p xs) (filter p ys)
-  IsPermutation-filter = along_permutation (λ xs ys. IsPermutation (filter p xs) (filter p ys))
-      (λ xs. IsPermutation-refl _) skip-filter turn-filter (λ xs ys zs. IsPermutation-trans _ _ _)
-
   -- where all pass, the filter is the list
   pub filter_all : (xs : List X) → AllByRecursion (λ x. p x ≡ true) xs → filter p xs ≡ xs
   filter_all [] h = refl

@@ -10,7 +10,7 @@ use Rattle.dns_record.specs.declared.record.Rr.{Rr}
 use Rattle.dns_record.specs.Records.{same, record_cmp}
 use Rattle.mdns_history.specs.declared.held.Held.{Held}
 use Rattle.mdns_history.specs.Hearings.{Hearing}
-use Rattle.mdns_history.specs.Lifetimes.{cuts, full_end, is_live_at, live_of}
+use Rattle.mdns_history.specs.Lifetimes.{cuts, full_end, is_live_at, is_other, live_of}
 
 -- a record that is heard at a moment, with a word
 abbrev pub hearing_at : ℕ → ℕ → Rr → Hearing
@@ -71,14 +71,10 @@ abbrev pub shortened : Hearing → Held → Held
 shortened hearing one =
     record { rr = one.rr; heard = one.heard; word = one.word; end = if cuts one.rr one.heard hearing then min (hearing.moment + 1000) one.end else one.end }
 
--- a held record is another than the one that is heard
-abbrev pub is_other : Hearing → Held → Bool
-is_other hearing one = not (same one.rr hearing.rr)
-
 -- what is held after one more hearing
 abbrev pub after_hearing : List Held → Hearing → List Held
 after_hearing held hearing =
-    if nat_lt 0 hearing.rr.ttl then map (shortened hearing) (filter (is_other hearing) held) ++ renewed hearing ∷ []
+    if nat_lt 0 hearing.rr.ttl then map (shortened hearing) (filter (is_other hearing.rr) held) ++ renewed hearing ∷ []
     else map (shortened hearing) held
 
 -- what is held after several, the first heard first

@@ -6,7 +6,7 @@ ghost use Rattle.mdns_history.specs.Hearings.{Hearing};
 ghost use Rattle.mdns_history.specs.Lifetimes.{live_of};
 ghost use Rattle.mdns_cache.specs.Lifetimes.{hearing_at, hearings_at, after_hearings, Holds, Stands, AllLive, AllHeard, IsFirstEnded, held_of, next_end_of};
 
-use crate::count::{count_left, count_renewed};
+use crate::count::is_room;
 use crate::hear::hear_all;
 use crate::look::{first_ended, held_at, least_end};
 use crate::{HearError, Steps};
@@ -17,6 +17,9 @@ use mdns_history::Held;
 use std::alloc::{AllocError, Global};
 use std::marker::Model;
 use std::sync::ledger::Ledger;
+
+/// How many records more than are held a copy has room for: mostly all of the packet that comes next.
+const MORE: usize = 32;
 
 /// The records that were heard and are live, with room for a limited number. A moment is in ms. (RFC 6762 10)
 #[derive(Drop)]
@@ -35,10 +38,11 @@ impl Model for Cache {
 }
 
 impl Cache {
-    /// A cache that holds nothing, in which at most `limit` records may be live. Refused only for want of memory.
+    /// A cache that holds nothing, in which at most `limit` records may be live. It takes no memory, and is never refused.
     pub fn new(alloc: Global, limit: usize) -> Result<Cache, AllocError>
         ensures held { IfOk result (λ cache. cache.held ≡ []) }
         ensures limit { IfOk result (λ cache. cache.limit ≡ limit) }
+        ensures made { IsOk result }
         ensures stands { IfOk result (λ cache. (moment : ℕ) → Holds cache.held [] moment) }
     {
         Ok(Cache {
@@ -51,6 +55,9 @@ impl Cache {
     pub fn copy(&self, alloc: Global) -> Result<Cache, AllocError>
         ensures held { IfOk result (λ copy. copy.held ≡ self.now.held) }
         ensures limit { IfOk result (λ copy. copy.limit ≡ self.now.limit) }
+        // Where the records held were exactly the live ones, the copy stands for their hearings at each later moment.
+        ensures stands { IfOk result (λ copy. (heard : List Hearing) (before moment : ℕ) → before ≤ moment → Holds self.now.held heard before
+            → Stands copy.held heard moment) }
     {
         Ok(Cache {
             limit: self.limit,
@@ -99,8 +106,7 @@ impl Cache {
         ensures held { (word : ℕ) → AllLive now self.now.held
             → IsTrue result ↔ (length (after_hearings self.now.held (map (hearing_at now word) heard.now)) ≤ self.now.limit) }
     {
-        let left = count_left(&self.held, now, heard);
-        left <= self.limit && count_renewed(heard) <= self.limit - left
+        is_room(&self.held, self.limit, now, heard)
     }
 
     /// Hears the records of a packet, in their order, at `now` with the packet's random word. `Full` where more records
@@ -146,6 +152,8 @@ impl Cache {
 
         ensures first { IfSome result (IsFirstEnded now self.old.held) }
         ensures taken { IfSome result (λ one. IsPermutation self.old.held (one ∷ self.new.held)) }
+        // What was heard by a moment still was.
+        ensures heard { (moment : ℕ) → AllHeard moment self.old.held → AllHeard moment self.new.held }
         ensures limit { self.new.limit ≡ self.old.limit }
         ensures room { self.old.spare ≤ self.new.spare }
     {
@@ -175,7 +183,7 @@ impl Cache {
 fn copied(alloc: Global, held: &[Held]) -> Result<Vec<Held>, AllocError>
     ensures { IfOk result (λ copy. copy.items ≡ held.now) }
 {
-    let mut copy = Vec::new(alloc);
+    let mut copy = Vec::with_capacity(alloc, held.len().saturating_add(MORE))?;
     for one in held {
         copy.push(one.copy(alloc)?)?;
     }

@@ -1,10 +1,10 @@
 // What hearings do to the records that are held.
-ghost use Rattle.std.specs.Prelude.{◌≡◌, ◌+◌, ◌<◌, ◌≤◌, ◌^◌, vec_len, vec_capacity, map, filter, reverse};
+ghost use Rattle.std.specs.Prelude.{◌≡◌, ◌+◌, ◌<◌, ◌≤◌, ◌^◌, vec_len, vec_capacity, map, reverse};
 ghost use Rattle.mdns_history.specs.Lifetimes.{cuts};
-ghost use Rattle.mdns_cache.specs.Lifetimes.{hearing_at, is_other, shortened, after_hearing, after_hearings};
+ghost use Rattle.mdns_cache.specs.Lifetimes.{hearing_at, shortened, after_hearing, after_hearings};
 
 use dns_record::Rr;
-use mdns_history::Held;
+use mdns_history::{Held, drop_same};
 
 /// Hears records one after another, where there is room for as many.
 pub fn hear_all(held: &mut Vec<Held>, now: u64, word: u32, mut records: Vec<Rr>)
@@ -43,16 +43,8 @@ fn hear_one(held: &mut Vec<Held>, now: u64, word: u32, rr: Rr)
     });
 }
 
-// Drops what the record is the same as. (A hearing's word doesn't count here and below, so the clauses write 0.)
-fn drop_same(held: &mut Vec<Held>, rr: &Rr)
-    ensures items { held.new.items ≡ filter (is_other (hearing_at 0 0 rr.now)) held.old.items }
-    ensures len { vec_len held.new ≤ vec_len held.old }
-    ensures capacity { vec_capacity held.new ≡ vec_capacity held.old }
-{
-    held.retain(|one| !one.rr.same(rr));
-}
-
-// Cuts the lives of records to a second where a hearing does so.
+// Cuts the lives of records to a second where a hearing does so. (A hearing's word doesn't count here and below, so the
+// clauses write 0.)
 fn shorten(held: &mut [Held], now: u64, rr: &Rr)
     requires { now ≤ 2 ^ 53 }
     ensures { held.new ≡ map (shortened (hearing_at now 0 rr.now)) held.old }

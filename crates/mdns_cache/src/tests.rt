@@ -2,8 +2,8 @@ ghost use Rattle.std.specs.Prelude.{◌≡◌, ◌<◌};
 
 use super::*;
 use dns_message::Rrs;
-use dns_name::Name;
-use dns_record::{RecordError, Rr};
+use dns_name::{Label, Name, NameError};
+use dns_record::{Rdata, RecordError, Rr};
 use mdns_history::Held;
 use std::alloc::{AllocError, Global};
 use std::marker::Brand;
@@ -275,5 +275,126 @@ fn expect_filled<L: Ledger>(
 
 #[test]
 fn a_full_cache_refuses(rt: HostRuntime) -> Result<(), Fail> {
+    assert_eq!(rt;
+        [HearError::Full as u8, HearError::NoMemory as u8].as_slice(),
+        [1, 2].as_slice()
+    );
     fill::<Brand>(&rt, rt.alloc(), Blank::new(1))
+}
+
+// How many records may be live in the largest cache, and how many packets of how many records fill it.
+const WHOLE: usize = 32_768;
+
+const PACKETS: u8 = 64;
+
+const PACKET: u32 = 512;
+
+// What labels are cut from.
+const LETTERS: &[u8] =
+    b"abcdefghijklmnopqrstuvwxyz012345abcdefghijklmnopqrstuvwxyz012345abcdefghijklmnopqrstuvwxyz0123";
+
+// The record of a number, with an address of its own. Names of 63 lengths and 32 first letters are soon told apart.
+fn numbered(number: u32, ttl: u32) -> Result<Rr, Fail> {
+    let size = number as usize % 63;
+    let first = number as usize / 63 % 32;
+    let letters = LETTERS.get(first..first + size + 1).ok_or("letters")?;
+    let label = Label::new(letters).ok_or("label")?;
+    let owner = Name::root().child(&label).map_err(|_| "name")?;
+    Ok(Rr {
+        owner,
+        flush: false,
+        ttl,
+        rdata: Rdata::A(number),
+    })
+}
+
+fn alone(alloc: Global, rr: Rr) -> Result<Rrs, Fail> {
+    let mut rrs = Rrs::new(alloc);
+    rrs.push(rr)?;
+    Ok(rrs)
+}
+
+// The records of a packet. The first of the first packet lives for a second, and each other one for two minutes.
+fn packet(alloc: Global, place: u8) -> Result<Rrs, Fail> {
+    let mut rrs = Rrs::new(alloc);
+    for within in 0..PACKET {
+        let number = u32::from(place) * PACKET + within;
+        let ttl = if number == 0 { 1 } else { 120 };
+        rrs.push(numbered(number, ttl)?)?;
+    }
+    Ok(rrs)
+}
+
+// Whether the cache is too full for records, at a moment at which nothing that it holds has ended.
+fn is_refused<L: Ledger>(
+    cache: &mut Cache,
+    steps: &mut Steps<L>,
+    now: u32,
+    heard: Rrs,
+) -> Result<bool, Fail> {
+    if cache.expire(u64::from(now), steps).is_some() {
+        Err("a record has ended")?;
+    }
+    match cache.hear(u64::from(now), now, heard) {
+        Ok(()) => Ok(false),
+        Err(HearError::Full) => Ok(true),
+        Err(HearError::NoMemory) => Err("no memory")?,
+    }
+}
+
+fn fill_whole<L: Ledger>(rt: &impl Abort, alloc: Global, blank: Blank) -> Result<(), Fail>
+    requires name { blank.name ≡ L.name }
+    requires parts { blank.parts ≡ L.parts }
+    requires some { 0 < L.parts }
+{
+    let mut steps: Steps<L> = Steps::new(blank);
+    let mut cache = Cache::new(alloc, WHOLE)?;
+    for place in 0..PACKETS {
+        let heard = packet(alloc, place)?;
+        assert!(rt;
+            !is_refused(&mut cache, &mut steps, 1000, heard)?,
+            "{place}"
+        );
+    }
+    assert_eq!(rt; cache.len(), WHOLE);
+    pass_whole(rt, alloc, &mut cache, &mut steps)
+}
+
+// One record more is refused, and one that is held already is not; when one has ended, the one more is heard.
+fn pass_whole<L: Ledger>(
+    rt: &impl Abort,
+    alloc: Global,
+    cache: &mut Cache,
+    steps: &mut Steps<L>,
+) -> Result<(), Fail> {
+    let before = cache.copy(alloc)?;
+    let more = alone(alloc, numbered(32_768, 120)?)?;
+    assert!(rt; is_refused(cache, steps, 1500, more)?);
+    expect_same(rt, cache.held(), before.held());
+    let known = alone(alloc, numbered(32_767, 120)?)?;
+    assert!(rt; !is_refused(cache, steps, 1500, known)?);
+    assert_eq!(rt; cache.len(), WHOLE);
+    assert_eq!(rt; cache.expire(2000, steps).map(|one| one.end), Some(2000));
+    let more = alone(alloc, numbered(32_768, 120)?)?;
+    assert!(rt; !is_refused(cache, steps, 2000, more)?);
+    assert_eq!(rt; cache.len(), WHOLE);
+    assert_eq!(rt; cache.next_end(), Some(121_000));
+    Ok(())
+}
+
+fn expect_same(rt: &impl Abort, ours: &[Held], theirs: &[Held]) {
+    assert_eq!(rt; ours.len(), theirs.len());
+    for (one, other) in ours.iter().zip(theirs) {
+        assert!(rt; one.rr.same(&other.rr));
+        assert_eq!(rt; (one.rr.ttl, one.rr.flush), (other.rr.ttl, other.rr.flush));
+        assert_eq!(rt;
+            (one.heard, one.word, one.end),
+            (other.heard, other.word, other.end)
+        );
+    }
+}
+
+#[test]
+fn a_whole_cache_refuses_one_more(rt: HostRuntime) -> Result<(), Fail> {
+    fill_whole::<Brand>(&rt, rt.alloc(), Blank::new(1))
 }

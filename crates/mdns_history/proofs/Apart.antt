@@ -1,13 +1,14 @@
 -- The operations of a session have different numbers.
 use Rattle.std.proofs.Common.{◌≡◌, ℕ, ℤ, ◌==◌, Bool, true, false, cond, not, ◌||◌, List, [], ◌∷◌, map, Some, None, refl, ap, ◌∙◌, arith}
+use Rattle.std.proofs.lemmas.Bool.{or_from, or_parts}
 use Rattle.std.specs.Prelude.{filter}
 use Rattle.std.specs.List.{list_any, find}
 use Rattle.std.specs.Ordering.{int_eq, is_lt}
 use Rattle.dns_name.specs.Lists.{insert_by}
+use Rattle.dns_name.proofs.InOrder.{any-insert, none-filter}
 use Rattle.sd_call.specs.declared.request.Request.{Request}
 use Rattle.sd_call.specs.declared.request.Request.TheVariants as request
 use Rattle.sd_call.specs.Requests.{no_error, is_start}
-use Rattle.sd_call.proofs.AnswerLists.{or_first, or_second}
 use Rattle.sd_call.proofs.ReplayRuns.{is_at, is_at_symm, AreApart}
 use Rattle.mdns_history.specs.declared.event.Event.{Event}
 use Rattle.mdns_history.specs.declared.event.Event.TheVariants as event
@@ -15,10 +16,6 @@ use Rattle.mdns_history.specs.declared.entry.Outcome.{Outcome}
 use Rattle.mdns_history.specs.declared.entry.Outcome.TheVariants as outcome
 use Rattle.mdns_history.specs.Sessions.{Operation, has_op, by_op, updated, accepted_call, after_request, after_call}
 use Rattle.mdns_history.proofs.ReplySteps.{number, at_eq}
-
-no_or : (a b : Bool) → a ≡ false → b ≡ false → (a || b) ≡ false
-no_or true b p q = p
-no_or false b p q = q
 
 -- a number that isn't in use is that of none
 none_at : (op : ℕ) (os : List Operation) → find (has_op op) os ≡ None → list_any (λ p. is_at p.op op) os ≡ false
@@ -28,43 +25,22 @@ none_at op (p ∷ os) e = of (p.op == op) refl e (none_at op os)
     of : (b : Bool) → (p.op == op) ≡ b → cond b (Some p) (find (has_op op) os) ≡ None → (find (has_op op) os ≡ None → list_any (λ r. is_at r.op op) os ≡ false) →
         (is_at p.op op || list_any (λ r. is_at r.op op) os) ≡ false
     of true f h rest = cc
-    of false f h rest = no_or (is_at p.op op) (list_any (λ r. is_at r.op op) os) (is_at_symm p.op op ∙ at_eq op p.op ∙ f) (rest h)
-
-any-insert : (t : Operation → Bool) (o : Operation) (os : List Operation) → list_any t (insert_by by_op o os) ≡ (t o || list_any t os)
-any-insert t o [] = refl
-any-insert t o (p ∷ os) = placed (is_lt (by_op p o)) (any-insert t o os)
-  where
-    swap : (x y z : Bool) → (y || (x || z)) ≡ (x || (y || z))
-    swap true true z = refl
-    swap true false z = refl
-    swap false y z = refl
-
-    placed : (c : Bool) → list_any t (insert_by by_op o os) ≡ (t o || list_any t os) → list_any t (cond c (p ∷ insert_by by_op o os) (o ∷ p ∷ os)) ≡ (t o || (t p || list_any t os))
-    placed true rest = ap (λ c. t p || c) rest ∙ swap (t o) (t p) (list_any t os)
-    placed false rest = refl
+    of false f h rest = or_from (is_at p.op op) (list_any (λ r. is_at r.op op) os) (is_at_symm p.op op ∙ at_eq op p.op ∙ f) (rest h)
 
 AreApart-insert : (o : Operation) (os : List Operation) → list_any (λ p. is_at p.op o.op) os ≡ false → AreApart number os → AreApart number (insert_by by_op o os)
 AreApart-insert o [] none apart = (refl, tt)
-AreApart-insert o (p ∷ os) none apart = placed (is_lt (by_op p o)) (AreApart-insert o os (or_second (is_at p.op o.op) (list_any (λ r. is_at r.op o.op) os) none) apart.1)
+AreApart-insert o (p ∷ os) none apart = placed (is_lt (by_op p o)) (AreApart-insert o os (or_parts (is_at p.op o.op) (list_any (λ r. is_at r.op o.op) os) none).1 apart.1)
   where
     other : is_at o.op p.op ≡ false
-    other = is_at_symm o.op p.op ∙ or_first (is_at p.op o.op) (list_any (λ r. is_at r.op o.op) os) none
+    other = is_at_symm o.op p.op ∙ (or_parts (is_at p.op o.op) (list_any (λ r. is_at r.op o.op) os) none).0
 
     placed : (c : Bool) → AreApart number (insert_by by_op o os) → AreApart number (cond c (p ∷ insert_by by_op o os) (o ∷ p ∷ os))
-    placed true rest = (any-insert (λ r. is_at r.op p.op) o os ∙ no_or (is_at o.op p.op) (list_any (λ r. is_at r.op p.op) os) other apart.0, rest)
+    placed true rest = (any-insert by_op (λ r. is_at r.op p.op) o os ∙ or_from (is_at o.op p.op) (list_any (λ r. is_at r.op p.op) os) other apart.0, rest)
     placed false rest = (none, apart)
-
-any-filter : (t q : Operation → Bool) (os : List Operation) → list_any t os ≡ false → list_any t (filter q os) ≡ false
-any-filter t q [] none = refl
-any-filter t q (o ∷ os) none = kept (q o) (or_first (t o) (list_any t os) none) (any-filter t q os (or_second (t o) (list_any t os) none))
-  where
-    kept : (b : Bool) → t o ≡ false → list_any t (filter q os) ≡ false → list_any t (cond b (o ∷ filter q os) (filter q os)) ≡ false
-    kept true h rest = no_or (t o) (list_any t (filter q os)) h rest
-    kept false h rest = rest
 
 AreApart-filter : (q : Operation → Bool) (os : List Operation) → AreApart number os → AreApart number (filter q os)
 AreApart-filter q [] apart = tt
-AreApart-filter q (o ∷ os) apart = kept (q o) (any-filter (λ p. is_at p.op o.op) q os apart.0) (AreApart-filter q os apart.1)
+AreApart-filter q (o ∷ os) apart = kept (q o) (none-filter (λ p. is_at p.op o.op) q os apart.0) (AreApart-filter q os apart.1)
   where
     kept : (b : Bool) → list_any (λ p. is_at p.op o.op) (filter q os) ≡ false → AreApart number (filter q os) → AreApart number (cond b (o ∷ filter q os) (filter q os))
     kept true none rest = (none, rest)

@@ -4,7 +4,7 @@ use Rattle.std.specs.Prelude.{decimal}
 use Rattle.std.specs.Char.{is_ascii_digit}
 use Rattle.std.specs.Fmt.{signed_decimal}
 use Rattle.std.specs.Str.{bytes_eq}
-use Rattle.std.proofs.lemmas.Bool.{eqb-true}
+use Rattle.std.proofs.lemmas.Bool.{eqb-true, and_parts}
 use Rattle.std.proofs.lemmas.Slice.Eq.{bytes_eq-Decides}
 use Rattle.mdns_base.specs.Digits.{hex_text, decimal_below}
 use Rattle.mdns_base.proofs.Decimals.{decimal_below_written}
@@ -25,7 +25,7 @@ use Rattle.sd_call.specs.declared.item.Item.{Item}
 use Rattle.sd_call.specs.declared.item.Item.TheVariants.{Reply, Add, Remove}
 use Rattle.sd_call.specs.CallText.{label_token, type_token, families_text, norename_text, request_text, answer_text, verb_text, item_text}
 use Rattle.mdns_history.specs.Typed.{is_signed, is_text, is_typed_request, is_typed_answer, is_typed_item}
-use Rattle.mdns_history.proofs.Texts.{are_seen, in_line, both, line_joined, seen_line, apart, lead}
+use Rattle.mdns_history.proofs.Texts.{are_seen, in_line, line_joined, seen_line, apart, lead}
 use Rattle.mdns_history.proofs.TokenTexts.{below, decimal_seen, decimal_told, decimal_no_word, signed_seen, signed_told, hex_seen, hex_told, label_token_seen, label_token_told, type_token_seen, type_token_told, name_seen, name_told}
 use Rattle.mdns_history.proofs.RecordTexts.{kind_seen, kind_told, data_told, data_line, kind_small, srv_line, number_line, four}
 
@@ -92,11 +92,11 @@ norename_told true false e = let no : true ≡ false = ap (λ (t : List ℕ). eq
 norename_told false true e = let no : false ≡ true = ap (λ (t : List ℕ). eqb (lead t) 7957704846556097893) e in cc
 
 text_bytes : (t : List ℕ) → is_text t ≡ true → are_bytes t ≡ true
-text_bytes t h = (both (are_bytes t) _ h).0
+text_bytes t h = (and_parts (are_bytes t) _ h).0
 
 pub request_line : (r : Request) → is_typed_request r ≡ true → in_line (request_text r) ≡ true
 request_line (request.Query kind name) h =
-    let p = both (is_below 16 kind) (is_spellable_name name) h in
+    let p = and_parts (is_below 16 kind) (is_spellable_name name) h in
     line_joined ((codes "query " ++ kind_text kind) ++ space) (name_text name)
     (line_joined (codes "query " ++ kind_text kind) space (line_joined (codes "query ") (kind_text kind) refl (seen_line (kind_text kind) (kind_seen kind (below 16 kind p.0)))) refl)
     (seen_line (name_text name) (name_seen name))
@@ -106,7 +106,7 @@ request_line (request.Resolve label regtype) h =
     (line_joined (codes "resolve " ++ label_token label) space (line_joined (codes "resolve ") (label_token label) refl (seen_line (label_token label) (label_token_seen label))) refl)
     (seen_line (type_token regtype) (type_token_seen regtype))
 request_line (request.Address families name) h =
-    let p = both (is_below 8 families) (is_spellable_name name) h in
+    let p = and_parts (is_below 8 families) (is_spellable_name name) h in
     line_joined ((codes "address " ++ families_text families) ++ space) (name_text name)
     (line_joined (codes "address " ++ families_text families) space (line_joined (codes "address ") (families_text families) refl (seen_line (families_text families) (families_seen families p.0))) refl)
     (seen_line (name_text name) (name_seen name))
@@ -156,8 +156,8 @@ register_tokens a r p n x = simp append_assoc
 
 pub request_told : (r s : Request) → is_typed_request r ≡ true → is_typed_request s ≡ true → request_text r ≡ request_text s → r ≡ s
 request_told (request.Query k n) (request.Query l m) h j e =
-    let p = both (is_below 16 k) (is_spellable_name n) h in
-    let q = both (is_below 16 l) (is_spellable_name m) j in
+    let p = and_parts (is_below 16 k) (is_spellable_name n) h in
+    let q = and_parts (is_below 16 l) (is_spellable_name m) j in
     let f : kind_text k ++ 32 ∷ name_text n ≡ kind_text l ++ 32 ∷ name_text m = sym (regroup (kind_text k) space (name_text n)) ∙ ap (drop 6) e ∙ regroup (kind_text l) space (name_text m) in
     let w = words (kind_text k) (kind_text l) (name_text n) (name_text m) (kind_seen k (below 16 k p.0)) (kind_seen l (below 16 l q.0)) f in
     let ek : k ≡ l = kind_told k l (below 16 k p.0) (below 16 l q.0) w.0 in
@@ -165,16 +165,16 @@ request_told (request.Query k n) (request.Query l m) h j e =
     λ i. request.Query (ek i) (en i)
 request_told (request.Browse r) (request.Browse s) h j e = ap (λ (t : List ℕ). request.Browse t) (type_token_told r s (text_bytes r h) (text_bytes s j) (ap (drop 7) e))
 request_told (request.Resolve l r) (request.Resolve m s) h j e =
-    let p = both (is_text l) (is_text r) h in
-    let q = both (is_text m) (is_text s) j in
+    let p = and_parts (is_text l) (is_text r) h in
+    let q = and_parts (is_text m) (is_text s) j in
     let f : label_token l ++ 32 ∷ type_token r ≡ label_token m ++ 32 ∷ type_token s = sym (regroup (label_token l) space (type_token r)) ∙ ap (drop 8) e ∙ regroup (label_token m) space (type_token s) in
     let w = words (label_token l) (label_token m) (type_token r) (type_token s) (label_token_seen l) (label_token_seen m) f in
     let el : l ≡ m = label_token_told l m (text_bytes l p.0) (text_bytes m q.0) w.0 in
     let er : r ≡ s = type_token_told r s (text_bytes r p.1) (text_bytes s q.1) w.1 in
     λ i. request.Resolve (el i) (er i)
 request_told (request.Address k n) (request.Address l m) h j e =
-    let p = both (is_below 8 k) (is_spellable_name n) h in
-    let q = both (is_below 8 l) (is_spellable_name m) j in
+    let p = and_parts (is_below 8 k) (is_spellable_name n) h in
+    let q = and_parts (is_below 8 l) (is_spellable_name m) j in
     let f : families_text k ++ 32 ∷ name_text n ≡ families_text l ++ 32 ∷ name_text m = sym (regroup (families_text k) space (name_text n)) ∙ ap (drop 8) e ∙ regroup (families_text l) space (name_text m) in
     let w = words (families_text k) (families_text l) (name_text n) (name_text m) (families_seen k p.0) (families_seen l q.0) f in
     let ek : k ≡ l = families_told k l p.0 q.0 w.0 in
@@ -303,7 +303,7 @@ verb_told v w e = absurd (omega (arith, ap lead e))
 
 pub item_line : (i : Item) → is_typed_item i ≡ true → in_line (item_text i) ≡ true
 item_line (Reply op verb code) h =
-    let p = both (is_below 32 op) (is_signed code) h in
+    let p = and_parts (is_below 32 op) (is_signed code) h in
     line_joined ((((codes "reply " ++ decimal op) ++ space) ++ verb_text verb) ++ space) (signed_decimal code)
     (line_joined (((codes "reply " ++ decimal op) ++ space) ++ verb_text verb) space
     (line_joined ((codes "reply " ++ decimal op) ++ space) (verb_text verb)
@@ -311,11 +311,11 @@ item_line (Reply op verb code) h =
     (seen_line (verb_text verb) (verb_seen verb))) refl)
     (seen_line (signed_decimal code) (signed_seen code p.1))
 item_line (Add op answer) h =
-    let p = both (is_below 32 op) (is_typed_answer answer) h in
+    let p = and_parts (is_below 32 op) (is_typed_answer answer) h in
     line_joined ((codes "add " ++ decimal op) ++ space) (answer_text answer)
     (line_joined (codes "add " ++ decimal op) space (line_joined (codes "add ") (decimal op) refl (number_line 32 op p.0 (omega arith))) refl) (answer_line answer p.1)
 item_line (Remove op answer) h =
-    let p = both (is_below 32 op) (is_typed_answer answer) h in
+    let p = and_parts (is_below 32 op) (is_typed_answer answer) h in
     line_joined ((codes "rem " ++ decimal op) ++ space) (answer_text answer)
     (line_joined (codes "rem " ++ decimal op) space (line_joined (codes "rem ") (decimal op) refl (number_line 32 op p.0 (omega arith))) refl) (answer_line answer p.1)
 
@@ -332,8 +332,8 @@ reply_tokens op v code = simp append_assoc
 
 pub item_told : (i j : Item) → is_typed_item i ≡ true → is_typed_item j ≡ true → item_text i ≡ item_text j → i ≡ j
 item_told (Reply op v c) (Reply other w d) h k e =
-    let p = both (is_below 32 op) (is_signed c) h in
-    let q = both (is_below 32 other) (is_signed d) k in
+    let p = and_parts (is_below 32 op) (is_signed c) h in
+    let q = and_parts (is_below 32 other) (is_signed d) k in
     let f = sym (reply_tokens op v c) ∙ ap (drop 6) e ∙ reply_tokens other w d in
     let first = words (decimal op) (decimal other) _ _ (number_seen 32 op p.0 (omega arith)) (number_seen 32 other q.0 (omega arith)) f in
     let second = words (verb_text v) (verb_text w) _ _ (verb_seen v) (verb_seen w) first.1 in
@@ -342,13 +342,13 @@ item_told (Reply op v c) (Reply other w d) h k e =
     let ec : c ≡ d = signed_told c d p.1 q.1 second.1 in
     λ i. Reply (eo i) (ev i) (ec i)
 item_told (Add op a) (Add other b) h k e =
-    let p = both (is_below 32 op) (is_typed_answer a) h in
-    let q = both (is_below 32 other) (is_typed_answer b) k in
+    let p = and_parts (is_below 32 op) (is_typed_answer a) h in
+    let q = and_parts (is_below 32 other) (is_typed_answer b) k in
     let c = change_told op other a b p.0 q.0 p.1 q.1 (ap (drop 4) e) in
     λ i. Add (c.0 i) (c.1 i)
 item_told (Remove op a) (Remove other b) h k e =
-    let p = both (is_below 32 op) (is_typed_answer a) h in
-    let q = both (is_below 32 other) (is_typed_answer b) k in
+    let p = and_parts (is_below 32 op) (is_typed_answer a) h in
+    let q = and_parts (is_below 32 other) (is_typed_answer b) k in
     let c = change_told op other a b p.0 q.0 p.1 q.1 (ap (drop 4) e) in
     λ i. Remove (c.0 i) (c.1 i)
 item_told i j h k e = absurd (omega (arith, ap lead e))

@@ -3,7 +3,7 @@ use Rattle.std.proofs.Common.{◌≡◌, ℕ, ℤ, Bool, true, false, not, ◌&&
 use Rattle.std.specs.Prelude.{decimal}
 use Rattle.std.specs.Fmt.{signed_decimal}
 use Rattle.std.specs.List.{list_all, flat_map}
-use Rattle.std.proofs.lemmas.Bool.{eqb-true}
+use Rattle.std.proofs.lemmas.Bool.{eqb-true, and_from, and_parts}
 use Rattle.dns_record.specs.RecordText.{space}
 use Rattle.dns_message.specs.Writing.{is_below}
 use Rattle.sd_call.specs.declared.item.Item.{Item}
@@ -16,7 +16,7 @@ use Rattle.mdns_history.specs.declared.entry.Outcome.TheVariants as outcome
 use Rattle.mdns_history.specs.declared.entry.Entry.{Entry}
 use Rattle.mdns_history.specs.EntryText.{line, event_text, mark_text, mark_line, sent_lines, given_line, item_lines, outcome_line, outcome_lines, entry_text}
 use Rattle.mdns_history.specs.Typed.{is_typed_event, is_typed_item, is_typed_mark, is_typed_sent, is_typed_given, is_typed_outcome, is_typed_entry, has_written_header, is_printable, is_printed, Printed, printed_text, IsOneToOne}
-use Rattle.mdns_history.proofs.Texts.{in_line, both, and_true, line_joined, seen_line, line_apart, lead, first, sign, runs_apart, run_skips}
+use Rattle.mdns_history.proofs.Texts.{in_line, line_joined, seen_line, line_apart, lead, first, sign, runs_apart, run_skips}
 use Rattle.mdns_history.proofs.TokenTexts.{signed_seen, signed_told}
 use Rattle.mdns_history.proofs.RecordTexts.{number_line}
 use Rattle.mdns_history.proofs.CallTexts.{number_seen, number_told, words, item_line, item_told}
@@ -44,14 +44,14 @@ given_content g = codes " < " ++ decimal g.session ++ space ++ item_text g.item
 
 given_in_line : (g : Given) → is_typed_given g ≡ true → in_line (given_content g) ≡ true
 given_in_line g h =
-    let p = both (is_below 64 g.session) (is_typed_item g.item) h in
+    let p = and_parts (is_below 64 g.session) (is_typed_item g.item) h in
     line_joined ((codes " < " ++ decimal g.session) ++ space) (item_text g.item)
     (line_joined (codes " < " ++ decimal g.session) space (line_joined (codes " < ") (decimal g.session) refl (number_line 64 g.session p.0 (omega arith))) refl) (item_line g.item p.1)
 
 given_apart : (a b : Given) (x y : List ℕ) → is_typed_given a ≡ true → is_typed_given b ≡ true → false ≡ false → false ≡ false → given_line a ++ x ≡ given_line b ++ y → (a ≡ b) × (x ≡ y)
 given_apart a b x y h k u v e =
-    let p = both (is_below 64 a.session) (is_typed_item a.item) h in
-    let q = both (is_below 64 b.session) (is_typed_item b.item) k in
+    let p = and_parts (is_below 64 a.session) (is_typed_item a.item) h in
+    let q = and_parts (is_below 64 b.session) (is_typed_item b.item) k in
     let l = line_apart (given_content a) (given_content b) x y (given_in_line a h) (given_in_line b k) e in
     let w = words (decimal a.session) (decimal b.session) (item_text a.item) (item_text b.item) (number_seen 64 a.session p.0 (omega arith)) (number_seen 64 b.session q.0 (omega arith))
     (sym (regroup (decimal a.session) space (item_text a.item)) ∙ ap (drop 3) l.0 ∙ regroup (decimal b.session) space (item_text b.item)) in
@@ -105,7 +105,7 @@ outcome_in_line outcome.Ended h = refl
 outcome_in_line outcome.Closed h = refl
 outcome_in_line outcome.Cut h = refl
 outcome_in_line (outcome.Code code) h = line_joined (codes "code ") (signed_decimal code) refl (seen_line (signed_decimal code) (signed_seen code h))
-outcome_in_line (outcome.Items items) h = line_joined (codes "items ") (decimal (length items)) refl (number_line 64 (length items) (both (list_all is_typed_item items) (is_below 64 (length items)) h).1 (omega arith))
+outcome_in_line (outcome.Items items) h = line_joined (codes "items ") (decimal (length items)) refl (number_line 64 (length items) (and_parts (list_all is_typed_item items) (is_below 64 (length items)) h).1 (omega arith))
 outcome_in_line outcome.Empty h = refl
 
 outcome_pair : (a b : Outcome) (x y : List ℕ) → is_done a ≡ false → is_done b ≡ false → is_typed_outcome a ≡ true → is_typed_outcome b ≡ true → outcome_lines a ++ x ≡ outcome_lines b ++ y →
@@ -128,8 +128,8 @@ outcome_apart (outcome.Code c) (outcome.Code d) x y h k f g e =
     let p = outcome_pair (outcome.Code c) (outcome.Code d) x y refl refl h k e in (ap (λ (z : ℤ). outcome.Code z) (signed_told c d h k (ap (drop 5) p.0)), p.1)
 outcome_apart (outcome.Items us) (outcome.Items vs) x y h k f g e =
     let p = outcome_pair (outcome.Items us) (outcome.Items vs) x y refl refl h k e in
-    let hs = both (list_all is_typed_item us) (is_below 64 (length us)) h in
-    let ks = both (list_all is_typed_item vs) (is_below 64 (length vs)) k in
+    let hs = and_parts (list_all is_typed_item us) (is_below 64 (length us)) h in
+    let ks = and_parts (list_all is_typed_item vs) (is_below 64 (length vs)) k in
     let run = runs_apart (λ item. line (codes "  " ++ item_text item)) is_typed_item is_indented nothing (λ item z. refl) (λ item z. refl) taken_apart us vs x y hs.0 ks.0
     (ap (λ n. eqb n 32) f, refl) (ap (λ n. eqb n 32) g, refl) p.1 in
     (ap (λ (items : List Item). outcome.Items items) run.0, run.1)
@@ -186,20 +186,20 @@ record AreTyped (entry : Entry) : Type 0 where
 both_tests : (p q : Sent → Bool) (xs : List Sent) → list_all p xs ≡ true → list_all q xs ≡ true → list_all (λ x. p x && q x) xs ≡ true
 both_tests p q [] h k = refl
 both_tests p q (x ∷ xs) h k =
-    let a = both (p x) (list_all p xs) h in
-    let b = both (q x) (list_all q xs) k in
-    and_true (p x && q x) _ (and_true (p x) (q x) a.0 b.0) (both_tests p q xs a.1 b.1)
+    let a = and_parts (p x) (list_all p xs) h in
+    let b = and_parts (q x) (list_all q xs) k in
+    and_from (p x && q x) _ (and_from (p x) (q x) a.0 b.0) (both_tests p q xs a.1 b.1)
 
 printable_parts : (entry : Entry) → is_printable entry ≡ true → AreTyped entry
 unfolding is_typed_entry
 printable_parts entry h =
-    let z = both (is_typed_entry entry) (list_all (λ sent. has_written_header sent.message) entry.sent) h in
-    let a = both _ (is_typed_outcome entry.outcome) z.0 in
-    let b = both _ (list_all is_typed_given entry.given) a.0 in
-    let c = both _ (list_all is_typed_sent entry.sent) b.0 in
-    let d = both _ (list_all is_typed_mark entry.marks) c.0 in
-    let e = both _ (is_typed_event entry.event) d.0 in
-    let f = both (is_below 64 entry.moment) (is_below 32 entry.word) e.0 in
+    let z = and_parts (is_typed_entry entry) (list_all (λ sent. has_written_header sent.message) entry.sent) h in
+    let a = and_parts _ (is_typed_outcome entry.outcome) z.0 in
+    let b = and_parts _ (list_all is_typed_given entry.given) a.0 in
+    let c = and_parts _ (list_all is_typed_sent entry.sent) b.0 in
+    let d = and_parts _ (list_all is_typed_mark entry.marks) c.0 in
+    let e = and_parts _ (is_typed_event entry.event) d.0 in
+    let f = and_parts (is_below 64 entry.moment) (is_below 32 entry.word) e.0 in
     record { moment = f.0; word = f.1; event = e.1; marks = d.1; sent = both_tests is_typed_sent (λ sent. has_written_header sent.message) entry.sent c.1 z.1; given = b.1; outcome = a.1 }
 
 record TellsHead (d e : ℕ) (a b : Entry) : Type 0 where
@@ -262,8 +262,8 @@ is_head x = eqb (first x) 64
 
 printed_apart : (a b : Printed) (x y : List ℕ) → is_printed a ≡ true → is_printed b ≡ true → eqb (sign x) 0 ≡ true → eqb (sign y) 0 ≡ true → printed a ++ x ≡ printed b ++ y → (a ≡ b) × (x ≡ y)
 printed_apart a b x y h k f g e =
-    let p = both (is_below 32 a.daemon) (is_printable a.entry) h in
-    let q = both (is_below 32 b.daemon) (is_printable b.entry) k in
+    let p = and_parts (is_below 32 a.daemon) (is_printable a.entry) h in
+    let q = and_parts (is_below 32 b.daemon) (is_printable b.entry) k in
     let w = entry_apart a.daemon b.daemon a.entry b.entry x y p.0 q.0 p.1 q.1 (eqb-true (sign x) 0 f) (eqb-true (sign y) 0 g) e in
     (λ i. record { daemon = w.0 i; entry = w.1 i }, w.2)
 

@@ -1,5 +1,6 @@
 -- In every legal history the items of a session replay to the answers of its operations.
 use Rattle.std.proofs.Common.{◌≡◌, ℕ, ℤ, suc, ◌+◌, ◌<◌, ◌≤◌, ◌⊎◌, inl, inr, Bool, true, false, cond, not, List, [], ◌∷◌, ◌++◌, map, Option, Some, None, refl, ap, subst, ◌∙◌, sym, arith}
+use Rattle.std.proofs.lemmas.Bool.{or_parts}
 use Rattle.std.specs.List.{list_any, filter_map, find}
 use Rattle.std.specs.Option.{option_or, unwrap_or, is_some}
 use Rattle.std.specs.Ordering.{int_eq}
@@ -8,7 +9,6 @@ use Rattle.dns_name.specs.Lists.{count_where}
 use Rattle.sd_call.specs.declared.request.Request.{Request}
 use Rattle.sd_call.specs.Requests.{no_error, is_start}
 use Rattle.sd_call.specs.Replay.{replay, replay_from}
-use Rattle.sd_call.proofs.AnswerLists.{or_second}
 use Rattle.sd_call.proofs.ReplayRuns.{AreApart, replay_from-append}
 use Rattle.mdns_history.specs.declared.config.Config.{Config}
 use Rattle.mdns_history.specs.declared.event.Event.{Event}
@@ -113,7 +113,7 @@ module _ (duties : Duties) (past : List Entry) (moment word : ℕ) (ev : Event) 
 
   pub not_cut_before : (session : ℕ) → is_cut session (staged ∷ past) ≡ false → is_cut session past ≡ false
   unfolding is_cut
-  not_cut_before session h = or_second (has_mark (is_cut_of session) staged) (list_any (has_mark (is_cut_of session)) past) h
+  not_cut_before session h = (or_parts (has_mark (is_cut_of session) staged) (list_any (has_mark (is_cut_of session)) past) h).1
 
   pub items-late : (session : ℕ) → session_items session (next_entry duties past moment word ev ∷ past) ≡ session_items session past ++ filter_map (item_for session) (given_items staged past)
   unfolding session_items next_entry

@@ -1,5 +1,6 @@
 -- The end of a record, where flushes are looked for among all hearings and not among the later ones alone: the same, as moments don't fall.
 use Rattle.std.proofs.Common.{◌≡◌, ℕ, ◌+◌, ◌≤◌, min, Bool, true, false, cond, ◌&&◌, ◌||◌, List, [], ◌∷◌, ◌++◌, map, Some, refl, ap, subst, ◌∙◌, sym, arith}
+use Rattle.std.proofs.Math.Bool.{and-false}
 use Rattle.std.specs.Prelude.{filter, nat_lt}
 use Rattle.std.specs.Option.{unwrap_or}
 use Rattle.dns_name.specs.Lists.{least_of}
@@ -29,17 +30,13 @@ abbrev pub AreInOrder : List Hearing → Type 0
 AreInOrder [] = Unit {0}
 AreInOrder (hearing ∷ heard) = AreUpTo hearing.moment heard × AreInOrder heard
 
-and_false : (b : Bool) → (b && false) ≡ false
-and_false true = refl
-and_false false = refl
-
 -- no hearing up to the renewal flushes late
 none_late : (rr : Rr) (renewed : ℕ) (heard : List Hearing) → AreUpTo renewed heard → filter (flushes_late rr renewed) heard ≡ []
 none_late rr renewed [] up = refl
 none_late rr renewed (hearing ∷ heard) up =
     let early : nat_lt (renewed + 1000) hearing.moment ≡ false = grind (arith, up.0) in
     ap (λ b. cond (flushes rr hearing && b) (hearing ∷ filter (flushes_late rr renewed) heard) (filter (flushes_late rr renewed) heard)) early
-    ∙ ap (λ b. cond b (hearing ∷ filter (flushes_late rr renewed) heard) (filter (flushes_late rr renewed) heard)) (and_false (flushes rr hearing))
+    ∙ ap (λ b. cond b (hearing ∷ filter (flushes_late rr renewed) heard) (filter (flushes_late rr renewed) heard)) (and-false (flushes rr hearing))
     ∙ none_late rr renewed heard up.1
 
 least_of-between : (n m : ℕ) (xs ys : List ℕ) → least_of n (xs ++ m ∷ ys) ≡ min m (least_of n (xs ++ ys))

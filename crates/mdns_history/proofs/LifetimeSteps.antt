@@ -1,5 +1,7 @@
 -- What one more hearing does to the end of a record.
-use Rattle.std.proofs.Common.{◌≡◌, ℕ, ◌+◌, ◌≤◌, min, Bool, true, false, cond, not, ◌&&◌, List, [], ◌∷◌, ◌++◌, map, Option, Some, None, refl, ap, ◌∙◌, sym, arith}
+use Rattle.std.proofs.Common.{◌≡◌, ℕ, ◌+◌, ◌≤◌, min, Bool, true, false, cond, not, ◌&&◌, List, [], ◌∷◌, ◌++◌, map, Option, Some, None, refl, ap, ◌∙◌, arith}
+use Rattle.std.proofs.Math.Bool.{and-false}
+use Rattle.std.proofs.lemmas.Bool.{not-true}
 use Rattle.std.specs.Prelude.{filter, nat_lt}
 use Rattle.std.specs.Option.{option_map}
 use Rattle.dns_name.specs.Lists.{least_of, each_once}
@@ -8,7 +10,7 @@ use Rattle.dns_record.specs.Records.{same}
 use Rattle.mdns_history.specs.declared.entry.Entry.{Entry}
 use Rattle.mdns_history.specs.Hearings.{Hearing, hearings, hearings_in}
 use Rattle.mdns_history.specs.declared.held.Held.{Held}
-use Rattle.mdns_history.specs.Lifetimes.{held_from, live_of, renewals, is_live_at, renews, cuts, full_end, end_from, after_renewal, last_renewal, record_end}
+use Rattle.mdns_history.specs.Lifetimes.{held_from, live_of, renewals, is_live_at, is_other, renews, cuts, full_end, end_from, after_renewal, last_renewal, record_end}
 
 -- the end after one more hearing that doesn't renew the record
 abbrev pub end_after : Rr → Hearing → Hearing → ℕ → ℕ
@@ -61,14 +63,10 @@ fresh hearing = record { rr = hearing.rr; heard = hearing.moment; word = hearing
 abbrev pub shortened : Hearing → Held → Held
 shortened hearing held = record { rr = held.rr; heard = held.heard; word = held.word; end = cond (cuts held.rr held.heard hearing) (min (hearing.moment + 1000) held.end) held.end }
 
--- a held record is another than the one heard
-abbrev pub is_other : Hearing → Held → Bool
-is_other hearing held = not (same held.rr hearing.rr)
-
 -- the held records after one more hearing, whether they have ended or not
 abbrev pub heard_over : Hearing → List Held → List Held
 heard_over hearing held =
-    cond (nat_lt 0 hearing.rr.ttl) (fresh hearing ∷ map (shortened hearing) (filter (is_other hearing) held)) (map (shortened hearing) held)
+    cond (nat_lt 0 hearing.rr.ttl) (fresh hearing ∷ map (shortened hearing) (filter (is_other hearing.rr) held)) (map (shortened hearing) held)
 
 held_from-cons : (hearing : Hearing) (heard : List Hearing) (renewal : Hearing) → renews renewal.rr hearing ≡ false →
     held_from (hearing ∷ heard) renewal ≡ shortened hearing (held_from heard renewal)
@@ -84,14 +82,6 @@ map-held_from : (hearing : Hearing) (heard : List Hearing) → ((rr : Rr) → re
 map-held_from hearing heard none [] = refl
 map-held_from hearing heard none (r ∷ rs) = ap (λ z. z ∷ map (held_from (hearing ∷ heard)) rs) (held_from-cons hearing heard r (none r.rr)) ∙ ap (λ zs. shortened hearing (held_from heard r) ∷ zs) (map-held_from hearing heard none rs)
 
-not_true : (b : Bool) → not b ≡ true → b ≡ false
-not_true true h = sym h
-not_true false h = refl
-
-and_false : (b : Bool) → (b && false) ≡ false
-and_false true = refl
-and_false false = refl
-
 -- the same of the records that a hearing doesn't renew
 map-filter_cond : {X Y Z : Type 0} (f : X → Z) (g : Y → Z) (b : Bool) (x : X) (y : Y) (xs : List X) (ys : List Y) → (b ≡ true → f x ≡ g y) →
     map f xs ≡ map g ys → map f (cond b (x ∷ xs) xs) ≡ map g (cond b (y ∷ ys) ys)
@@ -99,14 +89,14 @@ map-filter_cond f g true x y xs ys heads tails = ap (λ z. z ∷ map f xs) (head
 map-filter_cond f g false x y xs ys heads tails = tails
 
 other_renews_none : (hearing : Hearing) (rr : Rr) → not (same rr hearing.rr) ≡ true → renews rr hearing ≡ false
-other_renews_none hearing rr other = ap (λ b. b && nat_lt 0 hearing.rr.ttl) (not_true (same rr hearing.rr) other)
+other_renews_none hearing rr other = ap (λ b. b && nat_lt 0 hearing.rr.ttl) (not-true (same rr hearing.rr) other)
 
 map-held_from_others : (hearing : Hearing) (heard : List Hearing) (rs : List Hearing) →
-    map (held_from (hearing ∷ heard)) (filter (λ r. not (same r.rr hearing.rr)) rs) ≡ map (shortened hearing) (filter (is_other hearing) (map (held_from heard) rs))
+    map (held_from (hearing ∷ heard)) (filter (λ r. not (same r.rr hearing.rr)) rs) ≡ map (shortened hearing) (filter (is_other hearing.rr) (map (held_from heard) rs))
 map-held_from_others hearing heard [] = refl
 map-held_from_others hearing heard (r ∷ rs) =
     map-filter_cond (held_from (hearing ∷ heard)) (shortened hearing) (not (same r.rr hearing.rr)) r (held_from heard r)
-    (filter (λ e. not (same e.rr hearing.rr)) rs) (filter (is_other hearing) (map (held_from heard) rs))
+    (filter (λ e. not (same e.rr hearing.rr)) rs) (filter (is_other hearing.rr) (map (held_from heard) rs))
     (λ other. held_from-cons hearing heard r (other_renews_none hearing r.rr other)) (map-held_from_others hearing heard rs)
 
 -- what has ended stays so under a hearing that doesn't renew it
@@ -168,19 +158,19 @@ held_from-renewal : (hearing : Hearing) (heard : List Hearing) → renews hearin
 held_from-renewal hearing heard renewed = rw renewed
 
 pub live_of-renewal : (hearing : Hearing) (heard : List Hearing) (moment : ℕ) → same hearing.rr hearing.rr ≡ true → nat_lt 0 hearing.rr.ttl ≡ true →
-    live_of (hearing ∷ heard) moment ≡ filter (is_live_at moment) (fresh hearing ∷ map (shortened hearing) (filter (is_other hearing) (live_of heard moment)))
+    live_of (hearing ∷ heard) moment ≡ filter (is_live_at moment) (fresh hearing ∷ map (shortened hearing) (filter (is_other hearing.rr) (live_of heard moment)))
 unfolding live_of
 live_of-renewal hearing heard moment itself above =
     let rs = renewals heard in
     let live = filter (is_live_at moment) in
     let renewed : renews hearing.rr hearing ≡ true = rw (itself, above) refl in
     let split : renewals (hearing ∷ heard) ≡ hearing ∷ filter (λ r. not (same r.rr hearing.rr)) rs = rw above refl in
-    let first : map (held_from (hearing ∷ heard)) (hearing ∷ filter (λ r. not (same r.rr hearing.rr)) rs) ≡ fresh hearing ∷ map (shortened hearing) (filter (is_other hearing) (map (held_from heard) rs)) =
+    let first : map (held_from (hearing ∷ heard)) (hearing ∷ filter (λ r. not (same r.rr hearing.rr)) rs) ≡ fresh hearing ∷ map (shortened hearing) (filter (is_other hearing.rr) (map (held_from heard) rs)) =
     ap (λ z. z ∷ map (held_from (hearing ∷ heard)) (filter (λ r. not (same r.rr hearing.rr)) rs)) (held_from-renewal hearing heard renewed)
     ∙ ap (λ zs. fresh hearing ∷ zs) (map-held_from_others hearing heard rs) in
-    let others : filter (is_live_at moment) (map (shortened hearing) (filter (is_other hearing) (map (held_from heard) rs))) ≡ filter (is_live_at moment) (map (shortened hearing) (filter (is_other hearing) (filter (is_live_at moment) (map (held_from heard) rs)))) =
-    filter-shortened hearing moment (filter (is_other hearing) (map (held_from heard) rs))
-    ∙ ap (λ zs. filter (is_live_at moment) (map (shortened hearing) zs)) (filter-swap (is_live_at moment) (is_other hearing) (map (held_from heard) rs)) in
+    let others : filter (is_live_at moment) (map (shortened hearing) (filter (is_other hearing.rr) (map (held_from heard) rs))) ≡ filter (is_live_at moment) (map (shortened hearing) (filter (is_other hearing.rr) (filter (is_live_at moment) (map (held_from heard) rs)))) =
+    filter-shortened hearing moment (filter (is_other hearing.rr) (map (held_from heard) rs))
+    ∙ ap (λ zs. filter (is_live_at moment) (map (shortened hearing) zs)) (filter-swap (is_live_at moment) (is_other hearing.rr) (map (held_from heard) rs)) in
     ap (λ zs. filter (is_live_at moment) (map (held_from (hearing ∷ heard)) zs)) split
     ∙ ap (λ zs. filter (is_live_at moment) zs) first
     ∙ ap (λ zs. cond (is_live_at moment (fresh hearing)) (fresh hearing ∷ zs) zs) others
@@ -191,7 +181,7 @@ unfolding live_of
 live_of-goodbye hearing heard moment zero_ttl =
     let rs = renewals heard in
     let split : renewals (hearing ∷ heard) ≡ rs = rw zero_ttl refl in
-    let none : (rr : Rr) → renews rr hearing ≡ false = λ rr. rw zero_ttl (and_false (same rr hearing.rr)) in
+    let none : (rr : Rr) → renews rr hearing ≡ false = λ rr. rw zero_ttl (and-false (same rr hearing.rr)) in
     ap (λ zs. filter (is_live_at moment) (map (held_from (hearing ∷ heard)) zs)) split
     ∙ ap (λ zs. filter (is_live_at moment) zs) (map-held_from hearing heard none rs)
     ∙ filter-shortened hearing moment (map (held_from heard) rs)

@@ -1,5 +1,6 @@
 -- Types, data and records as text: they stand in a line, and tell what they are the text of.
 use Rattle.std.proofs.Common.{◌≡◌, ℕ, ◌+◌, ◌^◌, ◌<◌, Bool, true, false, ◌&&◌, List, ◌++◌, Option, Some, refl, ap, sym, ◌∙◌, arith, codes}
+use Rattle.std.proofs.lemmas.Bool.{and_parts}
 use Rattle.std.specs.Prelude.{decimal}
 use Rattle.std.specs.Option.{unwrap_or}
 use Rattle.std.specs.List.{list_all}
@@ -18,9 +19,9 @@ use Rattle.dns_record.specs.declared.record.Rdata.{Rdata}
 use Rattle.dns_record.specs.declared.record.Rdata.TheVariants.{A, Aaaa, Ptr, Cname, Srv, Txt, Nsec, Raw}
 use Rattle.dns_record.specs.declared.record.Rr.{Rr}
 use Rattle.dns_record.proofs.KindTexts.{kind_cases, kind_written}
-use Rattle.dns_record.proofs.WrittenRecords.{IsReadBack, srv_written, back_A, back_Aaaa, back_Ptr, back_Cname, back_Srv, back_Txt, back_Nsec, back_Raw, record_written}
+use Rattle.dns_record.proofs.WrittenRecords.{name_back as token_back, IsReadBack, srv_written, back_A, back_Aaaa, back_Ptr, back_Cname, back_Srv, back_Txt, back_Nsec, back_Raw, record_written}
 use Rattle.dns_message.specs.Writing.{is_below, are_bytes, is_spellable_name, is_spellable_data, is_spellable_record}
-use Rattle.mdns_history.proofs.Texts.{are_seen, in_line, both, line_joined, seen_line}
+use Rattle.mdns_history.proofs.Texts.{are_seen, in_line, line_joined, seen_line}
 use Rattle.mdns_history.proofs.TokenTexts.{below, decimal_seen, bytes_are, hex_seen, ipv4_seen, ipv6_seen, name_seen}
 
 some_same : {X : Type 0} (x y : X) → Some x ≡ Some y → x ≡ y
@@ -38,7 +39,7 @@ kind_told m n h k e = some_same m n (sym (kind_written m h) ∙ ap kind_read e �
 -- ---- data
 
 name_back : (name : List (List ℕ)) → is_spellable_name name ≡ true → name_read (name_text name) ≡ Some name
-name_back name h = let p = both (is_name name) (list_all are_bytes name) h in ap result_ok (read_name-name_text name p.0 p.1)
+name_back name h = let p = and_parts (is_name name) (list_all are_bytes name) h in token_back name (ap result_ok (read_name-name_text name p.0 p.1))
 
 pub four : (a b c d : Bool) → (a && b && c && d) ≡ true → (a ≡ true) × (b ≡ true) × (c ≡ true) × (d ≡ true)
 four true true true true h = (refl, refl, refl, refl)
@@ -62,7 +63,7 @@ data_back (Srv priority weight port target) h =
     let p = four (is_below 16 priority) (is_below 16 weight) (is_below 16 port) (is_spellable_name target) h in
     back_Srv priority weight port target (srv_written priority weight port target (below 16 priority p.0) (below 16 weight p.1) (below 16 port p.2) (name_back target p.3))
 data_back (Txt bytes) h = back_Txt bytes (hex_written bytes (bytes_are bytes h))
-data_back (Nsec next bitmap) h = let p = both (is_spellable_name next) (are_bytes bitmap) h in back_Nsec next bitmap (name_back next p.0) (hex_written bitmap (bytes_are bitmap p.1))
+data_back (Nsec next bitmap) h = let p = and_parts (is_spellable_name next) (are_bytes bitmap) h in back_Nsec next bitmap (name_back next p.0) (hex_written bitmap (bytes_are bitmap p.1))
 data_back (Raw kind bytes) h = let p = three (is_below 16 kind) (are_bytes bytes) (is_rdata (Raw kind bytes)) h in back_Raw kind bytes p.2 (hex_written bytes (bytes_are bytes p.1))
 
 pub data_told : (left right : Rdata) → is_spellable_data left ≡ true → is_spellable_data right ≡ true → kind_of left ≡ kind_of right → data_text left ≡ data_text right → left ≡ right
@@ -104,7 +105,7 @@ data_line (Srv priority weight port target) h =
 data_line (Txt bytes) h = seen_line (hex_text bytes) (hex_seen bytes h)
 data_line (Nsec next bitmap) h =
     line_joined (name_text next ++ space) (hex_text bitmap) (line_joined (name_text next) space (seen_line (name_text next) (name_seen next)) refl)
-    (seen_line (hex_text bitmap) (hex_seen bitmap (both (is_spellable_name next) (are_bytes bitmap) h).1))
+    (seen_line (hex_text bitmap) (hex_seen bitmap (and_parts (is_spellable_name next) (are_bytes bitmap) h).1))
 data_line (Raw kind bytes) h = seen_line (hex_text bytes) (hex_seen bytes (three (is_below 16 kind) (are_bytes bytes) (is_rdata (Raw kind bytes)) h).1)
 
 -- ---- records

@@ -3,11 +3,12 @@ use Rattle.std.proofs.Common.{◌≡◌, ℕ, ℤ, ◌==◌, Bool, true, false, 
 use Rattle.std.specs.Prelude.{filter}
 use Rattle.std.specs.List.{list_any, find}
 use Rattle.std.specs.Option.{option_map_or, option_to_list}
-use Rattle.std.specs.Ordering.{nat_cmp, int_eq, is_lt}
+use Rattle.std.specs.Ordering.{nat_cmp, int_eq}
 use Rattle.std.specs.Cmp.{nat_cmp_total, Equal-is, unsigned_tied, nat_eq_equiv}
 use Rattle.std.specs.FinMap as fin
 use Rattle.std.specs.FinSet as set
 use Rattle.dns_name.specs.Lists.{insert_by}
+use Rattle.dns_name.proofs.InOrder.{any-insert}
 use Rattle.sd_call.specs.declared.answer.Answer.{Answer}
 use Rattle.sd_call.specs.declared.request.Request.{Request}
 use Rattle.sd_call.specs.declared.request.Request.TheVariants as request
@@ -59,18 +60,7 @@ found-answers f (o ∷ os) q = chosen (is_at q o.op) (at_eq q o.op) (found-answe
     chosen false e rest = rest ∙ ap (λ c. cond (any_at q os) (Some (set_of (option_map_or f (cond c (Some o) (find (has_op q) os)) []))) None) e
 
 any_at-insert_by : (q : ℕ) (o : Operation) (os : List Operation) → any_at q (insert_by by_op o os) ≡ (is_at q o.op || any_at q os)
-any_at-insert_by q o [] = refl
-any_at-insert_by q o (p ∷ os) = placed (is_lt (by_op p o)) (any_at-insert_by q o os)
-  where
-    swap : (x y z : Bool) → (y || (x || z)) ≡ (x || (y || z))
-    swap true true z = refl
-    swap true false z = refl
-    swap false y z = refl
-
-    placed : (c : Bool) → any_at q (insert_by by_op o os) ≡ (is_at q o.op || any_at q os) →
-        any_at q (cond c (p ∷ insert_by by_op o os) (o ∷ p ∷ os)) ≡ (is_at q o.op || (is_at q p.op || any_at q os))
-    placed true rest = ap (λ c. is_at q p.op || c) rest ∙ swap (is_at q o.op) (is_at q p.op) (any_at q os)
-    placed false rest = refl
+any_at-insert_by q o os = any-insert by_op (λ p. is_at q p.op) o os
 
 any_at-filter : (q op : ℕ) (os : List Operation) → any_at q (filter (λ o. not (has_op op o)) os) ≡ (not (is_at q op) && any_at q os)
 any_at-filter q op [] = none (is_at q op)

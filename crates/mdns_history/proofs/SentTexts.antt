@@ -2,7 +2,7 @@
 use Rattle.std.proofs.Common.{◌≡◌, ℕ, Bool, true, false, cond, not, ◌&&◌, eqb, List, [], ◌∷◌, ◌++◌, Some, None, refl, ap, sym, ◌∙◌, arith, codes, append_assoc, drop}
 use Rattle.std.specs.Prelude.{decimal}
 use Rattle.std.specs.List.{list_all, flat_map}
-use Rattle.std.proofs.lemmas.Bool.{eqb-true}
+use Rattle.std.proofs.lemmas.Bool.{eqb-true, and_parts}
 use Rattle.mdns_base.specs.Cut.{cut_of}
 use Rattle.mdns_base.specs.Digits.{ipv4_text, ipv4_of, four_of}
 use Rattle.mdns_base.proofs.Ipv4Text.{ipv4_written}
@@ -18,7 +18,7 @@ use Rattle.dns_message.specs.Writing.{is_below, is_spellable_name, is_spellable_
 use Rattle.mdns_history.specs.declared.entry.Sent.{Sent}
 use Rattle.mdns_history.specs.EntryText.{line, from_text, dest_text, way_text, word_if, question_line, section_lines, message_lines, sent_lines}
 use Rattle.mdns_history.specs.Typed.{is_typed_host, is_typed_dest, is_typed_sent, has_written_header}
-use Rattle.mdns_history.proofs.Texts.{in_line, both, line_joined, seen_line, apart, EndsToken, line_apart, sign, third, runs_apart, run_skips}
+use Rattle.mdns_history.proofs.Texts.{in_line, line_joined, seen_line, apart, EndsToken, line_apart, sign, third, runs_apart, run_skips}
 use Rattle.mdns_history.proofs.TokenTexts.{below, ipv4_seen, name_seen, name_told}
 use Rattle.mdns_history.proofs.RecordTexts.{kind_seen, kind_told, number_line, record_line, record_told, three}
 use Rattle.mdns_history.proofs.CallTexts.{number_seen, number_told, words}
@@ -32,7 +32,7 @@ no_address = refl
 
 all_no_host : (host : Host) (x y : List ℕ) → is_typed_host host ≡ true → EndsToken x → codes "all" ++ x ≡ from_text host ++ y → true ≡ false
 all_no_host host x y h f e =
-    let p = both (is_below 32 host.ip) (is_below 16 host.port) h in
+    let p = and_parts (is_below 32 host.ip) (is_below 16 host.port) h in
     let small = below 32 host.ip p.0 in
     let w = apart (codes "all") (ipv4_text host.ip) x (32 ∷ (decimal host.port ++ y)) refl (ipv4_seen host.ip small) f refl (e ∙ split) in
     none (sym no_address ∙ ap ipv4_of w.0 ∙ ipv4_written host.ip small)
@@ -122,7 +122,7 @@ question_content q = codes "  ? " ++ name_text q.name ++ space ++ kind_text q.ki
 
 question_in_line : (q : Question) → is_spellable_question q ≡ true → in_line (question_content q) ≡ true
 question_in_line q h =
-    let p = both (is_spellable_name q.name) (is_below 16 q.kind) h in
+    let p = and_parts (is_spellable_name q.name) (is_below 16 q.kind) h in
     line_joined (((codes "  ? " ++ name_text q.name) ++ space) ++ kind_text q.kind) (word_if q.unicast (codes " qu"))
     (line_joined ((codes "  ? " ++ name_text q.name) ++ space) (kind_text q.kind)
     (line_joined (codes "  ? " ++ name_text q.name) space (line_joined (codes "  ? ") (name_text q.name) refl (seen_line (name_text q.name) (name_seen q.name))) refl)
@@ -134,8 +134,8 @@ question_tokens q = simp append_assoc
 
 question_apart : (a b : Question) (x y : List ℕ) → is_spellable_question a ≡ true → is_spellable_question b ≡ true → false ≡ false → false ≡ false → question_line a ++ x ≡ question_line b ++ y → (a ≡ b) × (x ≡ y)
 question_apart a b x y h k u v e =
-    let p = both (is_spellable_name a.name) (is_below 16 a.kind) h in
-    let q = both (is_spellable_name b.name) (is_below 16 b.kind) k in
+    let p = and_parts (is_spellable_name a.name) (is_below 16 a.kind) h in
+    let q = and_parts (is_spellable_name b.name) (is_below 16 b.kind) k in
     let l = line_apart (question_content a) (question_content b) x y (question_in_line a h) (question_in_line b k) e in
     let f = sym (question_tokens a) ∙ ap (drop 4) l.0 ∙ question_tokens b in
     let first = words (name_text a.name) (name_text b.name) _ _ (name_seen a.name) (name_seen b.name) f in
@@ -215,12 +215,12 @@ pub record AreSpellable (m : Message) : Type 0 where
 spellable_parts : (m : Message) → is_spellable m ≡ true → AreSpellable m
 unfolding is_spellable
 spellable_parts m h =
-    let a = both _ (list_all is_spellable_record m.additional) h in
-    let b = both _ (list_all is_spellable_record m.authority) a.0 in
-    let c = both _ (list_all is_spellable_record m.answers) b.0 in
-    let d = both _ (list_all is_spellable_question m.questions) c.0 in
-    let e = both _ (is_below 4 m.rcode) d.0 in
-    record { id = (both (is_below 16 m.id) (is_below 4 m.opcode) e.0).0; questions = d.1; answers = c.1; authority = b.1; additional = a.1 }
+    let a = and_parts _ (list_all is_spellable_record m.additional) h in
+    let b = and_parts _ (list_all is_spellable_record m.authority) a.0 in
+    let c = and_parts _ (list_all is_spellable_record m.answers) b.0 in
+    let d = and_parts _ (list_all is_spellable_question m.questions) c.0 in
+    let e = and_parts _ (is_below 4 m.rcode) d.0 in
+    record { id = (and_parts (is_below 16 m.id) (is_below 4 m.opcode) e.0).0; questions = d.1; answers = c.1; authority = b.1; additional = a.1 }
 
 message_apart : (a b : Message) (x y : List ℕ) → AreSpellable a → AreSpellable b → is_indented x ≡ false → is_indented y ≡ false → message_lines a ++ x ≡ message_lines b ++ y → TellsSections a b x y
 message_apart a b x y h k f g e =
@@ -250,10 +250,10 @@ is_printed_sent sent = is_typed_sent sent && has_written_header sent.message
 
 pub sent_apart : (a b : Sent) (x y : List ℕ) → is_printed_sent a ≡ true → is_printed_sent b ≡ true → is_indented x ≡ false → is_indented y ≡ false → sent_lines a ++ x ≡ sent_lines b ++ y → (a ≡ b) × (x ≡ y)
 sent_apart a b x y h k f g e =
-    let p = both (is_typed_sent a) (has_written_header a.message) h in
-    let q = both (is_typed_sent b) (has_written_header b.message) k in
-    let pt = both (is_typed_dest a.to) (is_spellable a.message) p.0 in
-    let qt = both (is_typed_dest b.to) (is_spellable b.message) q.0 in
+    let p = and_parts (is_typed_sent a) (has_written_header a.message) h in
+    let q = and_parts (is_typed_sent b) (has_written_header b.message) k in
+    let pt = and_parts (is_typed_dest a.to) (is_spellable a.message) p.0 in
+    let qt = and_parts (is_typed_dest b.to) (is_spellable b.message) q.0 in
     let ph = three (eqb a.message.opcode 0) (eqb a.message.rcode 0) (cond a.message.response a.message.authoritative (not a.message.authoritative)) p.1 in
     let qh = three (eqb b.message.opcode 0) (eqb b.message.rcode 0) (cond b.message.response b.message.authoritative (not b.message.authoritative)) q.1 in
     let sa = spellable_parts a.message pt.1 in

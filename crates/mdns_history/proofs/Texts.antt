@@ -1,8 +1,9 @@
 -- Texts that are told apart: tokens before a space or a line's end, lines before a line feed, and runs of lines before another line.
-use Rattle.std.proofs.Common.{◌≡◌, ℕ, ◌*◌, ◌+◌, Bool, true, false, cond, ◌&&◌, eqb, ltb, List, [], ◌∷◌, ◌++◌, refl, ap, sym, ◌∙◌, append_assoc}
+use Rattle.std.proofs.Common.{◌≡◌, ℕ, ◌*◌, ◌+◌, Bool, true, false, cond, eqb, ltb, List, [], ◌∷◌, ◌++◌, refl, ap, sym, ◌∙◌, append_assoc}
 use Rattle.std.specs.List.{list_all, flat_map}
 use Rattle.std.proofs.Common.{arith}
 use Rattle.std.proofs.lemmas.Bool.Decides.{nat_tests}
+use Rattle.std.proofs.lemmas.Bool.{and_from, and_parts}
 use Rattle.mdns_history.specs.EntryText.{line}
 
 -- each byte can be seen: it stands above the space
@@ -13,18 +14,10 @@ are_seen text = list_all (λ b. ltb 32 b) text
 abbrev pub in_line : List ℕ → Bool
 in_line text = list_all (λ b. ltb 31 b) text
 
-pub both : (a b : Bool) → (a && b) ≡ true → (a ≡ true) × (b ≡ true)
-both true b h = (refl, h)
-both false b h = cc
-
-pub and_true : (a b : Bool) → a ≡ true → b ≡ true → (a && b) ≡ true
-and_true true b h k = k
-and_true false b h k = cc
-
 -- a test of each byte holds of joined texts where it holds of both
 pub all_joined : (p : ℕ → Bool) (t u : List ℕ) → list_all p t ≡ true → list_all p u ≡ true → list_all p (t ++ u) ≡ true
 all_joined p [] u h k = k
-all_joined p (b ∷ t) u h k = let parts = both (p b) (list_all p t) h in and_true (p b) (list_all p (t ++ u)) parts.0 (all_joined p t u parts.1 k)
+all_joined p (b ∷ t) u h k = let parts = and_parts (p b) (list_all p t) h in and_from (p b) (list_all p (t ++ u)) parts.0 (all_joined p t u parts.1 k)
 
 pub seen_joined : (t u : List ℕ) → are_seen t ≡ true → are_seen u ≡ true → are_seen (t ++ u) ≡ true
 seen_joined t u h k = all_joined (λ b. ltb 32 b) t u h k
@@ -36,12 +29,12 @@ line_joined t u h k = all_joined (λ b. ltb 31 b) t u h k
 pub all_flat : {X : Type 0} (p : ℕ → Bool) (f : X → List ℕ) (good : X → Bool) → ((x : X) → good x ≡ true → list_all p (f x) ≡ true) →
     (xs : List X) → list_all good xs ≡ true → list_all p (flat_map f xs) ≡ true
 all_flat p f good each [] h = refl
-all_flat p f good each (x ∷ xs) h = let parts = both (good x) (list_all good xs) h in all_joined p (f x) (flat_map f xs) (each x parts.0) (all_flat p f good each xs parts.1)
+all_flat p f good each (x ∷ xs) h = let parts = and_parts (good x) (list_all good xs) h in all_joined p (f x) (flat_map f xs) (each x parts.0) (all_flat p f good each xs parts.1)
 
 -- what can be seen may stand in a line
 pub seen_line : (t : List ℕ) → are_seen t ≡ true → in_line t ≡ true
 seen_line [] h = refl
-seen_line (b ∷ t) h = let parts = both (ltb 32 b) (are_seen t) h in and_true (ltb 31 b) (in_line t) (above b parts.0) (seen_line t parts.1)
+seen_line (b ∷ t) h = let parts = and_parts (ltb 32 b) (are_seen t) h in and_from (ltb 31 b) (in_line t) (above b parts.0) (seen_line t parts.1)
   where
     above : (b : ℕ) → ltb 32 b ≡ true → ltb 31 b ≡ true
     above b h = grind (arith, nat_tests)
@@ -55,13 +48,13 @@ Ends p (b ∷ x) = p b ≡ false
 pub apart_by : (p : ℕ → Bool) (t u x y : List ℕ) → list_all p t ≡ true → list_all p u ≡ true → Ends p x → Ends p y → t ++ x ≡ u ++ y → (t ≡ u) × (x ≡ y)
 apart_by p [] [] x y h k f g e = (refl, e)
 apart_by p [] (b ∷ u) [] y h k f g e = cc
-apart_by p [] (b ∷ u) (c ∷ x) y h k f g e = let same : c ≡ b = cc in let no : false ≡ true = sym f ∙ ap p same ∙ (both (p b) (list_all p u) k).0 in cc
+apart_by p [] (b ∷ u) (c ∷ x) y h k f g e = let same : c ≡ b = cc in let no : false ≡ true = sym f ∙ ap p same ∙ (and_parts (p b) (list_all p u) k).0 in cc
 apart_by p (a ∷ t) [] x [] h k f g e = cc
-apart_by p (a ∷ t) [] x (c ∷ y) h k f g e = let same : c ≡ a = cc in let no : false ≡ true = sym g ∙ ap p same ∙ (both (p a) (list_all p t) h).0 in cc
+apart_by p (a ∷ t) [] x (c ∷ y) h k f g e = let same : c ≡ a = cc in let no : false ≡ true = sym g ∙ ap p same ∙ (and_parts (p a) (list_all p t) h).0 in cc
 apart_by p (a ∷ t) (b ∷ u) x y h k f g e =
     let head : a ≡ b = cc in
     let rest : t ++ x ≡ u ++ y = cc in
-    let ih = apart_by p t u x y (both (p a) (list_all p t) h).1 (both (p b) (list_all p u) k).1 f g rest in
+    let ih = apart_by p t u x y (and_parts (p a) (list_all p t) h).1 (and_parts (p b) (list_all p u) k).1 f g rest in
     (ap (λ (l : List ℕ). a ∷ l) ih.0 ∙ ap (λ (c : ℕ). c ∷ u) head, ih.1)
 
 -- what stands behind a token: nothing, a space or a line feed
@@ -124,8 +117,8 @@ runs_apart f good begins goes_on start next one [] (b ∷ vs) x y h k p q e =
 runs_apart f good begins goes_on start next one (a ∷ us) [] x y h k p q e =
     let no : false ≡ true = sym q.0 ∙ ap begins (sym e ∙ append_assoc (f a) (flat_map f us) x) ∙ start a (flat_map f us ++ x) in cc
 runs_apart {X = X} f good begins goes_on start next one (a ∷ us) (b ∷ vs) x y h k p q e =
-    let ha = both (good a) (list_all good us) h in
-    let hb = both (good b) (list_all good vs) k in
+    let ha = and_parts (good a) (list_all good us) h in
+    let hb = and_parts (good b) (list_all good vs) k in
     let first = one a b (flat_map f us ++ x) (flat_map f vs ++ y) ha.0 hb.0 (ends us x p.1) (ends vs y q.1) (sym (append_assoc (f a) (flat_map f us) x) ∙ e ∙ append_assoc (f b) (flat_map f vs) y) in
     let rest = runs_apart f good begins goes_on start next one us vs x y ha.1 hb.1 p q first.1 in
     (λ i. first.0 i ∷ rest.0 i, rest.1)

@@ -7,7 +7,7 @@ use Rattle.std.specs.Int.{to_be_bytes, w16}
 use Rattle.std.specs.List.{list_all, flat_map}
 use Rattle.std.specs.Result.{result_ok}
 use Rattle.std.specs.Str.{all_ascii_digits}
-use Rattle.std.proofs.lemmas.Bool.{ltb-true, lt-ltb, eqb-true, cases_lt}
+use Rattle.std.proofs.lemmas.Bool.{ltb-true, lt-ltb, eqb-true, cases_lt, and_from, and_parts}
 use Rattle.std.proofs.lemmas.Bool.Decides.{nat_tests}
 use Rattle.std.proofs.lemmas.Fmt.{digits_decimal, signed_decimal_injective}
 use Rattle.std.proofs.lemmas.Str.Parse.{IsNumeralModel, numerals_by_fold}
@@ -28,7 +28,7 @@ use Rattle.dns_name.proofs.Spelling.{items_of-next, items_of-none}
 use Rattle.dns_message.specs.Writing.{is_below, are_bytes, is_spellable_name}
 use Rattle.sd_call.specs.CallText.{label_token, type_byte, type_token}
 use Rattle.mdns_history.specs.Typed.{is_signed}
-use Rattle.mdns_history.proofs.Texts.{are_seen, both, and_true, seen_joined}
+use Rattle.mdns_history.proofs.Texts.{are_seen, seen_joined}
 
 -- what a test of size says
 pub below : (bits n : ℕ) → is_below bits n ≡ true → n < 2 ^ bits
@@ -48,7 +48,7 @@ digit_seen c h = grind (arith, nat_tests)
 
 digits_seen : (ds : List ℕ) → all_ascii_digits ds ≡ true → are_seen ds ≡ true
 digits_seen [] h = refl
-digits_seen (c ∷ ds) h = let parts = both (is_ascii_digit c) (all_ascii_digits ds) h in and_true _ _ (digit_seen c parts.0) (digits_seen ds parts.1)
+digits_seen (c ∷ ds) h = let parts = and_parts (is_ascii_digit c) (all_ascii_digits ds) h in and_from _ _ (digit_seen c parts.0) (digits_seen ds parts.1)
 
 pub decimal_digits : (n : ℕ) → n < 2 ^ 64 → all_ascii_digits (decimal n) ≡ true
 decimal_digits n h = digits_decimal own n h
@@ -65,7 +65,7 @@ decimal_told m n h k e =
 
 -- a decimal is no word that begins with a letter
 pub decimal_no_word : (n c : ℕ) (t : List ℕ) → n < 2 ^ 64 → is_ascii_digit c ≡ false → decimal n ≡ c ∷ t → true ≡ false
-decimal_no_word n c t h k e = sym (both (is_ascii_digit c) (all_ascii_digits t) (ap all_ascii_digits (sym e) ∙ decimal_digits n h)).0 ∙ k
+decimal_no_word n c t h k e = sym (and_parts (is_ascii_digit c) (all_ascii_digits t) (ap all_ascii_digits (sym e) ∙ decimal_digits n h)).0 ∙ k
 
 pub signed_seen : (z : ℤ) → is_signed z ≡ true → are_seen (signed_decimal z) ≡ true
 signed_seen (pos n) h = let small : n < 2 ^ 31 = below 31 n h in decimal_seen n (omega arith)
@@ -86,7 +86,7 @@ are_right (suc n) = ltb 32 (slice_index lower_digits n) && are_right n
 are_right-at : (n v : ℕ) → are_right n ≡ true → v < n → ltb 32 (slice_index lower_digits v) ≡ true
 are_right-at zero v h less = absurd (omega arith)
 are_right-at (suc n) v h less =
-    let parts = both (ltb 32 (slice_index lower_digits n)) (are_right n) h in
+    let parts = and_parts (ltb 32 (slice_index lower_digits n)) (are_right n) h in
     elim (cases_lt v n) [
       | inl low ↦ are_right-at n v parts.1 low
       | inr top ↦ let e : v ≡ n = omega arith in rw e parts.0
@@ -99,14 +99,14 @@ digits_of_bytes_seen : (bytes : List ℕ) → are_bytes bytes ≡ true → are_s
 unfolding encode_with
 digits_of_bytes_seen [] h = refl
 digits_of_bytes_seen (b ∷ bytes) h =
-    let parts = both (is_below 8 b) (are_bytes bytes) h in
+    let parts = and_parts (is_below 8 b) (are_bytes bytes) h in
     let small : b < 2 ^ 8 = below 8 b parts.0 in
-    and_true _ _ (hex_digit_seen (b / 16) (omega arith)) (and_true _ _ (hex_digit_seen (b % 16) (omega arith)) (digits_of_bytes_seen bytes parts.1))
+    and_from _ _ (hex_digit_seen (b / 16) (omega arith)) (and_from _ _ (hex_digit_seen (b % 16) (omega arith)) (digits_of_bytes_seen bytes parts.1))
 
 pub bytes_are : (bytes : List ℕ) → are_bytes bytes ≡ true → IsBytes bytes
 bytes_are [] h i = omega arith
-bytes_are (b ∷ bytes) h zero = let small : b < 2 ^ 8 = below 8 b (both (is_below 8 b) (are_bytes bytes) h).0 in small
-bytes_are (b ∷ bytes) h (suc i) = bytes_are bytes (both (is_below 8 b) (are_bytes bytes) h).1 i
+bytes_are (b ∷ bytes) h zero = let small : b < 2 ^ 8 = below 8 b (and_parts (is_below 8 b) (are_bytes bytes) h).0 in small
+bytes_are (b ∷ bytes) h (suc i) = bytes_are bytes (and_parts (is_below 8 b) (are_bytes bytes) h).1 i
 
 pub hex_seen : (bytes : List ℕ) → are_bytes bytes ≡ true → are_seen (hex_text bytes) ≡ true
 unfolding hex_text
@@ -123,7 +123,7 @@ four_seen : (separator : ℕ) (print : ℕ → List ℕ) (a b c d : ℕ) → ltb
 unfolding four_text
 four_seen separator print a b c d s ha hb hc hd =
     seen_joined ((print a ++ separator ∷ print b) ++ separator ∷ print c) (separator ∷ print d)
-    (seen_joined (print a ++ separator ∷ print b) (separator ∷ print c) (seen_joined (print a) (separator ∷ print b) ha (and_true _ _ s hb)) (and_true _ _ s hc)) (and_true _ _ s hd)
+    (seen_joined (print a ++ separator ∷ print b) (separator ∷ print c) (seen_joined (print a) (separator ∷ print b) ha (and_from _ _ s hb)) (and_from _ _ s hc)) (and_from _ _ s hd)
 
 pub ipv4_seen : (a : ℕ) → a < 2 ^ 32 → are_seen (ipv4_text a) ≡ true
 unfolding ipv4_text
@@ -133,7 +133,7 @@ pub ipv4_told : (a b : ℕ) → a < 2 ^ 32 → b < 2 ^ 32 → ipv4_text a ≡ ip
 ipv4_told a b h k e = some_same a b (sym (ipv4_written a h) ∙ ap ipv4_of e ∙ ipv4_written b k)
 
 group_seen : (n : ℕ) → n < 2 ^ 16 → are_seen (group_text n) ≡ true
-group_seen n h = digits_of_bytes_seen (to_be_bytes w16 n) (and_true _ _ (lt-ltb (n / 256 ^ 1 % 256) (2 ^ 8) (omega arith)) (and_true _ _ (lt-ltb (n % 256) (2 ^ 8) (omega arith)) refl))
+group_seen n h = digits_of_bytes_seen (to_be_bytes w16 n) (and_from _ _ (lt-ltb (n / 256 ^ 1 % 256) (2 ^ 8) (omega arith)) (and_from _ _ (lt-ltb (n % 256) (2 ^ 8) (omega arith)) refl))
 
 half_seen : (n : ℕ) → n < 2 ^ 64 → are_seen (ipv6_half_text n) ≡ true
 unfolding ipv6_half_text
@@ -141,7 +141,7 @@ half_seen n h = four_seen 58 group_text _ _ _ _ refl (group_seen _ (omega arith)
 
 pub ipv6_seen : (a : ℕ) → a < 2 ^ 128 → are_seen (ipv6_text a) ≡ true
 unfolding ipv6_text
-ipv6_seen a h = seen_joined (ipv6_half_text (a / 2 ^ 64)) (58 ∷ ipv6_half_text (a % 2 ^ 64)) (half_seen _ (omega arith)) (and_true _ _ refl (half_seen _ (omega arith)))
+ipv6_seen a h = seen_joined (ipv6_half_text (a / 2 ^ 64)) (58 ∷ ipv6_half_text (a % 2 ^ 64)) (half_seen _ (omega arith)) (and_from _ _ refl (half_seen _ (omega arith)))
 
 pub ipv6_told : (a b : ℕ) → a < 2 ^ 128 → b < 2 ^ 128 → ipv6_text a ≡ ipv6_text b → a ≡ b
 ipv6_told a b h k e = some_same a b (sym (ipv6_written a h) ∙ ap ipv6_of e ∙ ipv6_written b k)
@@ -149,7 +149,7 @@ ipv6_told a b h k e = some_same a b (sym (ipv6_written a h) ∙ ap ipv6_of e ∙
 -- ---- labels and service types
 
 three_seen : (b : ℕ) → are_seen (three_digits b) ≡ true
-three_seen b = and_true _ _ (above (b / 100)) (and_true _ _ (above (b / 10 % 10)) (and_true _ _ (above (b % 10)) refl))
+three_seen b = and_from _ _ (above (b / 100)) (and_from _ _ (above (b / 10 % 10)) (and_from _ _ (above (b % 10)) refl))
   where
     above : (d : ℕ) → ltb 32 (48 + d) ≡ true
     above d = grind (arith, nat_tests)
@@ -164,9 +164,9 @@ byte_seen b = go (eqb b 46 || eqb b 92) refl (leb b 32 || leb 127 b) refl
     dot b h = grind (arith, nat_tests)
 
     go : (c : Bool) → (eqb b 46 || eqb b 92) ≡ c → (d : Bool) → (leb b 32 || leb 127 b) ≡ d → are_seen (cond c (92 ∷ b ∷ []) (cond d (92 ∷ three_digits b) (b ∷ []))) ≡ true
-    go true h d k = and_true _ _ refl (and_true _ _ (dot b h) refl)
-    go false h true k = and_true _ _ refl (three_seen b)
-    go false h false k = and_true _ _ (above b k) refl
+    go true h d k = and_from _ _ refl (and_from _ _ (dot b h) refl)
+    go false h true k = and_from _ _ refl (three_seen b)
+    go false h false k = and_from _ _ (above b k) refl
 
 label_seen : (label : List ℕ) → are_seen (label_text label) ≡ true
 label_seen [] = refl
@@ -183,7 +183,7 @@ byte_items (b ∷ label) = Byte b ∷ byte_items label
 items_of-text : (label : List ℕ) → are_bytes label ≡ true → items_of (label_text label) ≡ byte_items label
 items_of-text [] h = items_of-none [] refl
 items_of-text (b ∷ label) h =
-    let parts = both (is_below 8 b) (are_bytes label) h in
+    let parts = and_parts (is_below 8 b) (are_bytes label) h in
     items_of-byte b (label_text label) (below 8 b parts.0) ∙ ap (λ (l : List TextItem). Byte b ∷ l) (items_of-text label parts.1)
 
 byte_items-told : (l m : List ℕ) → byte_items l ≡ byte_items m → l ≡ m
@@ -216,7 +216,7 @@ type_byte_seen b = go (eqb b 46) refl
     dot b h = grind (arith, nat_tests)
 
     go : (c : Bool) → eqb b 46 ≡ c → are_seen (cond c (b ∷ []) (byte_text b)) ≡ true
-    go true h = and_true _ _ (dot b h) refl
+    go true h = and_from _ _ (dot b h) refl
     go false h = byte_seen b
 
 type_seen : (l : List ℕ) → are_seen (flat_map type_byte l) ≡ true
@@ -237,7 +237,7 @@ items_of-type_byte b rest h = go (eqb b 46) refl
 items_of-type : (l : List ℕ) → are_bytes l ≡ true → items_of (flat_map type_byte l) ≡ type_items l
 items_of-type [] h = items_of-none [] refl
 items_of-type (b ∷ l) h =
-    let parts = both (is_below 8 b) (are_bytes l) h in
+    let parts = and_parts (is_below 8 b) (are_bytes l) h in
     items_of-type_byte b (flat_map type_byte l) parts.0 ∙ ap (λ (i : List TextItem). type_item b ∷ i) (items_of-type l parts.1)
 
 type_item-told : (b c : ℕ) → type_item b ≡ type_item c → b ≡ c
@@ -282,6 +282,6 @@ name_seen (label ∷ name) = labels_seen (label ∷ name)
 
 pub name_told : (m n : List (List ℕ)) → is_spellable_name m ≡ true → is_spellable_name n ≡ true → name_text m ≡ name_text n → m ≡ n
 name_told m n h k e =
-    let p = both (is_name m) (list_all are_bytes m) h in
-    let q = both (is_name n) (list_all are_bytes n) k in
+    let p = and_parts (is_name m) (list_all are_bytes m) h in
+    let q = and_parts (is_name n) (list_all are_bytes n) k in
     some_same m n (ap result_ok (sym (read_name-name_text m p.0 p.1) ∙ ap read_name e ∙ read_name-name_text n q.0 q.1))

@@ -36,7 +36,7 @@ abbrev pub is_asking : Key → Mark → Bool
 is_asking question (mark.Asked key cause) = key_eq question key
 is_asking question _ = false
 
--- the moments at which a question was asked since it became active, the last first: those that count in the series, and all
+-- the moments at which a question was asked in the series since it became active, the last first
 unfoldable pub series_moments : Key → List Entry → List ℕ
 series_moments question history = since (begins_asking question) (λ entry. moment_if (has_mark (is_series_asking question) entry) entry.moment) history
 

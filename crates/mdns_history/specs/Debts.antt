@@ -61,7 +61,7 @@ suppresses own listed = same own listed && nat_le own.ttl (2 * listed.ttl)
 abbrev pub is_struck : List Rr → Rr → Bool
 is_struck answers own = list_any (suppresses own) answers
 
--- what an entry's messages say of the last multicast of a record: its moment where it was sent with a TTL above 0, none where it was taken back
+-- the records of a message, of all sections
 abbrev pub sections : Message → List Rr
 sections message = message.answers ++ message.authority ++ message.additional
 
@@ -90,12 +90,13 @@ abbrev pub is_long_ago : ℕ → ℕ → Option ℕ → Bool
 is_long_ago gap moment None = true
 is_long_ago gap moment (Some last) = nat_le (last + gap) moment
 
--- whether a record was multicast within the last quarter of its TTL
+-- whether less than a quarter of a record's TTL has passed since its last multicast
 abbrev pub is_recent : Rr → ℕ → Option ℕ → Bool
 is_recent rr moment None = false
 is_recent rr moment (Some last) = nat_lt (4 * (moment - last)) (1000 * rr.ttl)
 
--- A debt: the place of the query, what it knew of itself, the record, where that goes, and when it is due.
+-- A debt: the place of the query, who sent it, whether it said that more follows, whether it had authority records, the record that is owed, where it goes, and
+-- when it is due.
 pub record Debt : Type 0 where
   pub place : ℕ
   pub from : Host
@@ -149,7 +150,7 @@ debt_of heard entry past all_unique owed =
       due = entry.moment + debt_wait heard entry.word all_unique;
     }
 
--- the debts that an entry makes
+-- the debts of the query that an entry heard, if it heard one
 abbrev pub debts_from : Option Heard → Entry → List Entry → List Debt
 debts_from None entry past = []
 debts_from (Some heard) entry past = let owed = owed_by heard entry past in

@@ -1,7 +1,7 @@
--- Groups of records under one name: the host, and each registration. (RFC 6762 2 and 9, RFC 6763 4 to 7 and 9, RFC 6762 6.1)
-use Rattle.std.specs.Prelude.{ℕ, suc, ◌+◌, ◌==◌, Bool, true, false, not, ◌||◌, List, [], ◌∷◌, ◌++◌, map, length, filter, slice_get, Option, Some, None, if◌then◌else◌}
+-- Groups of records under one name: the host, and each registration. (RFC 6762 2 and 9, RFC 6763 4 to 7 and 9)
+use Rattle.std.specs.Prelude.{ℕ, ◌+◌, ◌==◌, Bool, true, false, not, ◌||◌, List, [], ◌∷◌, ◌++◌, map, length, filter, slice_get, Option, Some, None, if◌then◌else◌}
 use Rattle.std.specs.List.{filter_map, find, list_any, flat_map}
-use Rattle.std.specs.Option.{option_map, option_and_then, unwrap_or, option_to_list, option_or}
+use Rattle.std.specs.Option.{option_map, option_and_then, unwrap_or, option_to_list, option_or, is_some}
 use Rattle.dns_name.specs.Lists.{ordered, count_where, count_up}
 use Rattle.dns_name.specs.Names.{folded_eq}
 use Rattle.dns_record.specs.declared.record.Rdata.{Rdata}
@@ -62,16 +62,11 @@ registration_from session op _ = None
 unfoldable pub registration_in : Entry → Option Registration
 registration_in entry = option_and_then (λ call. registration_from call.session call.op call.request) (accepted_in entry)
 
--- whether there is a value
-abbrev pub is_there : {X : Type 0} → Option X → Bool
-is_there None = false
-is_there (Some x) = true
-
 -- how many registrations were accepted
 unfoldable pub registered_count : List Entry → ℕ
-registered_count history = count_where (λ entry. is_there (registration_in entry)) history
+registered_count history = count_where (λ entry. is_some (registration_in entry)) history
 
--- the label of a group under a number, and its name
+-- the label of a group under a number
 abbrev pub numbered_label : Group → ℕ → List ℕ
 numbered_label group number = if group.id == 0 then host_renamed group.label number else renamed group.label number
 
@@ -100,9 +95,10 @@ group_name group history = numbered_name group (number_of group history)
 abbrev pub is_taken : List (List (List ℕ)) → List (List ℕ) → Bool
 is_taken names name = list_any (folded_eq name) names
 
--- the least number from one on under which a group's name is free
+-- The least number from a given one on under which a group's name is free. Numbers 1 and 2 may give one name, since a label that is too long is cut; so two
+-- more are tried than there are names.
 unfoldable pub free_number : ℕ → List (List (List ℕ)) → Group → ℕ
-free_number from names group = unwrap_or (find (λ number. not (is_taken names (numbered_name group number))) (count_up from (suc (length names)))) from
+free_number from names group = unwrap_or (find (λ number. not (is_taken names (numbered_name group number))) (count_up from (length names + 2))) from
 
 -- the group of a registration, beside groups of these names
 abbrev pub group_of : ℕ → List (List (List ℕ)) → Registration → Group
@@ -142,7 +138,7 @@ is_group id history = list_any (λ group. group.id == id) (groups history)
 unfoldable pub host_name : List Entry → List (List ℕ)
 host_name history = unwrap_or (option_map (λ host. group_name (host_group host) history) (host_of history)) []
 
--- a unique record, with the flush bit, and a shared one
+-- a unique record, with the flush bit
 abbrev pub unique_record : List (List ℕ) → ℕ → Rdata → Rr
 unique_record owner ttl rdata = record { owner = owner; flush = true; ttl = ttl; rdata = rdata }
 
@@ -150,7 +146,7 @@ unique_record owner ttl rdata = record { owner = owner; flush = true; ttl = ttl;
 abbrev pub shared_record : List (List ℕ) → ℕ → Rdata → Rr
 shared_record owner ttl rdata = record { owner = owner; flush = false; ttl = ttl; rdata = rdata }
 
--- the TTLs of records that name a host, and of all others
+-- the TTL of records that name a host
 abbrev pub host_ttl : ℕ
 host_ttl = 120
 

@@ -1,4 +1,4 @@
--- What was heard: messages that aren't ignored, and the records in them that may be cached. (RFC 6762 6, 7.1, 11 and 18)
+-- What was heard: messages that aren't ignored, and the records in them that may be cached. (RFC 6762 6, 7.1 and 18)
 use Rattle.std.specs.Prelude.{ℕ, ◌==◌, Bool, true, false, not, ◌&&◌, ◌||◌, List, [], ◌++◌, map, reverse, Option, Some, None, Result, Ok, Err, if◌then◌else◌}
 use Rattle.std.specs.List.{flat_map}
 use Rattle.mdns_base.specs.Hosts.{mdns_port}

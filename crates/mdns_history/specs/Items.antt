@@ -37,12 +37,12 @@ reply_of session _ _ = None
 abbrev pub earlier_answers : ℕ → List Entry → Operation → List Answer
 earlier_answers session past operation = option_map_or (λ before. answers before past) (find (has_op operation.op) (operations_of session past)) []
 
--- what an operation has no more, and what it has newly
+-- the removes of an operation: what it had before and has no more
 abbrev pub removes : ℕ → Entry → List Entry → Operation → List Item
 removes session entry past operation =
     map (λ answer. Remove operation.op answer) (without answer_eq (earlier_answers session past operation) (answers operation (entry ∷ past)))
 
--- what an operation has newly
+-- the adds of an operation: what it has newly
 abbrev pub adds : ℕ → Entry → List Entry → Operation → List Item
 adds session entry past operation =
     map (λ answer. Add operation.op answer) (without answer_eq (answers operation (entry ∷ past)) (earlier_answers session past operation))

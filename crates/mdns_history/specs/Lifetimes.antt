@@ -1,5 +1,5 @@
 -- How long a heard record lives, over the list of hearings with the last first. (RFC 6762 10, 10.1 and 10.2)
-use Rattle.std.specs.Prelude.{ℕ, ◌+◌, ◌*◌, ◌==◌, nat_lt, Bool, ◌&&◌, ◌||◌, List, ◌∷◌, map, length, filter, Option}
+use Rattle.std.specs.Prelude.{ℕ, ◌+◌, ◌*◌, ◌==◌, nat_lt, Bool, not, ◌&&◌, ◌||◌, List, ◌∷◌, map, length, filter, Option}
 use Rattle.std.specs.List.{find}
 use Rattle.std.specs.Option.{option_map}
 use Rattle.dns_name.specs.Lists.{until, least_of, each_once}
@@ -69,6 +69,10 @@ live_records history moment = live_of (hearings history) moment
 -- A record is uncut where its end is that of its TTL.
 abbrev pub is_uncut : Held → Bool
 is_uncut held = held.end == held.heard + 1000 * held.rr.ttl
+
+-- a held record is another than this one
+abbrev pub is_other : Rr → Held → Bool
+is_other rr one = not (same one.rr rr)
 
 -- the most records that may be live
 abbrev pub room_for_records : ℕ

@@ -9,7 +9,7 @@ use Rattle.dns_record.specs.Records.{same, record_cmp}
 use Rattle.mdns_history.specs.declared.entry.Entry.{Entry}
 use Rattle.mdns_history.specs.Debts.{Debt, standing_debts, last_multicast, is_long_ago}
 
--- the debts to all that are due at a moment, and those to askers
+-- the debts to all that are due at a moment
 unfoldable pub due_multicasts : List Entry → ℕ → List Debt
 due_multicasts history moment = filter (λ debt. dest_eq debt.to All && nat_le debt.due moment) (standing_debts history)
 
@@ -17,7 +17,7 @@ due_multicasts history moment = filter (λ debt. dest_eq debt.to All && nat_le d
 unfoldable pub due_unicasts : List Entry → ℕ → List Debt
 due_unicasts history moment = filter (λ debt. not (dest_eq debt.to All) && nat_le debt.due moment) (standing_debts history)
 
--- the least time between two multicasts of a record, and where a probe asks for it
+-- the least time between two multicasts of a record
 abbrev pub multicast_gap : ℕ
 multicast_gap = 1000
 

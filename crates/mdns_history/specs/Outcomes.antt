@@ -17,7 +17,7 @@ use Rattle.mdns_history.specs.Groups.{no_type, groups, names_of, is_taken, regis
 use Rattle.mdns_history.specs.Answers.{operation_group}
 use Rattle.mdns_history.specs.Items.{queue}
 
--- the most sessions at a time, operations of a session at a time, and sessions and registrations of a daemon
+-- the most sessions that are attached at a time
 abbrev pub most_sessions : ℕ
 most_sessions = 64
 

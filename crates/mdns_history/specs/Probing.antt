@@ -1,4 +1,4 @@
--- When a probe is due. (RFC 6762 8.1 and 9)
+-- When a probe is due. (RFC 6762 8.1, 8.2 and 9)
 use Rattle.std.specs.Prelude.{ℕ, ◌+◌, ◌%◌, ◌==◌, nat_lt, nat_le, Bool, true, false, not, ◌&&◌, List, [], ◌∷◌, length, filter, replicate, Option, Some, None, if◌then◌else◌}
 use Rattle.std.specs.List.{flat_map}
 use Rattle.std.specs.Option.{unwrap_or}

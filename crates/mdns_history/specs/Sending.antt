@@ -1,4 +1,4 @@
--- What an entry sends. (RFC 6762 5 to 8, 10.1 and 11, RFC 6763 12)
+-- What an entry sends. (RFC 6762 5 to 8 and 10.1, RFC 6763 12)
 use Rattle.std.specs.Prelude.{ℕ, ◌+◌, ◌-◌, ◌==◌, Bool, true, false, not, ◌&&◌, List, [], ◌∷◌, ◌++◌, map, length, filter, Option, Some, None, if◌then◌else◌, slice_get}
 use Rattle.std.specs.List.{flat_map, filter_map}
 use Rattle.std.specs.Option.{option_and_then}

@@ -1,6 +1,7 @@
 -- When a group is sure of its name: three spaced probes since its last conflict, and no answer in time. (RFC 6762 8.1)
 use Rattle.std.specs.Prelude.{ℕ, ◌+◌, ◌==◌, nat_le, Bool, false, not, ◌&&◌, ◌||◌, List, ◌∷◌, filter}
 use Rattle.std.specs.List.{list_any, flat_map}
+use Rattle.std.specs.Option.{is_some}
 use Rattle.dns_name.specs.Names.{folded_eq}
 use Rattle.dns_record.specs.declared.record.Rr.{Rr}
 use Rattle.dns_record.specs.declared.record.Question.{Question}
@@ -10,11 +11,11 @@ use Rattle.mdns_history.specs.declared.mark.Mark.{Mark}
 use Rattle.mdns_history.specs.declared.mark.Mark.TheVariants as mark
 use Rattle.mdns_history.specs.declared.entry.Entry.{Entry}
 use Rattle.mdns_history.specs.History.{since, moment_if, has_mark, is_tick, booted}
-use Rattle.mdns_history.specs.Groups.{Group, groups, is_group, group_name, group_records, registration_in, registered_count, is_there}
+use Rattle.mdns_history.specs.Groups.{Group, groups, is_group, group_name, group_records, registration_in, registered_count}
 
 -- whether a group was registered in an entry
 abbrev pub registers : ℕ → Entry → List Entry → Bool
-registers id entry past = (is_there (booted entry.event) && (id == 0)) || (is_there (registration_in entry) && (registered_count past + 1 == id))
+registers id entry past = (is_some (booted entry.event) && (id == 0)) || (is_some (registration_in entry) && (registered_count past + 1 == id))
 
 -- the marks after which a group probes anew
 abbrev pub is_setback_of : ℕ → Mark → Bool
@@ -61,7 +62,7 @@ are_settled _ ticks = false
 unfoldable pub is_sure : Group → List Entry → Bool
 is_sure group history = is_group group.id history && are_settled (probe_moments group history) (tick_moments group history)
 
--- the sure groups, and their records, which are the daemon's own
+-- the live groups that are sure, by number
 unfoldable pub sure_groups : List Entry → List Group
 sure_groups history = filter (λ group. is_sure group history) (groups history)
 

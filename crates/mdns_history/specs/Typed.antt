@@ -43,7 +43,7 @@ abbrev pub is_typed_dest : Dest → Bool
 is_typed_dest All = true
 is_typed_dest (One host) = is_typed_host host
 
--- the host of a configuration, if it has one
+-- an IPv6 address, if there is one
 abbrev pub is_typed_v6 : Option ℕ → Bool
 is_typed_v6 None = true
 is_typed_v6 (Some v6) = is_below 128 v6

@@ -1,5 +1,6 @@
 // Records that are kept.
-ghost use Rattle.std.specs.Prelude.{◌≡◌, IfOk};
+ghost use Rattle.std.specs.Prelude.{◌≡◌, ◌≤◌, filter, vec_len, vec_capacity, IfOk};
+ghost use Rattle.mdns_history.specs.Lifetimes.{is_other};
 
 use dns_record::Rr;
 use std::alloc::{AllocError, Global};
@@ -28,4 +29,13 @@ impl Held {
             end: self.end,
         })
     }
+}
+
+/// Drops the held records that are the same as this one.
+pub fn drop_same(held: &mut Vec<Held>, rr: &Rr)
+    ensures items { held.new.items ≡ filter (is_other rr.now) held.old.items }
+    ensures len { vec_len held.new ≤ vec_len held.old }
+    ensures capacity { vec_capacity held.new ≡ vec_capacity held.old }
+{
+    held.retain(|one| !one.rr.same(rr));
 }

@@ -16,7 +16,7 @@ mod print_sent;
 pub use config::{Config, HostConfig};
 pub use entry::{Entry, Given, Outcome, Sent};
 pub use event::Event;
-pub use held::Held;
+pub use held::{Held, drop_same};
 pub use laws::{good_calls_succeed, items_replay, one_entry_fits, print_is_one_to_one};
 pub use lists::{Gifts, Items, Marks, Operations, Sends};
 pub use mark::{Cause, Mark};

@@ -1,3 +1,3 @@
-pub mod Sorting
+pub mod Places
 pub mod Live
 pub mod Union

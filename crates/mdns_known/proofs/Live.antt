@@ -1,15 +1,16 @@
 -- The known answers over held records, in whatever order they stand.
-use Rattle.std.proofs.Common.{◌≡◌, ℕ, zero, suc, ◌<◌, Bool, true, false, cond, not, ◌&&◌, ◌||◌, List, [], ◌∷◌, ◌++◌, length, take, get_or, set, swap, refl, ap, ◌∙◌, sym, arith, append-nil, Some, None, ◌+◌}
+use Rattle.std.proofs.Common.{◌≡◌, ℕ, ◌<◌, Bool, true, false, cond, not, ◌&&◌, ◌||◌, List, [], ◌∷◌, ◌++◌, length, take, get_or, refl, ap, ◌∙◌, sym, append-nil, Some, None, ◌+◌}
 use Rattle.std.specs.Prelude.{map, filter, nat_lt}
-use Rattle.std.specs.List.{list_any}
+use Rattle.std.specs.List.{All, list_any}
 use Rattle.std.specs.List.Sorted.{IsPermutation}
 use Rattle.std.specs.Ordering.{is_eq}
 use Rattle.std.specs.Cmp.{both_ways}
 use Rattle.std.specs.declared.cmp.Ordering.{Ordering}
 use Rattle.std.specs.declared.cmp.Ordering.TheVariants.{Less, Equal, Greater}
 use Rattle.std.proofs.lemmas.List.{take_more, map-append}
-use Rattle.std.proofs.lemmas.List.Elements.{filter-append}
-use Rattle.std.proofs.lemmas.List.Sorted.{IsPermutation-keeps, IsPermutation-sym}
+use Rattle.std.proofs.lemmas.List.Elements.{All-head, All-tail, filter-append, filter_passes}
+use Rattle.std.proofs.lemmas.List.Sorted.{IsPermutation-sym}
+use Rattle.std.proofs.lemmas.Bool.{and_from, and_parts, not-true, or_from, or_parts}
 use Rattle.dns_name.specs.Lists.{insert_by, sorted_by, each_once}
 use Rattle.dns_record.specs.declared.record.Rr.{Rr}
 use Rattle.dns_record.specs.declared.record.Key.{Key}
@@ -22,32 +23,8 @@ use Rattle.mdns_history.specs.Lifetimes.{is_uncut, is_live_at, held_from, renewa
 use Rattle.mdns_history.specs.Asking.{is_half_fresh, listed, fits_alone, fresh_matches, known_answers}
 use Rattle.mdns_known.specs.Known.{is_listed, known_of, stand_once}
 use Rattle.mdns_known.specs.Laws.{IsOfLiveRecords, IsOrderFree}
-use Rattle.mdns_known.proofs.Sorting.{tied-turned, insert-swapped, put_behind, sorted-push}
-
--- A relation holds along each permutation if it is reflexive and transitive, and goes under a head and over an exchange of two heads.
-module _ {X : Type 0} (R : List X → List X → Type 0) (self : (xs : List X) → R xs xs)
-    (skip : (x : X) (xs ys : List X) → R xs ys → R (x ∷ xs) (x ∷ ys))
-    (turn : (x y : X) (xs : List X) → R (x ∷ y ∷ xs) (y ∷ x ∷ xs))
-    (chain : (xs ys zs : List X) → R xs ys → R ys zs → R xs zs) where
-  to_head : (l : List X) (j : ℕ) (x d : X) → j < length l → R (x ∷ l) (get_or l j d ∷ set l j x)
-  to_head [] j x d h = absurd (omega arith)
-  to_head (y ∷ l) zero x d h = turn x y l
-  to_head (y ∷ l) (suc j) x d h =
-      chain _ _ _ (turn x y l) (chain _ _ _ (skip y _ _ (to_head l j x d (omega arith))) (turn y (get_or l j d) (set l j x)))
-
-  exchanged : (l : List X) (i j : ℕ) (d : X) → i < length l → j < length l → R l (set (set l i (get_or l j d)) j (get_or l i d))
-  exchanged [] i j d p q = absurd (omega arith)
-  exchanged (x ∷ l) zero zero d p q = self (x ∷ l)
-  exchanged (x ∷ l) zero (suc j) d p q = to_head l j x d (omega arith)
-  exchanged (x ∷ l) (suc i) zero d p q = to_head l i x d (omega arith)
-  exchanged (x ∷ l) (suc i) (suc j) d p q = skip x _ _ (exchanged l i j d (omega arith) (omega arith))
-
-  swapped : (l : List X) (i j : ℕ) → i < length l → j < length l → R l (swap l i j)
-  swapped [] i j p q = self []
-  swapped (x ∷ l) i j p q = exchanged (x ∷ l) i j x p q
-
-  pub along_permutation : (xs ys : List X) → IsPermutation xs ys → R xs ys
-  along_permutation xs = IsPermutation-keeps xs (R xs) (self xs) (λ l i j p q h. chain xs l _ h (swapped l i j p q))
+use Rattle.mdns_base.proofs.Permutations.{along_permutation}
+use Rattle.dns_name.proofs.InOrder.{none-filter, tied-turned, insert-swapped, put_behind, sorted-push}
 
 -- ---- sameness and record order
 
@@ -107,17 +84,9 @@ module _ (question : Key) (moment : ℕ) where
   abbrev IsAnOrder : List Held → List Held → Type 0
   IsAnOrder xs ys = ((t : Held → Bool) → list_any t xs ≡ list_any t ys) × (stand_once xs ≡ true → (stand_once ys ≡ true) × (known_of question xs moment ≡ known_of question ys moment))
 
-  and_parts : (a b : Bool) → (a && b) ≡ true → (a ≡ true) × (b ≡ true)
-  and_parts true b h = (refl, h)
-  and_parts false b h = absurd (cc)
-
-  and_both : (a b : Bool) → a ≡ true → b ≡ true → (a && b) ≡ true
-  and_both true b h k = k
-  and_both false b h k = absurd (cc)
-
-  or_parts : (a b : Bool) → not (a || b) ≡ true → (a ≡ false) × (not b ≡ true)
-  or_parts true b h = absurd (cc)
-  or_parts false b h = (refl, h)
+  neither_parts : (a b : Bool) → not (a || b) ≡ true → (a ≡ false) × (not b ≡ true)
+  neither_parts true b h = absurd (cc)
+  neither_parts false b h = (refl, h)
 
   not_either : (a b : Bool) → a ≡ false → not b ≡ true → not (a || b) ≡ true
   not_either true b h k = absurd (cc)
@@ -128,7 +97,7 @@ module _ (question : Key) (moment : ℕ) where
     λ t. ap (λ (b : Bool). t x || b) (h.0 t),
     λ e. let p = and_parts (not (list_any (λ other. same x.rr other.rr) xs)) (stand_once xs) e in
         let rest = h.1 p.1 in (
-          and_both (not (list_any (λ other. same x.rr other.rr) ys)) (stand_once ys) (sym (ap not (h.0 (λ other. same x.rr other.rr))) ∙ p.0) rest.0,
+          and_from (not (list_any (λ other. same x.rr other.rr) ys)) (stand_once ys) (sym (ap not (h.0 (λ other. same x.rr other.rr))) ∙ p.0) rest.0,
           known_of-cons x xs ∙ ap (placed question moment x) rest.1 ∙ sym (known_of-cons x ys),
         ),
   )
@@ -150,9 +119,9 @@ module _ (question : Key) (moment : ℕ) where
       given : stand_once (x ∷ y ∷ xs) ≡ true → (stand_once (y ∷ x ∷ xs) ≡ true) × (known_of question (x ∷ y ∷ xs) moment ≡ known_of question (y ∷ x ∷ xs) moment)
       given e =
           let p = and_parts (not (same x.rr y.rr || any_x)) (not any_y && stand_once xs) e in
-          let first = or_parts (same x.rr y.rr) any_x p.0 in
+          let first = neither_parts (same x.rr y.rr) any_x p.0 in
           let q = and_parts (not any_y) (stand_once xs) p.1 in (
-            and_both (not (same y.rr x.rr || any_y)) (not any_x && stand_once xs) (not_either (same y.rr x.rr) any_y (same-turned y.rr x.rr ∙ first.0) q.0) (and_both (not any_x) (stand_once xs) first.1 q.1),
+            and_from (not (same y.rr x.rr || any_y)) (not any_x && stand_once xs) (not_either (same y.rr x.rr) any_y (same-turned y.rr x.rr ∙ first.0) q.0) (and_from (not any_x) (stand_once xs) first.1 q.1),
             known_of-cons x (y ∷ xs) ∙ ap (placed question moment x) (known_of-cons y xs) ∙ placed-swapped x y (known_of question xs moment) first.0
                 ∙ sym (ap (placed question moment y) (known_of-cons x xs)) ∙ sym (known_of-cons y (x ∷ xs)),
           )
@@ -169,46 +138,17 @@ order_free question moment one other e moved = known_of-order question moment on
 
 -- ---- live records stand once
 
-or_false : (a b : Bool) → (a || b) ≡ false → (a ≡ false) × (b ≡ false)
-or_false true b h = absurd (cc)
-or_false false b h = (refl, h)
-
-both_false : (a b : Bool) → a ≡ false → b ≡ false → (a || b) ≡ false
-both_false true b h k = absurd (cc)
-both_false false b h k = k
-
-both_true : (a b : Bool) → a ≡ true → b ≡ true → (a && b) ≡ true
-both_true true b h k = k
-both_true false b h k = absurd (cc)
-
-parts_true : (a b : Bool) → (a && b) ≡ true → (a ≡ true) × (b ≡ true)
-parts_true true b h = (refl, h)
-parts_true false b h = absurd (cc)
-
--- what isn't among some isn't among those of them that pass a test
-any-filter : {X : Type 0} (t p : X → Bool) (xs : List X) → list_any t xs ≡ false → list_any t (filter p xs) ≡ false
-any-filter t p [] e = refl
-any-filter t p (x ∷ xs) e = kept (p x) (any-filter t p xs (or_false (t x) (list_any t xs) e).1)
-  where
-    kept : (b : Bool) → list_any t (filter p xs) ≡ false → list_any t (cond b (x ∷ filter p xs) (filter p xs)) ≡ false
-    kept true ih = both_false (t x) (list_any t (filter p xs)) (or_false (t x) (list_any t xs) e).0 ih
-    kept false ih = ih
-
 once-filter : (p : Held → Bool) (held : List Held) → stand_once held ≡ true → stand_once (filter p held) ≡ true
 once-filter p [] e = refl
-once-filter p (one ∷ held) e = kept (p one) (once-filter p held (parts_true (not (list_any like held)) (stand_once held) e).1)
+once-filter p (one ∷ held) e = kept (p one) (once-filter p held (and_parts (not (list_any like held)) (stand_once held) e).1)
   where
     like : Held → Bool
     like other = same one.rr other.rr
 
-    was_not : (b : Bool) → not b ≡ true → b ≡ false
-    was_not true h = absurd (cc)
-    was_not false h = refl
-
     kept : (b : Bool) → stand_once (filter p held) ≡ true → stand_once (cond b (one ∷ filter p held) (filter p held)) ≡ true
     kept true ih =
-        both_true (not (list_any like (filter p held))) (stand_once (filter p held))
-        (ap not (any-filter like p held (was_not (list_any like held) (parts_true (not (list_any like held)) (stand_once held) e).0))) ih
+        and_from (not (list_any like (filter p held))) (stand_once (filter p held))
+        (ap not (none-filter like p held (not-true (list_any like held) (and_parts (not (list_any like held)) (stand_once held) e).0))) ih
     kept false ih = ih
 
 -- the last renewals of records, each once, are held apart
@@ -226,14 +166,14 @@ module _ (heard : List Hearing) where
       kept : (b : Bool) → same y.rr x.rr ≡ b → list_any (λ (other : Held). same x.rr other.rr) (map (held_from heard) others) ≡ false →
           list_any (λ (other : Held). same x.rr other.rr) (map (held_from heard) (cond (not b) (y ∷ others) others)) ≡ false
       kept true e ih = ih
-      kept false e ih = both_false (same x.rr y.rr) (list_any (λ (other : Held). same x.rr other.rr) (map (held_from heard) others)) (same-turned x.rr y.rr ∙ e) ih
+      kept false e ih = or_from (same x.rr y.rr) (list_any (λ (other : Held). same x.rr other.rr) (map (held_from heard) others)) (same-turned x.rr y.rr ∙ e) ih
 
   any-map-filter : (t : Held → Bool) (p : Hearing → Bool) (ys : List Hearing) → list_any t (map (held_from heard) ys) ≡ false → list_any t (map (held_from heard) (filter p ys)) ≡ false
   any-map-filter t p [] e = refl
-  any-map-filter t p (y ∷ ys) e = kept (p y) (any-map-filter t p ys (or_false (t (held_from heard y)) (list_any t (map (held_from heard) ys)) e).1)
+  any-map-filter t p (y ∷ ys) e = kept (p y) (any-map-filter t p ys (or_parts (t (held_from heard y)) (list_any t (map (held_from heard) ys)) e).1)
     where
       kept : (b : Bool) → list_any t (map (held_from heard) (filter p ys)) ≡ false → list_any t (map (held_from heard) (cond b (y ∷ filter p ys) (filter p ys))) ≡ false
-      kept true ih = both_false (t (held_from heard y)) (list_any t (map (held_from heard) (filter p ys))) (or_false (t (held_from heard y)) (list_any t (map (held_from heard) ys)) e).0 ih
+      kept true ih = or_from (t (held_from heard y)) (list_any t (map (held_from heard) (filter p ys))) (or_parts (t (held_from heard y)) (list_any t (map (held_from heard) ys)) e).0 ih
       kept false ih = ih
 
   once-map-filter : (p : Hearing → Bool) (ys : List Hearing) → stand_once (map (held_from heard) ys) ≡ true → stand_once (map (held_from heard) (filter p ys)) ≡ true
@@ -244,22 +184,18 @@ module _ (heard : List Hearing) where
       like other = same y.rr other.rr
 
       parts : (not (list_any like (map (held_from heard) ys)) ≡ true) × (stand_once (map (held_from heard) ys) ≡ true)
-      parts = parts_true (not (list_any like (map (held_from heard) ys))) (stand_once (map (held_from heard) ys)) e
-
-      was_not : (b : Bool) → not b ≡ true → b ≡ false
-      was_not true h = absurd (cc)
-      was_not false h = refl
+      parts = and_parts (not (list_any like (map (held_from heard) ys))) (stand_once (map (held_from heard) ys)) e
 
       kept : (b : Bool) → stand_once (map (held_from heard) (filter p ys)) ≡ true → stand_once (map (held_from heard) (cond b (y ∷ filter p ys) (filter p ys))) ≡ true
       kept true ih =
-          both_true (not (list_any like (map (held_from heard) (filter p ys)))) (stand_once (map (held_from heard) (filter p ys)))
-          (ap not (any-map-filter like p ys (was_not (list_any like (map (held_from heard) ys)) parts.0))) ih
+          and_from (not (list_any like (map (held_from heard) (filter p ys)))) (stand_once (map (held_from heard) (filter p ys)))
+          (ap not (any-map-filter like p ys (not-true (list_any like (map (held_from heard) ys)) parts.0))) ih
       kept false ih = ih
 
   once-renewals : (ys : List Hearing) → stand_once (map (held_from heard) (each_once repeats ys)) ≡ true
   once-renewals [] = refl
   once-renewals (y ∷ ys) =
-      both_true (not (list_any (λ (other : Held). same y.rr other.rr) (map (held_from heard) others))) (stand_once (map (held_from heard) others))
+      and_from (not (list_any (λ (other : Held). same y.rr other.rr) (map (held_from heard) others))) (stand_once (map (held_from heard) others))
       (ap not (held_apart y (each_once repeats ys))) (once-map-filter (λ z. not (repeats y z)) (each_once repeats ys) (once-renewals ys))
     where
       others : List Hearing
@@ -270,12 +206,16 @@ unfolding live_of
 live_once heard moment =
     once-filter (is_live_at moment) (map (held_from heard) (renewals heard)) (once-renewals heard (filter (λ hearing. nat_lt 0 hearing.rr.ttl) heard))
 
--- the tests of the definition over a history, one after another, are one test
-one_test : (question : Key) (moment : ℕ) (held : List Held) →
+-- a record is live at a moment
+abbrev IsAlive : ℕ → Held → Type 0
+IsAlive moment one = is_live_at moment one ≡ true
+
+-- the tests of the definition over a history, one after another, are one test of what is live
+one_test : (question : Key) (moment : ℕ) (held : List Held) → All (IsAlive moment) held →
     map (listed moment) (filter (is_listed question moment) held)
     ≡ filter fits_alone (map (listed moment) (filter (is_half_fresh moment) (filter (λ one. matches question one.rr && is_uncut one) held)))
-one_test question moment [] = refl
-one_test question moment (one ∷ held) = at (matches question one.rr && is_uncut one) (is_half_fresh moment one) (fits_alone (listed moment one)) (one_test question moment held)
+one_test question moment [] live = refl
+one_test question moment (one ∷ held) live = at (matches question one.rr) (is_live_at moment one) (is_uncut one) (All-head (IsAlive moment) one held live) (one_test question moment held (All-tail (IsAlive moment) one held live))
   where
     asked : List Held
     asked = filter (λ one. matches question one.rr && is_uncut one) held
@@ -292,13 +232,21 @@ one_test question moment (one ∷ held) = at (matches question one.rr && is_uncu
     fitting true false ih e = ih ∙ ap (λ (b : Bool). cond b (listed moment one ∷ filter fits_alone (map (listed moment) fresh)) (filter fits_alone (map (listed moment) fresh))) e
     fitting false d ih e = ih
 
-    at : (b c d : Bool) → map (listed moment) rest ≡ filter fits_alone (map (listed moment) fresh) → map (listed moment) (cond ((b && is_half_fresh moment one) && fits_alone (listed moment one)) (one ∷ rest) rest) ≡ filter fits_alone (map (listed moment) (filter (is_half_fresh moment) (cond b (one ∷ asked) asked)))
-    at true c d ih = fitting (is_half_fresh moment one) (fits_alone (listed moment one)) ih refl
-    at false c d ih = ih
+    at : (b l c : Bool) → l ≡ true → map (listed moment) rest ≡ filter fits_alone (map (listed moment) fresh) →
+        map (listed moment) (cond ((((b && l) && c) && is_half_fresh moment one) && fits_alone (listed moment one)) (one ∷ rest) rest)
+        ≡ filter fits_alone (map (listed moment) (filter (is_half_fresh moment) (cond (b && c) (one ∷ asked) asked)))
+    at true true true live ih = fitting (is_half_fresh moment one) (fits_alone (listed moment one)) ih refl
+    at true true false live ih = ih
+    at true false c live ih = absurd (cc)
+    at false l c live ih = ih
+
+live_records-live : (history : List Entry) (moment : ℕ) → All (IsAlive moment) (live_records history moment)
+unfolding live_records live_of
+live_records-live history moment = filter_passes (is_live_at moment) (map (held_from (hearings history)) (renewals (hearings history)))
 
 known_of-live : (question : Key) (history : List Entry) (moment : ℕ) → known_of question (live_records history moment) moment ≡ known_answers question history moment
 unfolding known_of known_answers fresh_matches
-known_of-live question history moment = ap (sorted_by record_cmp) (one_test question moment (live_records history moment))
+known_of-live question history moment = ap (sorted_by record_cmp) (one_test question moment (live_records history moment) (live_records-live history moment))
 
 live_records-once : (history : List Entry) (moment : ℕ) → stand_once (live_records history moment) ≡ true
 unfolding live_records

@@ -6,12 +6,12 @@ use Rattle.dns_record.specs.declared.record.Rr.{Rr}
 use Rattle.dns_record.specs.declared.record.Key.{Key}
 use Rattle.dns_record.specs.Records.{matches, same, record_cmp}
 use Rattle.mdns_history.specs.declared.held.Held.{Held}
-use Rattle.mdns_history.specs.Lifetimes.{is_uncut}
+use Rattle.mdns_history.specs.Lifetimes.{is_live_at, is_uncut}
 use Rattle.mdns_history.specs.Asking.{is_half_fresh, listed, fits_alone}
 
--- Whether a held record is listed: it matches, nothing cut its end, half of its TTL is left, and as it is listed it fits a message alone.
+-- Whether a held record is listed: it matches, it is live, nothing cut its end, half of its TTL is left, and as it is listed it fits a message alone.
 abbrev pub is_listed : Key → ℕ → Held → Bool
-is_listed question moment one = (matches question one.rr && is_uncut one && is_half_fresh moment one) && fits_alone (listed moment one)
+is_listed question moment one = (matches question one.rr && is_live_at moment one && is_uncut one && is_half_fresh moment one) && fits_alone (listed moment one)
 
 -- the known answers of a question over held records, as they are listed, in record order
 unfoldable pub known_of : Key → List Held → ℕ → List Rr

@@ -7,7 +7,7 @@ ghost use Rattle.dns_record.specs.declared.record.Rr.{Rr};
 ghost use Rattle.dns_record.specs.Records.{record_cmp};
 ghost use Rattle.mdns_known.specs.Known.{all_known_of};
 
-use crate::known::{in_list, known_answers};
+use crate::known::known_answers;
 use crate::order::put_behind;
 use dns_message::Rrs;
 use dns_record::{Key, Rr, record_cmp};
@@ -30,7 +30,7 @@ pub fn all_known_answers(
     for question in questions {
         put_all_new(&mut all, known_answers(alloc, question, held, now)?)?;
     }
-    in_list(alloc, all)
+    Ok(Rrs::from_vec(all))
 }
 
 // Puts those records in their places that aren't there yet.

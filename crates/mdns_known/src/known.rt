@@ -6,14 +6,14 @@ ghost use Rattle.mdns_known.specs.Known.{known_of};
 use crate::listing::listing;
 use crate::order::put_behind;
 use dns_message::Rrs;
-use dns_record::{Key, Rr};
+use dns_record::Key;
 use mdns_history::Held;
 use std::alloc::{AllocError, Global};
 
-/// The known answers of a question at `now`, in ms, as a query lists them, in record order: the held records that match,
-/// whose end nothing cut, and that have at least half of their TTL left. They are listed without the flush bit, with the
-/// seconds that are left, rounded up. A record that passes 8972 bytes alone in a message isn't listed. Nothing held may
-/// have been heard after `now`. Refused only for want of memory. (RFC 6762 7.1)
+/// The known answers of a question at `now`, in ms, as a query lists them, in record order: the held records that match
+/// and are live, whose end nothing cut, and that have at least half of their TTL left. They are listed without the flush
+/// bit, with the seconds that are left, rounded up. A record that passes 8972 bytes alone in a message isn't listed.
+/// Nothing held may have been heard after `now`. Refused only for want of memory. (RFC 6762 7.1)
 #[tactic(auto, unfolding(crate::specs::Known::known_of))]
 pub fn known_answers(
     alloc: Global,
@@ -31,16 +31,5 @@ pub fn known_answers(
             put_behind(&mut known, rr)?;
         }
     }
-    in_list(alloc, known)
-}
-
-/// The same records as a list of a message. Refused only for want of memory.
-pub fn in_list(alloc: Global, records: Vec<Rr>) -> Result<Rrs, AllocError>
-    ensures { IfOk result (λ rrs. rrs ≡ records.items) }
-{
-    let mut rrs = Rrs::new(alloc);
-    for rr in records {
-        rrs.push(rr)?;
-    }
-    Ok(rrs)
+    Ok(Rrs::from_vec(known))
 }

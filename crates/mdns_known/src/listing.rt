@@ -2,7 +2,7 @@
 ghost use Rattle.std.specs.Prelude.{◌≡◌, ◌+◌, ◌-◌, ◌/◌, ◌≤◌, ◌^◌, ◌&&◌, [], ◌∷◌, Some, None, false, IsTrue, IfOk, if◌then◌else◌};
 ghost use Rattle.dns_record.specs.Records.{matches};
 ghost use Rattle.dns_message.specs.Packing.{query_with};
-ghost use Rattle.mdns_history.specs.Lifetimes.{is_uncut};
+ghost use Rattle.mdns_history.specs.Lifetimes.{is_live_at, is_uncut};
 ghost use Rattle.mdns_history.specs.Asking.{is_half_fresh, listed, fits_alone};
 ghost use Rattle.mdns_known.specs.Known.{is_listed};
 
@@ -32,12 +32,12 @@ pub fn listing(
     }
 }
 
-// Whether a held record matches a question, is uncut, and has at least half of its TTL left.
+// Whether a held record matches a question, is live and uncut, and has at least half of its TTL left.
 fn is_fresh(question: &Key, one: &Held, now: u64) -> bool
     requires { one.now.heard ≤ 2 ^ 53 }
-    ensures { result ≡ (matches question.now one.now.rr && is_uncut one.now && is_half_fresh now one.now) }
+    ensures { result ≡ (matches question.now one.now.rr && is_live_at now one.now && is_uncut one.now && is_half_fresh now one.now) }
 {
-    matches(question, &one.rr) && is_uncut(one) && is_half_fresh(one, now)
+    matches(question, &one.rr) && now < one.end && is_uncut(one) && is_half_fresh(one, now)
 }
 
 // Whether the end of a held record is the one that its TTL gives.

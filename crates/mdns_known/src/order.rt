@@ -21,7 +21,7 @@ pub fn put_behind(records: &mut Vec<Rr>, rr: Rr) -> Result<(), AllocError>
 }
 
 // How many records from the front on aren't above this one.
-#[tactic(auto, using(crate::proofs::Sorting::place_found, crate::proofs::Sorting::place_end, crate::proofs::Sorting::prefix_within))]
+#[tactic(auto, using(crate::proofs::Places::place_found, crate::proofs::Places::place_end, crate::proofs::Places::prefix_within))]
 fn place_of(records: &[Rr], rr: &Rr) -> usize
     ensures place { result ≡ prefix_len (λ other. not (is_lt (record_cmp rr.now other))) records.now }
     ensures within { result ≤ length records.now }

@@ -9,7 +9,7 @@ use std::test::Fail;
 
 // The question ANY of `a.local` at 10,000 ms. Of each held record: its text, the moments at which it was heard and at which
 // it ends. Then the records that are listed, each with a line feed.
-const HELD: [(&[(&str, u64, u64)], &str); 12] = [
+const HELD: [(&[(&str, u64, u64)], &str); 13] = [
     (&[], ""),
     // All of the TTL, and less of it: the seconds are rounded up, and the flush bit isn't listed.
     (
@@ -37,6 +37,8 @@ const HELD: [(&[(&str, u64, u64)], &str); 12] = [
     // What was cut isn't listed, even where half of the TTL is left.
     (&[("a.local. 120 - A 10.0.0.1", 10_000, 11_000)], ""),
     (&[("a.local. 2 - A 10.0.0.1", 10_000, 11_000)], ""),
+    // What has ended isn't listed, though nothing cut it and a TTL of 0 has no half.
+    (&[("a.local. 0 - A 10.0.0.1", 10_000, 10_000)], ""),
     // Other names don't match; letter case doesn't count.
     (
         &[

@@ -1,14 +1,12 @@
 // Queries, with the known answers that are listed in them.
 ghost use Rattle.std.specs.Prelude.{◌≡◌, ◌<◌, ◌≤◌, List, [], ◌∷◌, ◌++◌, map, length, take, drop, true, IfOk, OnOk, if◌then◌else◌};
-ghost use Rattle.std.specs.List.{list_any};
-ghost use Rattle.dns_record.specs.Records.{matches};
 ghost use Rattle.dns_message.specs.Packing.{fits, parts_of, query_with, bare_query, question_for, batch_messages, pack_query};
 ghost use Rattle.mdns_pack.specs.Growing.{with_answer};
 
 use crate::Messages;
 use crate::room::{fits, put_record};
 use dns_message::{Message, Questions, Rrs};
-use dns_record::{Key, Question, Rr, matches};
+use dns_record::{Key, Question, Rr, matches_any};
 use std::alloc::{AllocError, Global};
 use std::mem;
 
@@ -59,7 +57,7 @@ fn put_batch(
 {
     let mut message = query_of(alloc, batch)?;
     for rr in known {
-        if is_asked(batch, rr) {
+        if matches_any(batch, rr) {
             put_known(alloc, messages, &mut message, rr)?;
         }
     }
@@ -128,11 +126,4 @@ fn query_with(alloc: Global, questions: Questions, answers: Rrs) -> Message
         authority: Rrs::new(alloc),
         additional: Rrs::new(alloc),
     }
-}
-
-// Whether a record matches one of the questions.
-fn is_asked(keys: &[Key], rr: &Rr) -> bool
-    ensures { result ≡ list_any (λ key. matches key rr.now) keys.now }
-{
-    keys.iter().any(|key| matches(key, rr))
 }

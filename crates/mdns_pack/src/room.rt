@@ -34,28 +34,16 @@ pub fn put_record(alloc: Global, message: &mut Message, rr: Rr) -> Result<Option
         return Ok(None);
     }
     let answers = mem::replace(&mut message.answers, Rrs::new(alloc));
-    let (others, last) = split_last(alloc, answers)?;
+    let (others, last) = split_last(answers);
     message.answers = others;
     Ok(last)
 }
 
-// The records before the last one, and the last one. Refused only for want of memory.
-fn split_last(alloc: Global, rrs: Rrs) -> Result<(Rrs, Option<Rr>), AllocError>
-    ensures { IfOk result (λ parts. (others : List Rr) (last : Rr) → rrs ≡ others ++ last ∷ []
-        → (parts.0 ≡ others) × (parts.1 ≡ Some last)) }
+// The records before the last one, and the last one.
+fn split_last(rrs: Rrs) -> (Rrs, Option<Rr>)
+    ensures { (others : List Rr) (last : Rr) → rrs ≡ others ++ last ∷ [] → (result.0 ≡ others) × (result.1 ≡ Some last) }
 {
     let mut records = rrs.into_vec();
     let last = records.pop();
-    Ok((in_list(alloc, records)?, last))
-}
-
-// The same records as a list of a message. Refused only for want of memory.
-fn in_list(alloc: Global, records: Vec<Rr>) -> Result<Rrs, AllocError>
-    ensures { IfOk result (λ rrs. rrs ≡ records.items) }
-{
-    let mut rrs = Rrs::new(alloc);
-    for rr in records {
-        rrs.push(rr)?;
-    }
-    Ok(rrs)
+    (Rrs::from_vec(records), last)
 }

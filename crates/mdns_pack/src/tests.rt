@@ -91,10 +91,10 @@ fn a_query_lists_an_address(rt: HostRuntime) -> Result<(), Fail> {
         kind: 1,
     };
     let mut known = Rrs::new(alloc);
-    known.push(Rr::parse_text(alloc, "h.local. 60 - A 10.0.0.1").map_err(|_| "record")?)?;
+    known.push(Rr::parse_text(alloc, "h.local. 60 - A 10.0.0.1")?)?;
     let messages = pack_query(alloc, &[question], &known)?.into_vec();
     assert_eq!(rt; messages.len(), 1);
-    let written = write(alloc, &messages[0], 1440).map_err(|_| "length")?;
+    let written = write(alloc, &messages[0], 1440)?;
     assert_eq!(rt; written.as_slice(), ASKED.as_slice());
     Ok(())
 }
@@ -121,7 +121,7 @@ fn record_of(alloc: Global, letter: char, length: usize) -> Result<Rr, Fail> {
 }
 
 fn put_message(alloc: Global, out: &mut Vec<u8>, message: &Message) -> Result<(), Fail> {
-    let written = write(alloc, message, 8972).map_err(|_| "length")?;
+    let written = write(alloc, message, 8972)?;
     let flag = if message.truncated { "tc" } else { "-" };
     let line = format!(in alloc;
         "{flag} {} {} {}\n",

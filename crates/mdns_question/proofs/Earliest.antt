@@ -14,7 +14,7 @@ use Rattle.mdns_question.specs.declared.tracked.Tracked.{Tracked}
 use Rattle.mdns_question.specs.Tracking.{active_of, is_refreshed, due_cause, due_with}
 use Rattle.mdns_question.specs.Next.{is_wanted, is_open, open_in, next_of}
 use Rattle.mdns_question.proofs.Refreshes.{refreshed_by}
-use Rattle.mdns_question.proofs.Loops.{least_of-append}
+use Rattle.dns_name.proofs.Least.{least_of-append}
 
 least_of_le : (n : ℕ) (ms : List ℕ) → least_of n ms ≤ n
 least_of_le n [] = omega arith

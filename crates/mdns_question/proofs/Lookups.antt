@@ -1,6 +1,5 @@
 -- What a user more, a user less and an asking make of each question.
 use Rattle.std.proofs.Common.{◌≡◌, ℕ, ◌+◌, ◌-◌, ◌==◌, Bool, true, false, cond, ◌&&◌, ◌||◌, List, [], ◌∷◌, map, nat_lt, refl, ap, sym, ◌∙◌, arith, Option, Some, None, Ordering, Less, Equal, Greater}
-use Rattle.std.specs.Prelude.{filter}
 use Rattle.std.specs.List.{list_any, find}
 use Rattle.std.specs.Option.{option_map}
 use Rattle.std.specs.Ordering.{is_lt, is_eq, nat_cmp, ordering_then, ordering_reverse}
@@ -10,6 +9,7 @@ use Rattle.std.proofs.lemmas.Cmp.{on_total, then_total, nat_cmp_total, nat_list_
 use Rattle.std.proofs.lemmas.Map.Text.{is_eq-slice_cmp}
 use Rattle.dns_name.specs.Names.{wire_of, folded, folded_eq, name_cmp}
 use Rattle.dns_name.specs.Lists.{insert_by}
+use Rattle.dns_name.proofs.InOrder.{none-filter}
 use Rattle.dns_record.specs.declared.record.Key.{Key}
 use Rattle.dns_record.specs.Records.{key_eq, key_cmp}
 use Rattle.mdns_history.specs.declared.mark.Cause.{Cause}
@@ -229,21 +229,12 @@ AreKept-user moment word question tracked kept = of (list_any (is_for question) 
 
 -- a user less
 
-any-filter : (p q : Tracked → Bool) (tracked : List Tracked) → list_any p tracked ≡ false → list_any p (filter q tracked) ≡ false
-any-filter p q [] h = refl
-any-filter p q (one ∷ tracked) h = of (p one) refl (q one) h (any-filter p q tracked)
-  where
-    of : (b : Bool) → p one ≡ b → (c : Bool) → (b || list_any p tracked) ≡ false → (list_any p tracked ≡ false → list_any p (filter q tracked) ≡ false) → list_any p (cond c (one ∷ filter q tracked) (filter q tracked)) ≡ false
-    of true e c g ih = absurd (cc)
-    of false e true g ih = ap (λ b. b || list_any p (filter q tracked)) e ∙ ih g
-    of false e false g ih = ih g
-
 pub AreKept-less : (question : Key) (tracked : List Tracked) → AreKept tracked → AreKept (without_user question tracked)
 AreKept-less question [] kept = tt
 AreKept-less question (one ∷ tracked) kept = of (is_used (used_less question one)) refl (AreKept-less question tracked kept.2)
   where
     of : (b : Bool) → is_used (used_less question one) ≡ b → AreKept (without_user question tracked) → AreKept (cond b (used_less question one ∷ without_user question tracked) (without_user question tracked))
-    of true e ih = (e, any-filter (is_for one.key) is_used (map (used_less question) tracked) (any-map (is_for one.key) (used_less question) (λ x. refl) tracked ∙ kept.1), ih)
+    of true e ih = (e, none-filter (is_for one.key) is_used (map (used_less question) tracked) (any-map (is_for one.key) (used_less question) (λ x. refl) tracked ∙ kept.1), ih)
     of false e ih = ih
 
 -- what is kept of a question that no other is one with
@@ -278,7 +269,7 @@ kept_of-less question (one ∷ tracked) kept other = of (is_for other one) refl 
     -- the questions behind this one are others
     gone : is_for other one ≡ true → kept_of other rest ≡ None
     gone e = find-none (is_for other) rest (any-along other one.key rest e
-        ∙ any-filter (is_for one.key) is_used (map (used_less question) tracked) (any-map (is_for one.key) (used_less question) (λ x. refl) tracked ∙ kept.1))
+        ∙ none-filter (is_for one.key) is_used (map (used_less question) tracked) (any-map (is_for one.key) (used_less question) (λ x. refl) tracked ∙ kept.1))
 
     of : (d : Bool) → is_for other one ≡ d → (b : Bool) → is_used (used_less question one) ≡ b → kept_of other rest ≡ cond (key_eq other question) (one_less (kept_of other tracked)) (kept_of other tracked) →
         kept_of other (cond b (used_less question one ∷ rest) rest) ≡ cond (key_eq other question) (one_less (cond d (Some one) (kept_of other tracked))) (cond d (Some one) (kept_of other tracked))

@@ -7,6 +7,7 @@ use Rattle.std.specs.Ordering.{is_lt, is_eq, ordering_reverse}
 use Rattle.std.proofs.lemmas.Cmp.{tied_itself}
 use Rattle.std.proofs.lemmas.List.Folds.{list_any-append}
 use Rattle.dns_name.specs.Lists.{insert_by, sorted_by, each_once, ordered}
+use Rattle.dns_name.proofs.InOrder.{any-sorted, none-filter}
 use Rattle.dns_record.specs.declared.record.Key.{Key}
 use Rattle.dns_record.specs.Records.{key_eq, key_cmp}
 use Rattle.mdns_history.specs.declared.mark.Cause.{Cause}
@@ -108,23 +109,6 @@ AreInOrder-insert key (x ∷ keys) none h = of (before x key) refl (key_eq key x
 
 -- which are there
 
-any-insert : (t : Key → Bool) (key : Key) (keys : List Key) → list_any t (insert_by key_cmp key keys) ≡ (t key || list_any t keys)
-any-insert t key [] = refl
-any-insert t key (x ∷ keys) = of (before x key) (any-insert t key keys)
-  where
-    swap : (a b c : Bool) → (b || (a || c)) ≡ (a || (b || c))
-    swap true true c = refl
-    swap true false c = refl
-    swap false b c = refl
-
-    of : (b : Bool) → list_any t (insert_by key_cmp key keys) ≡ (t key || list_any t keys) → list_any t (cond b (x ∷ insert_by key_cmp key keys) (key ∷ x ∷ keys)) ≡ (t key || (t x || list_any t keys))
-    of true ih = ap (λ b. t x || b) ih ∙ swap (t key) (t x) (list_any t keys)
-    of false ih = refl
-
-any-sorted : (t : Key → Bool) (keys : List Key) → list_any t (sorted_by key_cmp keys) ≡ list_any t keys
-any-sorted t [] = refl
-any-sorted t (key ∷ keys) = any-insert t key (sorted_by key_cmp keys) ∙ ap (λ b. t key || b) (any-sorted t keys)
-
 abbrev tied : Key → Key → Bool
 tied x y = is_eq (key_cmp x y)
 
@@ -133,21 +117,12 @@ abbrev AreOnce : List Key → Type 0
 AreOnce [] = Unit {0}
 AreOnce (key ∷ keys) = (list_any (key_eq key) keys ≡ false) × AreOnce keys
 
-any-filter : (p q : Key → Bool) (keys : List Key) → list_any p keys ≡ false → list_any p (filter q keys) ≡ false
-any-filter p q [] h = refl
-any-filter p q (key ∷ keys) h = of (p key) refl (q key) h (any-filter p q keys)
-  where
-    of : (b : Bool) → p key ≡ b → (c : Bool) → (b || list_any p keys) ≡ false → (list_any p keys ≡ false → list_any p (filter q keys) ≡ false) → list_any p (cond c (key ∷ filter q keys) (filter q keys)) ≡ false
-    of true e c g ih = absurd (cc)
-    of false e true g ih = ap (λ b. b || list_any p (filter q keys)) e ∙ ih g
-    of false e false g ih = ih g
-
 AreOnce-filter : (q : Key → Bool) (keys : List Key) → AreOnce keys → AreOnce (filter q keys)
 AreOnce-filter q [] h = tt
 AreOnce-filter q (key ∷ keys) h = of (q key) (AreOnce-filter q keys h.1)
   where
     of : (b : Bool) → AreOnce (filter q keys) → AreOnce (cond b (key ∷ filter q keys) (filter q keys))
-    of true ih = (any-filter (key_eq key) q keys h.0, ih)
+    of true ih = (none-filter (key_eq key) q keys h.0, ih)
     of false ih = ih
 
 none-removed : (key : Key) (keys : List Key) → list_any (key_eq key) (filter (λ y. not (tied key y)) keys) ≡ false
@@ -167,7 +142,7 @@ AreOnce-each_once (key ∷ keys) = (none-removed key (each_once tied keys), AreO
 
 AreInOrder-sorted : (keys : List Key) → AreOnce keys → AreInOrder (sorted_by key_cmp keys)
 AreInOrder-sorted [] h = tt
-AreInOrder-sorted (key ∷ keys) h = AreInOrder-insert key (sorted_by key_cmp keys) (any-sorted (key_eq key) keys ∙ h.0) (AreInOrder-sorted keys h.1)
+AreInOrder-sorted (key ∷ keys) h = AreInOrder-insert key (sorted_by key_cmp keys) (any-sorted key_cmp (key_eq key) keys ∙ h.0) (AreInOrder-sorted keys h.1)
 
 -- what is one with a question stays among those that are there once
 any-removed : (q key : Key) (keys : List Key) → (key_eq q key || list_any (key_eq q) (filter (λ y. not (tied key y)) keys)) ≡ (key_eq q key || list_any (key_eq q) keys)
@@ -193,7 +168,7 @@ AreInOrder-ordered : (keys : List Key) → AreInOrder (ordered key_cmp keys)
 AreInOrder-ordered keys = AreInOrder-sorted (each_once tied keys) (AreOnce-each_once keys)
 
 any-ordered : (q : Key) (keys : List Key) → list_any (key_eq q) (ordered key_cmp keys) ≡ list_any (key_eq q) keys
-any-ordered q keys = any-sorted (key_eq q) (each_once tied keys) ∙ any-each_once q keys
+any-ordered q keys = any-sorted key_cmp (key_eq q) (each_once tied keys) ∙ any-each_once q keys
 
 -- the active questions of a history
 

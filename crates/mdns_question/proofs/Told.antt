@@ -3,7 +3,7 @@ use Rattle.std.proofs.Common.{◌≡◌, List, [], ◌∷◌, ◌++◌, ap, sym,
 use Rattle.std.specs.Prelude.{filter}
 use Rattle.std.proofs.lemmas.List.Sorted.{IsPermutation-to_front}
 use Rattle.mdns_history.specs.declared.held.Held.{Held}
-use Rattle.mdns_question.specs.Tracking.{is_other}
+use Rattle.mdns_history.specs.Lifetimes.{is_other}
 
 pub told_front : (old now new : List Held) (one : Held) → now ≡ old → new ≡ filter (is_other one.rr) now ++ one ∷ [] → IsPermutation new (one ∷ filter (is_other one.rr) old)
 told_front old now new one same is =

@@ -1,5 +1,5 @@
 -- Which questions have users, how often each was asked, and which are due. (RFC 6762 5.2)
-use Rattle.std.specs.Prelude.{ℕ, ◌+◌, ◌-◌, ◌*◌, ◌≤◌, nat_le, nat_lt, min, Bool, not, ◌&&◌, List, [], map, filter, Option, Some, None, if◌then◌else◌}
+use Rattle.std.specs.Prelude.{ℕ, ◌+◌, ◌-◌, ◌*◌, ◌≤◌, nat_le, nat_lt, min, Bool, ◌&&◌, List, [], map, filter, Option, Some, None, if◌then◌else◌}
 use Rattle.std.specs.List.{list_any, flat_map, filter_map, AllByRecursion}
 use Rattle.std.specs.Option.{option_map, option_to_list}
 use Rattle.std.specs.Ordering.{is_lt}
@@ -7,7 +7,7 @@ use Rattle.std.specs.declared.cmp.Ordering.{Ordering}
 use Rattle.dns_name.specs.Lists.{insert_by}
 use Rattle.dns_record.specs.declared.record.Rr.{Rr}
 use Rattle.dns_record.specs.declared.record.Key.{Key}
-use Rattle.dns_record.specs.Records.{key_eq, key_cmp, matches, same}
+use Rattle.dns_record.specs.Records.{key_eq, key_cmp, matches}
 use Rattle.mdns_history.specs.declared.mark.Cause.{Cause}
 use Rattle.mdns_history.specs.declared.mark.Cause.TheVariants as cause
 use Rattle.mdns_history.specs.declared.held.Held.{Held}
@@ -88,10 +88,6 @@ with_asking moment question cause tracked = map (noted moment question cause) tr
 -- no question has more users
 abbrev pub AreUsedAtMost : ℕ → List Tracked → Type 0
 AreUsedAtMost most tracked = AllByRecursion (λ (one : Tracked). one.users ≤ most) tracked
-
--- a told record is another than this one
-abbrev pub is_other : Rr → Held → Bool
-is_other rr one = not (same one.rr rr)
 
 -- the records that match a question, are live at a moment and are uncut
 abbrev pub fresh_of : Key → List Held → ℕ → List Held

@@ -4,17 +4,18 @@ ghost use Rattle.std.specs.List.{list_any, find};
 ghost use Rattle.std.specs.List.Sorted.{IsPermutation};
 ghost use Rattle.std.specs.Option.{option_map, option_copied};
 ghost use Rattle.dns_name.specs.Lists.{least};
-ghost use Rattle.mdns_question.specs.Tracking.{is_for, is_other, with_user, without_user, with_asking, due_at};
+ghost use Rattle.mdns_history.specs.Lifetimes.{is_other};
+ghost use Rattle.mdns_question.specs.Tracking.{is_for, with_user, without_user, with_asking, due_at};
 ghost use Rattle.mdns_question.specs.Next.{next_of};
 
 use crate::Tracked;
-use crate::copies::{held_copies, question_copies};
-use crate::due::{due_question, due_questions};
+use crate::copies::question_copies;
+use crate::due::due_question;
 use crate::keys::key_eq;
 use crate::next::next_due;
 use crate::users::{add_user, has, note, take_user};
 use dns_record::{Key, Rr};
-use mdns_history::{Cause, Held};
+use mdns_history::{Cause, Held, drop_same};
 use std::alloc::{AllocError, Global};
 use std::marker::Model;
 
@@ -57,15 +58,14 @@ impl Asker {
         }
     }
 
-    /// An asker of the same questions that was told of these records, in place of those that this one was told of. Refused
-    /// only for want of memory.
-    pub fn copy_told(&self, alloc: Global, held: &[Held]) -> Result<Asker, AllocError>
+    /// An asker of the same questions that was told of no records. Refused only for want of memory.
+    pub fn copy_untold(&self, alloc: Global) -> Result<Asker, AllocError>
         ensures questions { IfOk result (λ copy. copy.questions ≡ self.now.questions) }
-        ensures held { IfOk result (λ copy. copy.held ≡ held.now) }
+        ensures held { IfOk result (λ copy. copy.held ≡ []) }
     {
         Ok(Asker {
             questions: question_copies(alloc, &self.questions)?,
-            held: held_copies(alloc, held)?,
+            held: Vec::new(alloc),
             starts: self.starts,
         })
     }
@@ -161,13 +161,6 @@ impl Asker {
         due_question(&self.questions, &self.held, now, place)
     }
 
-    /// All questions that are due at `now`, as `due` has them. Refused only for want of memory. (RFC 6762 5.2)
-    pub fn due_questions(&self, alloc: Global, now: u64) -> Result<Vec<(Key, Cause)>, AllocError>
-        ensures { IfOk result (λ due. due.items ≡ due_at self.now now) }
-    {
-        due_questions(alloc, &self.questions, &self.held, now)
-    }
-
     /// The first moment at which a question is due; `None` exactly where none ever is.
     pub fn next_due(&self) -> Option<u64>
         ensures least { result ≡ least (map (next_of self.now.held) self.now.questions) }
@@ -215,13 +208,4 @@ fn put(held: &mut Vec<Held>, one: Held)
 {
     drop_same(held, &one.rr);
     let _ = held.push(one);
-}
-
-// Drops what the record is the same as.
-fn drop_same(held: &mut Vec<Held>, rr: &Rr)
-    ensures items { held.new.items ≡ filter (is_other rr.now) held.old.items }
-    ensures len { vec_len held.new ≤ vec_len held.old }
-    ensures capacity { vec_capacity held.new ≡ vec_capacity held.old }
-{
-    held.retain(|one| !one.rr.same(rr));
 }

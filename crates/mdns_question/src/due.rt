@@ -34,7 +34,8 @@ pub fn due_question<'a>(
     None
 }
 
-/// All questions that are due, each with its cause. Refused only for want of memory.
+/// All questions that are due at `now`, in ms, over the records that are held, in their order, each with its cause, as
+/// `Asker::due` has them one by one. Refused only for want of memory. (RFC 6762 5.2)
 pub fn due_questions(
     alloc: Global,
     questions: &[Tracked],

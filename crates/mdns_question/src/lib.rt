@@ -12,10 +12,12 @@ mod tracked;
 mod users;
 
 pub use asker::Asker;
+pub use due::due_questions;
 pub use law::{
     activity_follows_the_uses, askings_follow_the_history, questions_in_order_are_the_active_ones,
     questions_stand_apart,
 };
+pub use next::next_due;
 pub use tracked::Tracked;
 
 #[cfg(test)]

@@ -8,7 +8,8 @@ use crate::Tracked;
 use crate::points::{is_open, is_wanted, refresh_points};
 use mdns_history::Held;
 
-/// The first moment at which one of the questions is due; `None` exactly where there is no question.
+/// The first moment, in ms, at which one of the questions is due over the records that are held; `None` exactly where there is
+/// no question. (RFC 6762 5.2)
 pub fn next_due(questions: &[Tracked], held: &[Held]) -> Option<u64>
     ensures { result ≡ least (map (next_of held.now) questions.now) }
 {

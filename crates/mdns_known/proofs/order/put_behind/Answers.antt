@@ -3,7 +3,7 @@ use Rattle.std.specs.List.{insert, prefix_len}
 use Rattle.std.specs.Ordering.{is_lt}
 use Rattle.dns_record.specs.Records.{record_cmp}
 use Rattle.dns_record.proofs.Same.{record_cmp_total}
-use Rattle.mdns_known.proofs.Sorting.{inserted, put_behind, sorted-push}
+use Rattle.dns_name.proofs.InOrder.{inserted, put_behind, sorted-push}
 use Rattle.mdns_known.proofs.order.put_behind.Goals as goal
 
 pub returns : goal.returns

@@ -5,18 +5,18 @@ use Rattle.dns_record.specs.Records.{matches}
 use Rattle.dns_message.specs.Packing.{batch_messages}
 use Rattle.mdns_pack.proofs.Chains.{underway-over, underway-put}
 use Rattle.mdns_pack.proofs.query.put_batch.Goals as goal
-use Rattle.mdns_pack.proofs.query.put_batch.Goals.{then-is_asked+in_ok-put_known, else-is_asked}
+use Rattle.mdns_pack.proofs.query.put_batch.Goals.{then-matches_any+in_ok-put_known, else-matches_any}
 
 pub loop-rr-preserved : goal.loop-rr-preserved
 loop-rr-preserved c =
     let asked : Rr → Bool = λ rr. list_any (λ key. matches key rr) c.args.batch.now in
-    elim c.if-is_asked.branch [
-      | then-is_asked+in_ok-put_known w ↦
-          underway-put (c.args.messages.now ++ batch_messages c.args.known.now c.args.batch.now) c.loop-rr.messages c.if-is_asked.messages c.loop-rr.message c.if-is_asked.message asked
-          c.args.known.now c.loop-rr.rr-index c.rr-item.result c.loop-rr-test.true c.rr-item.is (sym c.is_asked.ensures ∙ w.if-is_asked.true)
+    elim c.if-matches_any.branch [
+      | then-matches_any+in_ok-put_known w ↦
+          underway-put (c.args.messages.now ++ batch_messages c.args.known.now c.args.batch.now) c.loop-rr.messages c.if-matches_any.messages c.loop-rr.message c.if-matches_any.message asked
+          c.args.known.now c.loop-rr.rr-index c.rr-item.result c.loop-rr-test.true c.rr-item.is (sym c.matches_any.ensures ∙ w.if-matches_any.true)
           (w.messages-is ∙ w.in_ok-put_known.ensures.messages) (w.message-is ∙ w.in_ok-put_known.ensures.message) c.loop-rr.invariant
-      | else-is_asked w ↦
-          underway-over (c.args.messages.now ++ batch_messages c.args.known.now c.args.batch.now) c.loop-rr.messages c.if-is_asked.messages c.loop-rr.message c.if-is_asked.message asked
-          c.args.known.now c.loop-rr.rr-index c.rr-item.result c.loop-rr-test.true c.rr-item.is (sym c.is_asked.ensures ∙ w.if-is_asked.false)
+      | else-matches_any w ↦
+          underway-over (c.args.messages.now ++ batch_messages c.args.known.now c.args.batch.now) c.loop-rr.messages c.if-matches_any.messages c.loop-rr.message c.if-matches_any.message asked
+          c.args.known.now c.loop-rr.rr-index c.rr-item.result c.loop-rr-test.true c.rr-item.is (sym c.matches_any.ensures ∙ w.if-matches_any.false)
           w.messages-is w.message-is c.loop-rr.invariant
     ]

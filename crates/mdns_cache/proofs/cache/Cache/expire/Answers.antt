@@ -2,7 +2,7 @@ use Rattle.std.proofs.Common.{◌≡◌, IfNone, Option, Some, None, List, ◌<�
 use Rattle.std.specs.List.{HoldsAt}
 use Rattle.mdns_history.specs.Hearings.{Hearing}
 use Rattle.mdns_cache.specs.Lifetimes.{AllLive, IsFirstEnded, Holds, Stands}
-use Rattle.mdns_cache.proofs.Hearing.{Holds-from_stands, Stands-later, Stands-taken}
+use Rattle.mdns_cache.proofs.Hearing.{AllHeard-taken, Holds-from_stands, Stands-later, Stands-taken}
 use Rattle.mdns_cache.proofs.Ending.{IsTaken, taken_out}
 use Rattle.mdns_cache.proofs.cache.Cache.expire.Given as given
 use Rattle.mdns_cache.proofs.cache.Cache.expire.Goals as goal
@@ -36,3 +36,6 @@ returns-clause-stands g c = λ heard before earlier stands.
 
 pub returns-clause-taken : goal.returns-clause-taken
 returns-clause-taken g c = (taken g c).moved
+
+pub returns-clause-heard : goal.returns-clause-heard
+returns-clause-heard g c = λ moment heard. AllHeard-taken moment c.args.self.now.held c.remove.new.self.items c.remove.result (taken g c).moved heard

@@ -1,7 +1,0 @@
-use Rattle.std.proofs.Common.{rules}
-use Rattle.std.proofs.lemmas.Fn.{filter_same}
-use Rattle.mdns_cache.specs.Lifetimes.{hearing_at, is_other}
-use Rattle.mdns_cache.proofs.hear.drop_same.Goals as goal
-
-pub returns-clause-items : goal.returns-clause-items
-returns-clause-items c = filter_same _ (is_other (hearing_at 0 0 c.args.rr.now)) _ (λ x b f k. search rules) _ _ c.retain.ensures.filtered
