@@ -1,21 +1,20 @@
 -- Whether a list in order has an answer is what a binary search finds.
-use Rattle.std.proofs.Common.{◌≡◌, ℕ, true, false, List, [], length, get_or, refl, ap, ◌∙◌, sym, arith, inl, inr, Ordering, Less, Equal, Greater, Option, Some, None, Result, Ok, Err}
-use Rattle.std.specs.List.{list_any, find}
+use Rattle.std.proofs.Common.{◌≡◌, ℕ, true, false, List, length, get_or, refl, ap, ◌∙◌, sym, arith, inl, inr, Ordering, Less, Equal, Greater, Result, Ok, Err}
+use Rattle.std.specs.List.{list_any}
 use Rattle.std.specs.List.Sorted.{IsSorted, IsBinarySearchResult, IsSearchInRange}
-use Rattle.std.specs.Option.{option_map_or}
 use Rattle.std.specs.Ordering.{is_eq, ordering_reverse}
 use Rattle.std.specs.Result.{is_ok}
+use Rattle.std.specs.Cmp.{IsTotalOrder}
+use Rattle.std.proofs.lemmas.Cmp.{on_total, nat_list_cmp_total}
 use Rattle.std.proofs.lemmas.Bool.{cases_lt}
 use Rattle.std.proofs.lemmas.List.Sorted.{searchable_from_sorted}
 use Rattle.std.proofs.lemmas.List.Folds.{list_any_at, list_any_none}
 use Rattle.sd_call.specs.declared.answer.Answer.{Answer}
-use Rattle.sd_call.specs.Answers.{answer_cmp, answer_eq}
-use Rattle.dns_record.specs.declared.record.Rr.{Rr}
-use Rattle.mdns_history.specs.declared.operation.Operation.{Operation}
-use Rattle.mdns_history.specs.Sessions.{has_op}
-use Rattle.mdns_history.specs.Answers.{answers_over}
-use Rattle.sd_answer.proofs.Puts.{answer_cmp-total, answers-sorted}
-use Rattle.mdns_core.specs.Changes.{had}
+use Rattle.sd_call.specs.Answers.{answer_bytes, answer_cmp, answer_eq}
+
+answer_cmp-total : IsTotalOrder answer_cmp
+unfolding answer_cmp
+answer_cmp-total = on_total answer_bytes nat_list_cmp_total
 
 equal_turned : (x y : Answer) → answer_cmp y x ≡ Equal → answer_eq x y ≡ true
 unfolding answer_eq
@@ -37,11 +36,3 @@ found answer others sorted (Err i) within at =
     let parts = at (searchable_from_sorted answer_cmp-total (λ x. x) others answer sorted) in
     sym (list_any_none (answer_eq answer) others
     (λ k d h. elim (cases_lt k i) [ inl below ↦ apart answer (get_or others k d) Less refl (parts.0 k d (omega arith) below) | inr from ↦ apart answer (get_or others k d) Greater refl (parts.1 k d from h) ]))
-
--- what an operation had over records is in order
-pub had-sorted : (before : List Operation) (rrs : List Rr) (op : ℕ) → IsSorted answer_cmp (had before rrs op)
-had-sorted before rrs op = of (find (has_op op) before)
-  where
-    of : (operation : Option Operation) → IsSorted answer_cmp (option_map_or (λ one. answers_over one.request rrs) operation [])
-    of None = λ k d low high. absurd (omega (arith, high))
-    of (Some operation) = answers-sorted operation.request rrs

@@ -28,10 +28,6 @@ use Rattle.mdns_core.proofs.Attached.{opened-number}
 use Rattle.mdns_core.proofs.Hostless.{is_plain, IsPlain}
 use Rattle.mdns_core.proofs.Plain.{rrs_of, answers-plain, IsPlain-marked, IsPlain-cutting}
 
-unregister : (b : Bool) → not b ≡ true → b ≡ false
-unregister true h = sym h
-unregister false h = refl
-
 -- what is one on operations that register nothing
 flat_map-plain : (f g : Operation → List Item) (os : List Operation) → list_all is_plain os ≡ true → ((o : Operation) → is_register o.request ≡ false → f o ≡ g o) → flat_map f os ≡ flat_map g os
 flat_map-plain f g [] plain same = refl

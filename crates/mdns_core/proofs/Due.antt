@@ -16,7 +16,7 @@ use Rattle.mdns_history.specs.Asking.{tick_askings}
 use Rattle.mdns_history.specs.Fitting.{IsLegal}
 use Rattle.mdns_history.specs.Due.{is_nothing, is_idle, NextDue}
 use Rattle.mdns_history.proofs.LifetimeSteps.{live_of-later}
-use Rattle.mdns_cache.proofs.ListLemmas.{IsPermutation-filter}
+use Rattle.mdns_base.proofs.Permutations.{IsPermutation-filter}
 use Rattle.mdns_question.specs.declared.tracked.Tracked.{Tracked}
 use Rattle.mdns_question.specs.Tracking.{due_at}
 use Rattle.mdns_question.specs.Next.{next_of}

@@ -1,7 +1,7 @@
 -- The session of a number among those that are kept, at its place.
 use Rattle.std.proofs.Common.{◌≡◌, ℕ, zero, suc, ◌<◌, ◌≤◌, Bool, true, false, cond, List, [], ◌∷◌, drop, length, get_or, set, Some, None, nat_eq, nat_lt, refl, ap, ◌∙◌, sym, arith}
 use Rattle.std.specs.List.{find, position, position_or_len}
-use Rattle.std.proofs.lemmas.Bool.{ltb-false}
+use Rattle.std.proofs.lemmas.Bool.{ltb-false, cond-true, cond-false}
 use Rattle.std.proofs.lemmas.List.Sums.{fails_before_first}
 use Rattle.std.proofs.lemmas.List.Quantifiers.{position-Some}
 use Rattle.mdns_core.specs.declared.session.SessionState.{SessionState}
@@ -13,14 +13,6 @@ use Rattle.mdns_core.specs.Kept.{queued, session_of, sessions_of}
 -- whether a session has a number
 abbrev pub is_of : ℕ → SessionState → Bool
 is_of number state = nat_eq state.number number
-
-cond-true : {X : Type 0} (b : Bool) (x y : X) → b ≡ true → cond b x y ≡ x
-cond-true true x y e = refl
-cond-true false x y e = cc
-
-cond-false : {X : Type 0} (b : Bool) (x y : X) → b ≡ false → cond b x y ≡ y
-cond-false true x y e = cc
-cond-false false x y e = refl
 
 -- a session without the first items of its queue
 abbrev pub without_first : ℕ → SessionState → Session

@@ -2,7 +2,7 @@
 use Rattle.std.proofs.Common.{◌≡◌, ℕ, ◌+◌, ◌≤◌, Bool, true, false, cond, ◌&&◌, List, [], ◌∷◌, ◌++◌, length, Option, Some, None, Result, Ok, Err, IfOk, IfSome, refl, ap, subst, ◌∙◌, sym, arith}
 use Rattle.std.specs.List.{list_all}
 use Rattle.std.specs.Option.{option_map_or}
-use Rattle.std.proofs.lemmas.Bool.{le-ltb}
+use Rattle.std.proofs.lemmas.Bool.{le-ltb, and_from}
 use Rattle.std.proofs.lemmas.List.Folds.{list_all-append}
 use Rattle.std.specs.Option.{is_some}
 use Rattle.std.proofs.lemmas.List.Sorted.{length_permutation}
@@ -21,8 +21,7 @@ use Rattle.mdns_history.specs.declared.mark.Mark.{Mark}
 use Rattle.mdns_history.specs.declared.mark.Mark.TheVariants as mark
 use Rattle.mdns_history.specs.Hearings.{Heard, Hearing, is_ignored, counted, counted_records, brought}
 use Rattle.mdns_history.specs.Lifetimes.{live_of}
-use Rattle.mdns_cache.specs.Lifetimes.{Holds, AllHeard, hearings_at}
-use Rattle.mdns_cache.proofs.Hearing.{AllHeard-taken}
+use Rattle.mdns_cache.specs.Lifetimes.{Holds, hearings_at}
 use Rattle.mdns_core.specs.Next.{refusal_of, are_too_many, AreHeard, IsHeard}
 
 -- the records of a packet that count
@@ -103,10 +102,6 @@ heard-other moment word (event.Take session max) past held other holds = record 
     of true = refl
     of false = refl
 
-both : (a b : Bool) → a ≡ true → b ≡ true → (a && b) ≡ true
-both true b h g = g
-both false b h g = h
-
 first : (a b : Bool) → (a && b) ≡ true → a ≡ true
 first true b h = refl
 first false b h = h
@@ -119,7 +114,7 @@ second false b h = cc
 data-spellable : (rrs : List Rr) → list_all is_spellable_record rrs ≡ true → have_data rrs ≡ true
 data-spellable [] h = refl
 data-spellable (rr ∷ rrs) h =
-    both (is_spellable_data rr.rdata) (have_data rrs)
+    and_from (is_spellable_data rr.rdata) (have_data rrs)
     (second (is_spellable_name rr.owner && is_below 32 rr.ttl) (is_spellable_data rr.rdata) (first (is_spellable_record rr) (list_all is_spellable_record rrs) h))
     (data-spellable rrs (second (is_spellable_record rr) (list_all is_spellable_record rrs) h))
 
@@ -129,7 +124,7 @@ data-counted from message parts = of (is_ignored from message)
     all : have_data (message.answers ++ message.additional) ≡ true
     all =
         data-spellable (message.answers ++ message.additional)
-        (list_all-append is_spellable_record message.answers message.additional ∙ both (list_all is_spellable_record message.answers) (list_all is_spellable_record message.additional) parts.answers parts.additional)
+        (list_all-append is_spellable_record message.answers message.additional ∙ and_from (list_all is_spellable_record message.answers) (list_all is_spellable_record message.additional) parts.answers parts.additional)
 
     answered : (response : Bool) → have_data (cond response (message.answers ++ message.additional) []) ≡ true
     answered true = all
@@ -173,8 +168,3 @@ ok_always P (Err e) p = tt
 pub fewer : (o : Option Held) (before after : List Held) → is_some o ≡ true → IfSome o (λ one. IsPermutation before (one ∷ after)) → length after + 1 ≡ length before
 fewer None before after some taken = cc
 fewer (Some one) before after some taken = let same = length_permutation before (one ∷ after) taken in omega arith
-
--- what is left was heard no later
-pub heard-taken : (moment : ℕ) (o : Option Held) (before after : List Held) → is_some o ≡ true → IfSome o (λ one. IsPermutation before (one ∷ after)) → AllHeard moment before → AllHeard moment after
-heard-taken moment None before after some taken heard = cc
-heard-taken moment (Some one) before after some taken heard = AllHeard-taken moment before after one taken heard

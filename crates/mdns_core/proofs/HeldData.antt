@@ -1,6 +1,7 @@
 -- Data of the form that the types of the code allow stay so: what is held behind an event was held before it, or heard with it.
 use Rattle.std.proofs.lemmas.List.Sorted.{IsPermutation-reverse}
 use Rattle.std.proofs.Common.{◌≡◌, ℕ, ◌≤◌, Bool, true, false, cond, ◌&&◌, List, [], ◌∷◌, ◌++◌, map, reverse, refl, ap, subst, ◌∙◌, sym}
+use Rattle.std.proofs.lemmas.Bool.{and_from}
 use Rattle.std.specs.Prelude.{filter, nat_lt}
 use Rattle.std.specs.List.{list_all}
 use Rattle.dns_record.specs.declared.record.Rr.{Rr}
@@ -14,9 +15,9 @@ use Rattle.mdns_history.specs.declared.mark.Mark.{Mark}
 use Rattle.mdns_history.specs.declared.entry.Entry.{Entry}
 use Rattle.mdns_history.specs.History.{now}
 use Rattle.mdns_history.specs.Hearings.{Hearing, hearings, brought, counted_records}
-use Rattle.mdns_history.specs.Lifetimes.{is_live_at, live_of, live_records}
-use Rattle.mdns_history.proofs.LifetimeSteps.{fresh, shortened, is_other, live_of-renewal, live_of-goodbye, live_of-later}
-use Rattle.mdns_cache.specs.Lifetimes.{hearing_at, hearings_at}
+use Rattle.mdns_history.specs.Lifetimes.{is_live_at, is_other, live_of, live_records}
+use Rattle.mdns_history.proofs.LifetimeSteps.{live_of-renewal, live_of-goodbye, live_of-later}
+use Rattle.mdns_cache.specs.Lifetimes.{hearing_at, hearings_at, renewed, shortened}
 use Rattle.mdns_core.specs.State.{State, Stands}
 use Rattle.mdns_core.specs.Next.{rrs_of, is_full, heard_with, IsHeard}
 use Rattle.mdns_core.proofs.Due.{list_all-IsPermutation}
@@ -32,10 +33,6 @@ data_of-held : (held : List Held) → have_data (rrs_of held) ≡ list_all is_da
 data_of-held [] = refl
 data_of-held (h ∷ held) = ap (λ b. is_data h && b) (data_of-held held)
 
-both : (a b : Bool) → a ≡ true → b ≡ true → (a && b) ≡ true
-both true b h g = g
-both false b h g = h
-
 first : (a b : Bool) → (a && b) ≡ true → a ≡ true
 first true b h = refl
 first false b h = h
@@ -49,7 +46,7 @@ data-filter p [] h = refl
 data-filter p (x ∷ held) h = of (p x) (data-filter p held (second (is_data x) (list_all is_data held) h))
   where
     of : (b : Bool) → list_all is_data (filter p held) ≡ true → list_all is_data (cond b (x ∷ filter p held) (filter p held)) ≡ true
-    of true rest = both (is_data x) (list_all is_data (filter p held)) (first (is_data x) (list_all is_data held) h) rest
+    of true rest = and_from (is_data x) (list_all is_data (filter p held)) (first (is_data x) (list_all is_data held) h) rest
     of false rest = rest
 
 data-shortened : (hearing : Hearing) (held : List Held) → list_all is_data (map (shortened hearing) held) ≡ list_all is_data held
@@ -64,9 +61,9 @@ data-heard hearing heard moment itself form h = of (nat_lt 0 hearing.rr.ttl) ref
     of : (b : Bool) → nat_lt 0 hearing.rr.ttl ≡ b → list_all is_data (live_of (hearing ∷ heard) moment) ≡ true
     of true e =
         ap (list_all is_data) (live_of-renewal hearing heard moment itself e)
-        ∙ data-filter (is_live_at moment) (fresh hearing ∷ map (shortened hearing) (filter (is_other hearing) (live_of heard moment)))
-        (both (is_spellable_data hearing.rr.rdata) (list_all is_data (map (shortened hearing) (filter (is_other hearing) (live_of heard moment)))) form
-        (data-shortened hearing (filter (is_other hearing) (live_of heard moment)) ∙ data-filter (is_other hearing) (live_of heard moment) h))
+        ∙ data-filter (is_live_at moment) (renewed hearing ∷ map (shortened hearing) (filter (is_other hearing.rr) (live_of heard moment)))
+        (and_from (is_spellable_data hearing.rr.rdata) (list_all is_data (map (shortened hearing) (filter (is_other hearing.rr) (live_of heard moment)))) form
+        (data-shortened hearing (filter (is_other hearing.rr) (live_of heard moment)) ∙ data-filter (is_other hearing.rr) (live_of heard moment) h))
     of false e =
         ap (list_all is_data) (live_of-goodbye hearing heard moment e)
         ∙ data-filter (is_live_at moment) (map (shortened hearing) (live_of heard moment)) (data-shortened hearing (live_of heard moment) ∙ h)

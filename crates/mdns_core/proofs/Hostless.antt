@@ -19,7 +19,7 @@ use Rattle.mdns_history.specs.History.{booted, config_of}
 use Rattle.mdns_core.specs.InForce.{in_force}
 use Rattle.mdns_history.specs.declared.operation.Operation.{Operation}
 use Rattle.mdns_history.specs.Sessions.{Accepted, has_op, by_op, is_number, detached, is_attached, is_cut, accepted_call, accepted_in, after_request, after_call, updated, operations_of, operation_request}
-use Rattle.mdns_history.specs.Groups.{groups, host_of, host_group, group_of, registration_from, registration_in, registered_count, is_there, ends_group, begun_in, names_of}
+use Rattle.mdns_history.specs.Groups.{groups, host_of, host_group, group_of, registration_from, registration_in, registered_count, ends_group, begun_in, names_of}
 use Rattle.mdns_history.specs.Outcomes.{call_code, early_outcome, late_outcome, is_refused, is_name_conflict}
 use Rattle.mdns_history.specs.Fitting.{is_boot, boot_entry, next_entry, IsLegalFrom, IsLegal}
 
@@ -198,7 +198,7 @@ IsPlain-cons entry past before no_boot plain =
           ap (λ gs. filter (λ group. not (ends_group entry group)) gs ++ option_to_list (begun_in entry (registered_count past + 1) (names_of gs past))) before.no_groups
           ∙ ap (λ (c : Option Config). option_to_list (option_or (option_map host_group (option_and_then (λ config. config.host) c)) (option_map (group_of (registered_count past + 1) []) (registration_in entry)))) no_config
           ∙ ap (λ r. option_to_list (option_map (group_of (registered_count past + 1) []) r)) unmade;
-      none_registered = ap (λ r. cond (is_there r) (suc (registered_count past)) (registered_count past)) unmade ∙ before.none_registered;
+      none_registered = ap (λ r. cond (is_some r) (suc (registered_count past)) (registered_count past)) unmade ∙ before.none_registered;
       plain_operations = λ n. of n (is_number n (detached entry.event entry.outcome));
     }
   where

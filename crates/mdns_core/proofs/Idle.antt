@@ -1,14 +1,17 @@
 -- What brings nothing: an entry that leaves operations and live records brings no changes, and a tick that ends no record does nothing.
-use Rattle.std.proofs.Common.{◌≡◌, ℕ, ◌≤◌, ◌==◌, Bool, true, false, cond, not, ◌&&◌, ◌||◌, List, [], ◌∷◌, ◌++◌, map, Option, Some, None, refl, ap, ◌∙◌, sym, arith}
+use Rattle.std.proofs.Common.{◌≡◌, ℕ, ◌≤◌, ◌==◌, Bool, true, false, cond, not, ◌&&◌, ◌||◌, List, [], ◌∷◌, ◌++◌, map, Option, Some, None, refl, ap, ◌∙◌, sym, arith, append_assoc}
 use Rattle.std.specs.Prelude.{filter, nat_lt, reverse}
-use Rattle.std.specs.List.{list_all, flat_map, find}
+use Rattle.std.specs.List.{list_all, list_any, flat_map, find}
 use Rattle.std.specs.Option.{option_map_or}
+use Rattle.std.specs.Cmp.{eq_by_cmp_equiv}
+use Rattle.std.specs.Cmp.Lexicographic.{nat_list_cmp_total}
+use Rattle.std.proofs.lemmas.Bool.{or_right}
+use Rattle.std.proofs.lemmas.List.Folds.{list_any-append}
 use Rattle.dns_name.specs.Lists.{without}
 use Rattle.dns_record.specs.declared.record.Rr.{Rr}
 use Rattle.sd_call.specs.declared.answer.Answer.{Answer}
 use Rattle.sd_call.specs.declared.item.Item.TheVariants.{Add, Remove}
-use Rattle.sd_call.specs.Answers.{answer_bytes, answer_eq}
-use Rattle.sd_call.proofs.AnswerLists.{any_of, eq_refl, any_of-without}
+use Rattle.sd_call.specs.Answers.{answer_bytes, answer_cmp, answer_eq}
 use Rattle.mdns_history.specs.declared.event.Event.{Event}
 use Rattle.mdns_history.specs.declared.held.Held.{Held}
 use Rattle.mdns_history.specs.declared.entry.Entry.{Entry}
@@ -23,19 +26,28 @@ use Rattle.mdns_core.proofs.Stage.{bare, marked}
 use Rattle.mdns_core.proofs.Heard.{heard_now, hearings-marked}
 use Rattle.mdns_core.proofs.Operations.{AreRising}
 
+answer_itself : (answer : Answer) → answer_eq answer answer ≡ true
+unfolding answer_eq answer_cmp
+answer_itself answer = (eq_by_cmp_equiv nat_list_cmp_total).refl (answer_bytes answer)
+
 -- a list without its own elements
-empty_if : (us : List Answer) → ((bytes : List ℕ) → any_of bytes us ≡ false) → us ≡ []
-empty_if [] none = refl
-empty_if (a ∷ us) none =
-    let has : any_of (answer_bytes a) (a ∷ us) ≡ true = ap (λ b. b || any_of (answer_bytes a) us) (eq_refl (answer_bytes a)) in
-    let no : true ≡ false = sym has ∙ none (answer_bytes a) in cc
+without_behind : (us vs : List Answer) → without answer_eq vs (us ++ vs) ≡ []
+without_behind us [] = refl
+without_behind us (a ∷ vs) = ap (λ b. cond (not b) (a ∷ rest) rest) there ∙ again (without_behind (us ++ a ∷ []) vs)
+  where
+    rest : List Answer
+    rest = without answer_eq vs (us ++ a ∷ vs)
+
+    there : list_any (answer_eq a) (us ++ a ∷ vs) ≡ true
+    there =
+        list_any-append (answer_eq a) us (a ∷ vs)
+        ∙ or_right (list_any (answer_eq a) us) (list_any (answer_eq a) (a ∷ vs)) (ap (λ b. b || list_any (answer_eq a) vs) (answer_itself a))
+
+    again : without answer_eq vs ((us ++ a ∷ []) ++ vs) ≡ [] → rest ≡ []
+    again e = ap (λ l. without answer_eq vs l) (sym (append_assoc us (a ∷ []) vs)) ∙ e
 
 pub without-self : (us : List Answer) → without answer_eq us us ≡ []
-without-self us = empty_if (without answer_eq us us) (λ bytes. any_of-without bytes us us ∙ never (any_of bytes us))
-  where
-    never : (b : Bool) → (b && not b) ≡ false
-    never true = refl
-    never false = refl
+without-self us = without_behind [] us
 
 -- each operation is found by its number
 abbrev AreFound : List Operation → List Operation → Type 0

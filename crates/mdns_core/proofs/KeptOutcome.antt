@@ -1,5 +1,6 @@
 -- The outcomes of events, by what is kept of the sessions.
 use Rattle.std.proofs.Common.{◌≡◌, ℕ, ℤ, suc, ◌+◌, ◌==◌, Bool, true, false, cond, not, ◌&&◌, ◌||◌, List, [], ◌∷◌, map, length, Option, Some, None, refl, ap, ◌∙◌, sym, arith}
+use Rattle.std.proofs.Math.Bool.{and-false}
 use Rattle.std.specs.Prelude.{nat_le}
 use Rattle.std.specs.List.{find}
 use Rattle.std.specs.Option.{is_some, option_map, unwrap_or}
@@ -20,7 +21,7 @@ use Rattle.mdns_history.specs.Outcomes.{most_sessions, most_operations, most_ove
 use Rattle.mdns_history.specs.Fitting.{IsLegal}
 use Rattle.mdns_core.specs.State.{Session, session_in, sessions_in}
 use Rattle.mdns_core.specs.Codes.{is_running, refers_to_none, is_foreign, kept_code, has_number, call_outcome_of, kept_outcome}
-use Rattle.mdns_core.proofs.NumberLists.{has, and_false}
+use Rattle.mdns_core.proofs.NumberLists.{has}
 use Rattle.mdns_core.proofs.Attached.{holds_legal, is_attached-has}
 use Rattle.mdns_core.proofs.Hostless.{IsPlain, IsPlain-legal}
 
@@ -60,7 +61,7 @@ module _ (past : List Entry) (hostless : host_of past ≡ None) (plain : IsPlain
   never_updated : (o : Option Request) → may_update session op o past ≡ false
   never_updated None = refl
   never_updated (Some r) =
-      ap (λ (gs : List Group). is_register r && is_some (find (λ group. (group.session == session) && (group.op == op)) gs)) plain.no_groups ∙ and_false (is_register r)
+      ap (λ (gs : List Group). is_register r && is_some (find (λ group. (group.session == session) && (group.op == op)) gs)) plain.no_groups ∙ and-false (is_register r)
 
   reference-is : (r : Request) → is_bad_reference session op r past ≡ refers_to_none op r (operations_of session past)
   reference-is (request.Query kind name) = refl
@@ -83,7 +84,7 @@ module _ (past : List Entry) (hostless : host_of past ≡ None) (plain : IsPlain
   full-is : (r : Request) → is_refused session r past ≡ (is_start r && nat_le most_operations (length (operations_of session past)))
   full-is r =
       ap (λ k. is_start r && (nat_le most_operations (length (operations_of session past)) || (is_register r && nat_le most_over_life k))) plain.none_registered
-      ∙ ap (λ b. is_start r && (nat_le most_operations (length (operations_of session past)) || b)) (and_false (is_register r))
+      ∙ ap (λ b. is_start r && (nat_le most_operations (length (operations_of session past)) || b)) (and-false (is_register r))
       ∙ ap (λ b. is_start r && b) (or_false (nat_le most_operations (length (operations_of session past))))
     where
       or_false : (b : Bool) → (b || false) ≡ b
@@ -96,7 +97,7 @@ module _ (past : List Entry) (hostless : host_of past ≡ None) (plain : IsPlain
   unheld (request.Resolve label regtype) = refl
   unheld (request.Address families name) = refl
   unheld (request.Register label regtype port norename txt) =
-      ap (λ gs. norename && is_taken (names_of gs past) (instance_name label (unwrap_or (service_type regtype) no_type))) plain.no_groups ∙ and_false norename
+      ap (λ gs. norename && is_taken (names_of gs past) (instance_name label (unwrap_or (service_type regtype) no_type))) plain.no_groups ∙ and-false norename
   unheld (request.Update txt) = refl
   unheld request.Stop = refl
 

@@ -8,30 +8,12 @@ use Rattle.std.specs.Cmp.{IsTotalOrder, IsEquivalence}
 use Rattle.std.specs.Cmp.Lexicographic.{slice_cmp}
 use Rattle.std.proofs.lemmas.Cmp.{on_total, then_total, nat_cmp_total, nat_list_cmp_total, alike_right, eq_by_cmp_equiv}
 use Rattle.std.proofs.lemmas.Map.Text.{is_eq-slice_cmp}
+use Rattle.std.proofs.lemmas.Bool.{and_from, and_parts, or_parts, cond-true, cond-false}
 use Rattle.dns_name.specs.Names.{wire_of, folded, folded_eq, name_cmp}
 use Rattle.dns_name.specs.Lists.{insert_by, each_once, sorted_by, ordered}
+use Rattle.dns_name.proofs.InOrder.{any-sorted, none-filter}
 use Rattle.dns_record.specs.declared.record.Key.{Key}
 use Rattle.dns_record.specs.Records.{key_eq, key_cmp}
-
-both : (a b : Bool) → (a && b) ≡ true → (a ≡ true) × (b ≡ true)
-both true b h = (refl, h)
-both false b h = absurd (cc)
-
-and_true : (a b : Bool) → a ≡ true → b ≡ true → (a && b) ≡ true
-and_true true b h g = g
-and_true false b h g = h
-
-none_or : (a b : Bool) → (a || b) ≡ false → (a ≡ false) × (b ≡ false)
-none_or true b h = absurd (cc)
-none_or false b h = (refl, h)
-
-if_true : {X : Type 0} (b : Bool) (x y : X) → b ≡ true → cond b x y ≡ x
-if_true true x y e = refl
-if_true false x y e = cc
-
-if_false : {X : Type 0} (b : Bool) (x y : X) → b ≡ false → cond b x y ≡ y
-if_false true x y e = cc
-if_false false x y e = refl
 
 -- the order of questions is total, and questions are one where it says so
 pub key_cmp-total : IsTotalOrder key_cmp
@@ -133,7 +115,7 @@ looked_found {X = X} key q (y ∷ ys) x h = of (key_eq q (key y)) refl h (looked
 pub looked_none : {X : Type 0} (key : X → Key) (q : Key) (xs : List X) → has_key key q xs ≡ false → looked key q xs ≡ None
 looked_none key q [] h = refl
 looked_none key q (y ∷ ys) h =
-    let p = none_or _ _ h in if_false (key_eq q (key y)) (Some y) (looked key q ys) p.0 ∙ looked_none key q ys p.1
+    let p = or_parts _ _ h in cond-false (key_eq q (key y)) (Some y) (looked key q ys) p.0 ∙ looked_none key q ys p.1
 
 pub looked_has : {X : Type 0} (key : X → Key) (q : Key) (xs : List X) → is_some (looked key q xs) ≡ has_key key q xs
 looked_has key q [] = refl
@@ -149,16 +131,16 @@ looked_same key p q (y ∷ ys) e =
     ap (λ b. cond b (Some y) (looked key p ys)) (key_eq-same p q e (key y)) ∙ ap (λ o. cond (key_eq q (key y)) (Some y) o) (looked_same key p q ys e)
 
 looked_first : {X : Type 0} (key : X → Key) (x : X) (xs : List X) → looked key (key x) (x ∷ xs) ≡ Some x
-looked_first key x xs = if_true (key_eq (key x) (key x)) (Some x) (looked key (key x) xs) (key_eq-itself (key x))
+looked_first key x xs = cond-true (key_eq (key x) (key x)) (Some x) (looked key (key x) xs) (key_eq-itself (key x))
 
 pub before_all-from : {X : Type 0} (key : X → Key) (q k : Key) (xs : List X) → ((c : Key) → comes_before k c ≡ true → comes_before q c ≡ true) →
     before_all key k xs ≡ true → before_all key q xs ≡ true
 before_all-from key q k [] more h = refl
-before_all-from key q k (x ∷ xs) more h = let p = both _ _ h in and_true _ _ (more (key x) p.0) (before_all-from key q k xs more p.1)
+before_all-from key q k (x ∷ xs) more h = let p = and_parts _ _ h in and_from _ _ (more (key x) p.0) (before_all-from key q k xs more p.1)
 
 pub none_behind : {X : Type 0} (key : X → Key) (k : Key) (xs : List X) → before_all key k xs ≡ true → has_key key k xs ≡ false
 none_behind key k [] h = refl
-none_behind key k (x ∷ xs) h = let p = both _ _ h in ap (λ b. b || has_key key k xs) (before_other k (key x) p.0) ∙ none_behind key k xs p.1
+none_behind key k (x ∷ xs) h = let p = and_parts _ _ h in ap (λ b. b || has_key key k xs) (before_other k (key x) p.0) ∙ none_behind key k xs p.1
 
 -- nothing behind an element is of a question that is its own, or comes before it
 pub none_same : {X : Type 0} (key : X → Key) (q k : Key) (xs : List X) → key_eq q k ≡ true → before_all key k xs ≡ true → has_key key q xs ≡ false
@@ -187,13 +169,13 @@ same_looked {X = X} key (x ∷ xs) (y ∷ ys) s t e = of (key_cmp (key x) (key y
         ∙ sym (looked_none key q ys (none_same key q (key y) ys (key_eq-same q (key x) f (key y) ∙ one) t.0))
     behind false one q f g =
         let other : key_eq q (key y) ≡ false = key_eq-turned q (key y) ∙ sym (key_eq-same (key x) (key y) one q) ∙ key_eq-turned (key x) q ∙ f in
-        g ∙ if_false (key_eq q (key y)) (Some y) (looked key q ys) other
+        g ∙ cond-false (key_eq q (key y)) (Some y) (looked key q ys) other
 
     of : (o : Ordering) → key_cmp (key x) (key y) ≡ o → (((q : Key) → looked key q xs ≡ looked key q ys) → xs ≡ ys) → x ∷ xs ≡ y ∷ ys
     of Less c rest = absurd (none_some x (sym (alone x y ys (ap is_lt c) t.0) ∙ sym (e (key x)) ∙ looked_first key x xs))
     of Equal c rest =
         let one : key_eq (key x) (key y) ≡ true = key_eq-is (key x) (key y) ∙ ap is_eq c in
-        let first : Some x ≡ Some y = sym (looked_first key x xs) ∙ e (key x) ∙ if_true (key_eq (key x) (key y)) (Some y) (looked key (key x) ys) one in
+        let first : Some x ≡ Some y = sym (looked_first key x xs) ∙ e (key x) ∙ cond-true (key_eq (key x) (key y)) (Some y) (looked key (key x) ys) one in
         let heads : x ≡ y = cc in
         ap (λ z. z ∷ xs) heads ∙ ap (λ zs. y ∷ zs) (rest (λ q. behind (key_eq q (key x)) one q refl (e q)))
     of Greater c rest =
@@ -226,17 +208,17 @@ abbrev by_key : {X : Type 0} → (X → Key) → X → X → Ordering
 by_key key a b = key_cmp (key a) (key b)
 
 before_inserted : {X : Type 0} (key : X → Key) (k : Key) (x : X) (xs : List X) → comes_before k (key x) ≡ true → before_all key k xs ≡ true → before_all key k (insert_by (by_key key) x xs) ≡ true
-before_inserted key k x [] h g = and_true _ _ h refl
+before_inserted key k x [] h g = and_from _ _ h refl
 before_inserted {X = X} key k x (y ∷ ys) h g =
-    let p = both _ _ g in of (comes_before (key y) (key x)) p.0 (before_inserted key k x ys h p.1)
+    let p = and_parts _ _ g in of (comes_before (key y) (key x)) p.0 (before_inserted key k x ys h p.1)
   where
     of : (b : Bool) → comes_before k (key y) ≡ true → before_all key k (insert_by (by_key key) x ys) ≡ true → before_all key k (cond b (y ∷ insert_by (by_key key) x ys) (x ∷ y ∷ ys)) ≡ true
-    of true f rest = and_true _ _ f rest
-    of false f rest = and_true _ _ h g
+    of true f rest = and_from _ _ f rest
+    of false f rest = and_from _ _ h g
 
 pub strict_inserted : {X : Type 0} (key : X → Key) (x : X) (xs : List X) → has_key key (key x) xs ≡ false → IsStrict key xs → IsStrict key (insert_by (by_key key) x xs)
 strict_inserted key x [] none s = (refl, tt)
-strict_inserted {X = X} key x (y ∷ ys) none s = let p = none_or _ _ none in of (key_cmp (key y) (key x)) refl p.0 (strict_inserted key x ys p.1 s.1)
+strict_inserted {X = X} key x (y ∷ ys) none s = let p = or_parts _ _ none in of (key_cmp (key y) (key x)) refl p.0 (strict_inserted key x ys p.1 s.1)
   where
     of : (o : Ordering) → key_cmp (key y) (key x) ≡ o → key_eq (key x) (key y) ≡ false → IsStrict key (insert_by (by_key key) x ys) →
         IsStrict key (cond (is_lt o) (y ∷ insert_by (by_key key) x ys) (x ∷ y ∷ ys))
@@ -245,12 +227,12 @@ strict_inserted {X = X} key x (y ∷ ys) none s = let p = none_or _ _ none in of
         let one : key_eq (key x) (key y) ≡ true = key_eq-turned (key x) (key y) ∙ key_eq-is (key y) (key x) ∙ ap is_eq c in absurd (cc)
     of Greater c other rest =
         let first : comes_before (key x) (key y) ≡ true = ap is_lt (key_cmp-total.antisymm (key x) (key y) ∙ ap ordering_reverse c) in
-        (and_true _ _ first (before_all-from key (key x) (key y) ys (λ k g. before_before (key x) (key y) k first g) s.0), s)
+        (and_from _ _ first (before_all-from key (key x) (key y) ys (λ k g. before_before (key x) (key y) k first g) s.0), s)
 
 pub looked_inserted : {X : Type 0} (key : X → Key) (q : Key) (x : X) (xs : List X) → has_key key (key x) xs ≡ false →
     looked key q (insert_by (by_key key) x xs) ≡ cond (key_eq q (key x)) (Some x) (looked key q xs)
 looked_inserted key q x [] none = refl
-looked_inserted {X = X} key q x (y ∷ ys) none = let p = none_or _ _ none in of (comes_before (key y) (key x)) p.0 (looked_inserted key q x ys p.1)
+looked_inserted {X = X} key q x (y ∷ ys) none = let p = or_parts _ _ none in of (comes_before (key y) (key x)) p.0 (looked_inserted key q x ys p.1)
   where
     swapped : (a b : Bool) → key_eq q (key x) ≡ a → key_eq q (key y) ≡ b → key_eq (key x) (key y) ≡ false → cond b (Some y) (cond a (Some x) (looked key q ys)) ≡ cond a (Some x) (cond b (Some y) (looked key q ys))
     swapped true true f g other = let one : key_eq q (key y) ≡ key_eq (key x) (key y) = key_eq-same q (key x) f (key y) in absurd (cc)
@@ -286,10 +268,10 @@ looked_map {X = X} key f q (x ∷ xs) = of (key_eq q (key (f x))) (looked_map ke
 
 before_all-filter : {X : Type 0} (key : X → Key) (p : X → Bool) (k : Key) (xs : List X) → before_all key k xs ≡ true → before_all key k (filter p xs) ≡ true
 before_all-filter key p k [] h = refl
-before_all-filter {X = X} key p k (x ∷ xs) h = let g = both _ _ h in of (p x) g.0 (before_all-filter key p k xs g.1)
+before_all-filter {X = X} key p k (x ∷ xs) h = let g = and_parts _ _ h in of (p x) g.0 (before_all-filter key p k xs g.1)
   where
     of : (b : Bool) → comes_before k (key x) ≡ true → before_all key k (filter p xs) ≡ true → before_all key k (cond b (x ∷ filter p xs) (filter p xs)) ≡ true
-    of true f rest = and_true _ _ f rest
+    of true f rest = and_from _ _ f rest
     of false f rest = rest
 
 pub strict_filter : {X : Type 0} (key : X → Key) (p : X → Bool) (xs : List X) → IsStrict key xs → IsStrict key (filter p xs)
@@ -311,10 +293,10 @@ looked_filter {X = X} key p q (x ∷ xs) s = of (p x) refl (key_eq q (key x)) re
   where
     of : (b : Bool) → p x ≡ b → (c : Bool) → key_eq q (key x) ≡ c → looked key q (filter p xs) ≡ if_passes p (looked key q xs) →
         looked key q (cond b (x ∷ filter p xs) (filter p xs)) ≡ if_passes p (cond c (Some x) (looked key q xs))
-    of true e true f ih = if_true (key_eq q (key x)) (Some x) (looked key q (filter p xs)) f ∙ sym (if_true (p x) (Some x) None e)
-    of true e false f ih = if_false (key_eq q (key x)) (Some x) (looked key q (filter p xs)) f ∙ ih
+    of true e true f ih = cond-true (key_eq q (key x)) (Some x) (looked key q (filter p xs)) f ∙ sym (cond-true (p x) (Some x) None e)
+    of true e false f ih = cond-false (key_eq q (key x)) (Some x) (looked key q (filter p xs)) f ∙ ih
     of false e true f ih =
-        ih ∙ ap (if_passes p) (looked_none key q xs (none_same key q (key x) xs f s.0)) ∙ sym (if_false (p x) (Some x) None e)
+        ih ∙ ap (if_passes p) (looked_none key q xs (none_same key q (key x) xs f s.0)) ∙ sym (cond-false (p x) (Some x) None e)
     of false e false f ih = ih
 
 -- questions in order, each once
@@ -326,20 +308,12 @@ abbrev AreApart : List Key → Type 0
 AreApart [] = Unit {0}
 AreApart (k ∷ ks) = (has_key itself k ks ≡ false) × AreApart ks
 
-any_filter : (p : Key → Bool) (r : Key → Bool) (ks : List Key) → list_any r ks ≡ false → list_any r (filter p ks) ≡ false
-any_filter p r [] h = refl
-any_filter p r (k ∷ ks) h = let g = none_or _ _ h in of (p k) g.0 (any_filter p r ks g.1)
-  where
-    of : (b : Bool) → r k ≡ false → list_any r (filter p ks) ≡ false → list_any r (cond b (k ∷ filter p ks) (filter p ks)) ≡ false
-    of true f rest = ap (λ c. c || list_any r (filter p ks)) f ∙ rest
-    of false f rest = rest
-
 apart_filter : (p : Key → Bool) (ks : List Key) → AreApart ks → AreApart (filter p ks)
 apart_filter p [] h = tt
 apart_filter p (k ∷ ks) h = of (p k) (apart_filter p ks h.1)
   where
     of : (b : Bool) → AreApart (filter p ks) → AreApart (cond b (k ∷ filter p ks) (filter p ks))
-    of true rest = (any_filter p (λ j. key_eq k j) ks h.0, rest)
+    of true rest = (none-filter (λ j. key_eq k j) p ks h.0, rest)
     of false rest = rest
 
 -- without those that are one question, another is still there
@@ -375,24 +349,8 @@ apart_once : (ks : List Key) → AreApart (each_once key_eq ks)
 apart_once [] = tt
 apart_once (k ∷ ks) = (none_stays k (each_once key_eq ks), apart_filter (λ j. not (key_eq k j)) (each_once key_eq ks) (apart_once ks))
 
-has_inserted : (q k : Key) (ks : List Key) → has_key itself q (insert_by key_cmp k ks) ≡ (key_eq q k || has_key itself q ks)
-has_inserted q k [] = refl
-has_inserted q k (j ∷ ks) = of (comes_before j k) (has_inserted q k ks)
-  where
-    swapped : (a b c : Bool) → (b || (a || c)) ≡ (a || (b || c))
-    swapped true true c = refl
-    swapped true false c = refl
-    swapped false true c = refl
-    swapped false false c = refl
-
-    of : (b : Bool) → has_key itself q (insert_by key_cmp k ks) ≡ (key_eq q k || has_key itself q ks) →
-        has_key itself q (cond b (j ∷ insert_by key_cmp k ks) (k ∷ j ∷ ks)) ≡ (key_eq q k || has_key itself q (j ∷ ks))
-    of true ih = ap (λ c. key_eq q j || c) ih ∙ swapped (key_eq q k) (key_eq q j) (has_key itself q ks)
-    of false ih = refl
-
 has_sorted : (q : Key) (ks : List Key) → has_key itself q (sorted_by key_cmp ks) ≡ has_key itself q ks
-has_sorted q [] = refl
-has_sorted q (k ∷ ks) = has_inserted q k (sorted_by key_cmp ks) ∙ ap (λ c. key_eq q k || c) (has_sorted q ks)
+has_sorted q ks = any-sorted key_cmp (key_eq q) ks
 
 strict_sorted : (ks : List Key) → AreApart ks → IsStrict itself (sorted_by key_cmp ks)
 strict_sorted [] apart = tt
@@ -411,11 +369,11 @@ strict_ordered ks = subst (λ zs. IsStrict itself zs) (sym (ordered-is ks)) (str
 module _ {X : Type 0} (key : X → Key) (give : Key → Option X) (own : (k : Key) (x : X) → give k ≡ Some x → key_eq k (key x) ≡ true) where
   before_given : (k : Key) (ks : List Key) → before_all itself k ks ≡ true → before_all key k (filter_map give ks) ≡ true
   before_given k [] h = refl
-  before_given k (j ∷ ks) h = let p = both _ _ h in of (give j) refl p.0 (before_given k ks p.1)
+  before_given k (j ∷ ks) h = let p = and_parts _ _ h in of (give j) refl p.0 (before_given k ks p.1)
     where
       of : (o : Option X) → give j ≡ o → comes_before k j ≡ true → before_all key k (filter_map give ks) ≡ true → before_all key k (cons_option o (filter_map give ks)) ≡ true
       of None e f rest = rest
-      of (Some x) e f rest = and_true _ _ (sym (before_right j (key x) (own j x e) k) ∙ f) rest
+      of (Some x) e f rest = and_from _ _ (sym (before_right j (key x) (own j x e) k) ∙ f) rest
 
   pub strict_given : (ks : List Key) → IsStrict itself ks → IsStrict key (filter_map give ks)
   strict_given [] s = tt
@@ -440,7 +398,7 @@ module _ {X : Type 0} (key : X → Key) (give : Key → Option X) (own : (k : Ke
           let nothing : give q ≡ None = alike q k f ∙ e in ih ∙ sym (none (has_key itself q ks) nothing) ∙ sym nothing
       of None e false f ih = ih
       of (Some x) e true f ih =
-          if_true (key_eq q (key x)) (Some x) (looked key q (filter_map give ks)) (key_eq-same q k f (key x) ∙ own k x e) ∙ sym (alike q k f ∙ e)
+          cond-true (key_eq q (key x)) (Some x) (looked key q (filter_map give ks)) (key_eq-same q k f (key x) ∙ own k x e) ∙ sym (alike q k f ∙ e)
       of (Some x) e false f ih =
           let other : key_eq q (key x) ≡ false = key_eq-turned q (key x) ∙ sym (key_eq-same k (key x) (own k x e) q) ∙ key_eq-turned k q ∙ f in
-          if_false (key_eq q (key x)) (Some x) (looked key q (filter_map give ks)) other ∙ ih
+          cond-false (key_eq q (key x)) (Some x) (looked key q (filter_map give ks)) other ∙ ih

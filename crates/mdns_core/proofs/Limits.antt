@@ -1,5 +1,6 @@
 -- What holds of queues and of sessions that were never opened, in a legal history of a daemon without a host.
 use Rattle.std.proofs.Common.{◌≡◌, ℕ, zero, suc, ◌+◌, ◌<◌, ◌≤◌, Bool, true, false, cond, ◌&&◌, ◌||◌, List, [], ◌∷◌, drop, length, None, refl, ap, subst, ◌∙◌, sym, arith}
+use Rattle.std.proofs.Math.Bool.{and-false}
 use Rattle.std.specs.Option.{is_some}
 use Rattle.dns_name.specs.Lists.{count_up}
 use Rattle.sd_call.specs.declared.item.Item.{Item}
@@ -14,7 +15,7 @@ use Rattle.mdns_history.specs.Items.{session_items, taken_items, queue}
 use Rattle.mdns_history.specs.Outcomes.{early_outcome}
 use Rattle.mdns_history.specs.Fitting.{boot_entry, IsLegalFrom, IsLegal}
 use Rattle.mdns_history.proofs.LegalReplay.{Holds}
-use Rattle.mdns_core.proofs.NumberLists.{has, has-filter, and_false, within-count_up}
+use Rattle.mdns_core.proofs.NumberLists.{has, has-filter, within-count_up}
 use Rattle.mdns_core.proofs.Stage.{marked, entry_after}
 use Rattle.mdns_core.proofs.Attached.{holds_legal, opened_count-next}
 use Rattle.mdns_core.proofs.Hostless.{host_of-cons, IsPlain-legal}
@@ -45,7 +46,7 @@ unfolding attached_sessions
 not_attached n history l =
     has-filter n (λ s. is_attached s history) (count_up 1 (opened_count history))
     ∙ ap (λ b. is_attached n history && b) (of (has n (count_up 1 (opened_count history))) refl)
-    ∙ and_false (is_attached n history)
+    ∙ and-false (is_attached n history)
   where
     of : (b : Bool) → has n (count_up 1 (opened_count history)) ≡ b → b ≡ false
     of true e = let within : (1 ≤ n) × (n < 1 + opened_count history) = within-count_up n 1 (opened_count history) e in

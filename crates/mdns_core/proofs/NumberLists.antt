@@ -1,5 +1,7 @@
 -- Lists of numbers: which they have, and what a test or a function makes of them.
 use Rattle.std.proofs.Common.{◌≡◌, ℕ, zero, suc, ◌+◌, ◌<◌, ◌≤◌, ◌==◌, Bool, true, false, cond, ◌&&◌, ◌||◌, List, [], ◌∷◌, ◌++◌, map, refl, ap, ◌∙◌, sym, arith}
+use Rattle.std.proofs.Math.Bool.{and-false}
+use Rattle.std.proofs.lemmas.Bool.{or_left, or_right}
 use Rattle.std.specs.Prelude.{filter, nat_lt}
 use Rattle.std.specs.List.{list_any, list_all, flat_map}
 use Rattle.dns_name.specs.Lists.{count_up}
@@ -12,18 +14,6 @@ has n ns = list_any (λ m. m == n) ns
 abbrev pub IsRising : List ℕ → Type 0
 IsRising [] = Unit {0}
 IsRising (n ∷ ns) = (list_all (nat_lt n) ns ≡ true) × IsRising ns
-
-or_left : (a b : Bool) → a ≡ true → (a || b) ≡ true
-or_left true b h = refl
-or_left false b h = cc
-
-or_right : (a b : Bool) → b ≡ true → (a || b) ≡ true
-or_right true b h = refl
-or_right false b h = h
-
-pub and_false : (b : Bool) → (b && false) ≡ false
-and_false true = refl
-and_false false = refl
 
 pub has-first : (n : ℕ) (ns : List ℕ) → has n (n ∷ ns) ≡ true
 has-first n ns = or_left (n == n) (has n ns) (grind arith)
@@ -50,7 +40,7 @@ flat_map-same f g (n ∷ ns) same =
 
 -- a filtered list has what passes
 pub has-filter : (n : ℕ) (p : ℕ → Bool) (ns : List ℕ) → has n (filter p ns) ≡ (p n && has n ns)
-has-filter n p [] = sym (and_false (p n))
+has-filter n p [] = sym (and-false (p n))
 has-filter n p (m ∷ ns) = of (m == n) refl (has-filter n p ns)
   where
     swap : (a b c : Bool) → cond a (b || c) c ≡ ((a && b) || c)

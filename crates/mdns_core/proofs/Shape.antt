@@ -1,5 +1,6 @@
 -- The parts of the entry that follows: its marks, what it sends and gives, and which sessions it cuts.
 use Rattle.std.proofs.Common.{◌≡◌, ℕ, ◌==◌, Bool, true, false, cond, not, ◌&&◌, ◌||◌, List, [], ◌∷◌, ◌++◌, map, Option, Some, None, refl, ap, ◌∙◌, sym, arith, append-nil}
+use Rattle.std.proofs.lemmas.List.Elements.{filter_map-append}
 use Rattle.std.specs.Prelude.{filter, nat_lt}
 use Rattle.std.specs.List.{list_any, list_all, flat_map, filter_map}
 use Rattle.std.specs.Option.{option_map_or}
@@ -16,7 +17,7 @@ use Rattle.mdns_history.specs.Sessions.{is_attached, attached_sessions, is_cut, 
 use Rattle.mdns_history.specs.Groups.{host_of}
 use Rattle.mdns_history.specs.Items.{given_to, item_for, change_items, served_sessions, given_items, queue, would_pass, cut_marks}
 use Rattle.mdns_history.specs.Fitting.{is_boot, refusal_marks}
-use Rattle.mdns_history.proofs.SessionLists.{filter_map-append, items_for}
+use Rattle.mdns_history.proofs.SessionLists.{items_for}
 use Rattle.mdns_core.specs.Changes.{passes}
 use Rattle.mdns_core.proofs.NumberLists.{has, has-filter, filter-same, filter-filter, flat_map-same, IsRising, IsRising-filter}
 use Rattle.mdns_core.proofs.Stage.{sent_by, bare, duty_marks, noted_marks, marked, cutting, entry_after, entry_is}

@@ -1,5 +1,6 @@
 -- When a tick does nothing: where no live record has ended by then, and no question is asked.
 use Rattle.std.proofs.Common.{◌≡◌, ℕ, ◌≤◌, Bool, true, false, not, ◌&&◌, List, [], ◌∷◌, ◌++◌, map, None, refl, ap, ◌∙◌, arith, append-nil}
+use Rattle.std.proofs.Math.Bool.{and-false}
 use Rattle.std.specs.Prelude.{filter, nat_lt}
 use Rattle.std.specs.List.{list_all, flat_map}
 use Rattle.dns_message.specs.Packing.{pack_query}
@@ -24,7 +25,7 @@ use Rattle.mdns_history.specs.Outcomes.{early_outcome}
 use Rattle.mdns_history.specs.Fitting.{IsLegal}
 use Rattle.mdns_history.specs.Due.{is_nothing, settles_none, ends_none, is_idle}
 use Rattle.mdns_core.specs.Changes.{passes, items_between}
-use Rattle.mdns_core.proofs.NumberLists.{filter-same, flat_map-same, and_false}
+use Rattle.mdns_core.proofs.NumberLists.{filter-same, flat_map-same}
 use Rattle.mdns_core.proofs.Stage.{marked, entry_after, entry_is}
 use Rattle.mdns_core.proofs.Hostless.{IsPlain, IsPlain-legal}
 use Rattle.mdns_core.proofs.Plain.{rrs_of, sure_groups-none, IsPlain-next}
@@ -97,7 +98,7 @@ module _ (past : List Entry) (moment word : ℕ) (legal : IsLegal in_force past)
           let within : nat_lt 16777216 (frames_len (queue n past)) ≡ false = grind arith in
           ap (λ items. not (is_cut n past) && passes (queue n past) items) (brought_none none n)
           ∙ ap (λ items. not (is_cut n past) && nat_lt 16777216 (frames_len items)) (append-nil (queue n past))
-          ∙ ap (λ b. not (is_cut n past) && b) within ∙ and_false (not (is_cut n past))
+          ∙ ap (λ b. not (is_cut n past) && b) within ∙ and-false (not (is_cut n past))
 
   given_none : ends_none past moment ≡ true → (entry_after past moment word event.Tick).given ≡ []
   given_none none =

@@ -16,7 +16,7 @@ use Rattle.mdns_question.specs.declared.tracked.Tracked.{Tracked}
 use Rattle.mdns_question.specs.Tracking.{active_of, is_refreshed, due_cause, due_with, due_at}
 use Rattle.mdns_question.specs.Next.{is_wanted, is_open, open_in, next_of}
 use Rattle.mdns_question.proofs.Refreshes.{refreshed_by}
-use Rattle.mdns_question.proofs.Loops.{least_of-min, least_of-append}
+use Rattle.dns_name.proofs.Least.{least_of-min, least_of-append}
 use Rattle.mdns_core.specs.State.{asker_of}
 
 -- What is below a number and below each of several is below the least of them.

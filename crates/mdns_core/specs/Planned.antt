@@ -30,7 +30,6 @@ pub record IsPlan (opened : ℕ) (sessions : List Session) (held : List Held) (q
   pub outcome : plan.outcome ≡ kept_outcome opened sessions event
   pub well_formed : IsWellFormedCall (accepted_call event plan.outcome)
   pub changes : plan.changes.items ≡ map (change_for event plan.outcome (rrs_of held) (rrs_of plan.cache.held)) sessions
-  pub told : plan.asker.held ≡ plan.cache.held
   pub tracked : plan.asker.questions ≡ questions_after sessions now word event plan.outcome (asked_for questions plan.cache.held now refusal event) questions
   pub marks : plan.marks ≡ refusal ++ map mark_of (asked_for questions plan.cache.held now refusal event) ++ cuts_of plan.changes.items
   pub sent : plan.sent ≡ sent_for plan.cache.held now event (asked_for questions plan.cache.held now refusal event)

@@ -15,32 +15,31 @@ use dns_record::{Key, Question, Rr, matches};
 use mdns_base::Host;
 use mdns_history::{Cause, Event, Held, Mark, Marks};
 use mdns_known::known_answers;
-use mdns_question::{Asker, Tracked};
+use mdns_question::{Tracked, due_questions};
 use std::alloc::{AllocError, Global};
 
 const MDNS_PORT: u16 = 5353;
 
 /// The questions that an event at `now`, in ms, asks, each with its cause: a tick those that are due, a query of another
-/// host, unless it was refused, those that it asks in the daemon's stead. The asker was told of the records that are held
-/// after the event. Refused only for want of memory.
+/// host, unless it was refused, those that it asks in the daemon's stead. These questions have users before the event, and
+/// these records are held after it. Refused only for want of memory.
 #[tactic(auto, unfolding(crate::specs::Asked::asked_for))]
 pub fn asked_questions(
     alloc: Global,
-    asker: &Asker,
+    questions: &[Tracked],
     held: &[Held],
     now: u64,
     refusal: &[Mark],
     event: &Event,
 ) -> Result<Vec<(Key, Cause)>, AllocError>
     requires bound { now ≤ 2 ^ 53 }
-    requires told { asker.now.held ≡ held.now }
     requires heard { AllHeard now held.now }
-    ensures { IfOk result (λ asked. asked.items ≡ asked_for asker.now.questions held.now now refusal.now event.now) }
+    ensures { IfOk result (λ asked. asked.items ≡ asked_for questions.now held.now now refusal.now event.now) }
 {
     match event {
-        Event::Tick => asker.due_questions(alloc, now),
+        Event::Tick => due_questions(alloc, questions, held, now),
         Event::Hear { from, bytes } if refusal.is_empty() => {
-            asked_by_packet(alloc, asker.questions(), held, now, from, bytes.as_slice())
+            asked_by_packet(alloc, questions, held, now, from, bytes.as_slice())
         }
         _ => Ok(Vec::new(alloc)),
     }

@@ -19,12 +19,12 @@ ghost use Rattle.mdns_core.specs.Kept.{sessions_of, HaveRoom, AreFit};
 
 use crate::change::SessionChange;
 use crate::outcomes::find;
-use crate::plan::{Plan, make_plan};
+use crate::plan::{Kept, Plan, make_plan};
 use crate::session::SessionState;
 use crate::settle::{finish, make_room, settle};
 use mdns_cache::{Cache, Steps};
 use mdns_history::{Config, Entry, Event, Gifts, Marks, Outcome, Sends};
-use mdns_question::Asker;
+use mdns_question::{Asker, next_due};
 use sd_call::Item;
 use std::alloc::{AllocError, Global};
 use std::marker::Model;
@@ -57,7 +57,7 @@ impl Model for Daemon {
     ghost view = { λ d. record { last = d.last; opened = d.opened; sessions = sessions_of d.sessions.items; held = d.cache.held; questions = d.asker.questions } };
 
     ghost invariant = { λ d. HaveWellFormed (sessions_of d.sessions.items) × (d.cache.limit ≡ room_for_records) × (length d.cache.held ≤ room_for_records)
-        × AllLive d.last d.cache.held × AllHeard d.last d.cache.held × (d.asker.held ≡ d.cache.held) × HaveGaps d.asker.questions };
+        × AllLive d.last d.cache.held × AllHeard d.last d.cache.held × HaveGaps d.asker.questions };
 }
 
 impl Daemon {
@@ -118,7 +118,8 @@ impl Daemon {
         ensures value { result ≡ due_of self.now }
         ensures due { (history : List Entry) → Stands self.now history → NextDue in_force history result }
     {
-        let due = earlier(self.cache.next_end(), self.asker.next_due());
+        let asked = next_due(self.asker.questions(), self.cache.held());
+        let due = earlier(self.cache.next_end(), asked);
         not_before(self.last, due)
     }
 
@@ -148,17 +149,14 @@ impl Daemon {
         ensures ticked { OnOk result (event ≡ Event.Tick → IfSome (due_of self.new) (λ due. now < due)) }
         ensures err { OnErr result (self.new ≡ self.old) }
     {
-        let plan = make_plan(
-            self.alloc,
-            self.opened,
-            &self.sessions,
-            &self.cache,
-            &self.asker,
-            now,
-            word,
-            &event,
-            steps,
-        )?;
+        let alloc = self.alloc;
+        let kept = Kept {
+            opened: self.opened,
+            sessions: &self.sessions,
+            cache: &self.cache,
+            asker: &self.asker,
+        };
+        let plan = make_plan(alloc, &kept, now, word, &event, steps)?;
         prepare(&mut self.sessions, &plan.changes, &plan.outcome)?;
         let Plan {
             cache,
@@ -171,14 +169,7 @@ impl Daemon {
             outcome,
         } = plan;
         self.opened = opened_then(self.opened, &outcome);
-        let outcome = carry_out(
-            self.alloc,
-            &mut self.sessions,
-            &event,
-            outcome,
-            changes,
-            taken,
-        );
+        let outcome = carry_out(alloc, &mut self.sessions, &event, outcome, changes, taken);
         self.last = now;
         self.cache = cache;
         self.asker = asker;

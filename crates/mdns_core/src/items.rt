@@ -4,7 +4,6 @@ ghost use Rattle.std.specs.List.{list_any, flat_map};
 ghost use Rattle.std.specs.List.Sorted.{IsSorted};
 ghost use Rattle.std.specs.Option.{option_to_list};
 ghost use Rattle.dns_name.specs.Lists.{without};
-ghost use Rattle.dns_record.specs.Records.{matches};
 ghost use Rattle.sd_call.specs.declared.item.Item.TheVariants as item;
 ghost use Rattle.sd_call.specs.Answers.{answer_cmp, answer_eq};
 ghost use Rattle.sd_call.specs.Requests.{well_formed};
@@ -15,7 +14,7 @@ ghost use Rattle.mdns_core.specs.Next.{rrs_of};
 ghost use Rattle.mdns_core.specs.Kept.{AreWellFormed};
 
 use dns_message::Rrs;
-use dns_record::{Key, Rr, matches};
+use dns_record::{Key, matches_any};
 use mdns_history::{Held, Items, Operation};
 use sd_answer::{Answers, answers_of, questions_of};
 use sd_call::{Answer, Item, Request, answer_cmp};
@@ -121,7 +120,8 @@ fn had_by(
     held: &[Held],
 ) -> Result<Answers, AllocError>
     requires { AreWellFormed before.now }
-    ensures { IfOk result (λ answers. answers ≡ had before.now (rrs_of held.now) op) }
+    ensures value { IfOk result (λ answers. answers ≡ had before.now (rrs_of held.now) op) }
+    ensures sorted { IfOk result (λ answers. IsSorted answer_cmp answers) }
 {
     for operation in before {
         if operation.op == op {
@@ -134,7 +134,8 @@ fn had_by(
 // The answers of a request over the records that are held.
 fn answers(alloc: Global, request: &Request, held: &[Held]) -> Result<Answers, AllocError>
     requires { IsTrue (well_formed request.now) }
-    ensures { IfOk result (λ answers. answers ≡ answers_over request.now (rrs_of held.now)) }
+    ensures value { IfOk result (λ answers. answers ≡ answers_over request.now (rrs_of held.now)) }
+    ensures sorted { IfOk result (λ answers. IsSorted answer_cmp answers) }
 {
     let questions = questions_of(request);
     let rrs = asked(alloc, questions.as_slice(), held)?;
@@ -148,15 +149,9 @@ fn asked(alloc: Global, questions: &[Key], held: &[Held]) -> Result<Rrs, AllocEr
 {
     let mut rrs = Rrs::new(alloc);
     for one in held {
-        if is_asked(questions, &one.rr) {
+        if matches_any(questions, &one.rr) {
             rrs.push(one.rr.copy(alloc)?)?;
         }
     }
     Ok(rrs)
-}
-
-fn is_asked(questions: &[Key], rr: &Rr) -> bool
-    ensures { result ≡ list_any (λ key. matches key rr.now) questions.now }
-{
-    questions.iter().any(|question| matches(question, rr))
 }

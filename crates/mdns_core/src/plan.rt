@@ -37,34 +37,43 @@ pub struct Plan {
     pub outcome: Outcome,
 }
 
+/// What a daemon keeps before an event: how many sessions were opened, those that are attached, the records that are live, and
+/// the questions that have users.
+#[derive(Drop)]
+pub struct Kept<'a> {
+    pub opened: u64,
+    pub sessions: &'a [SessionState],
+    pub cache: &'a Cache,
+    pub asker: &'a Asker,
+}
+
 /// What an event at `now`, in ms, leads to. Nothing is changed. Refused only for want of memory.
 pub fn make_plan<L: Ledger>(
     alloc: Global,
-    opened: u64,
-    sessions: &[SessionState],
-    cache: &Cache,
-    asker: &Asker,
+    kept: &Kept<'_>,
     now: u64,
     word: u32,
     event: &Event,
     steps: &mut Steps<L>,
 ) -> Result<Plan, AllocError>
     requires bound { now ≤ 2 ^ 53 }
-    requires limit { cache.now.limit ≡ room_for_records }
-    requires within { length cache.now.held ≤ room_for_records }
-    requires past { AllHeard now cache.now.held }
-    requires operations { HaveWellFormed (sessions_of sessions.now) }
-    ensures { IfOk result (λ plan. IsPlan opened (sessions_of sessions.now) cache.now.held asker.now.questions now word event.now plan) }
+    requires limit { kept.now.cache.now.limit ≡ room_for_records }
+    requires within { length kept.now.cache.now.held ≤ room_for_records }
+    requires past { AllHeard now kept.now.cache.now.held }
+    requires operations { HaveWellFormed (sessions_of kept.now.sessions.now) }
+    ensures { IfOk result (λ plan. IsPlan kept.now.opened (sessions_of kept.now.sessions.now) kept.now.cache.now.held kept.now.asker.now.questions now word event.now plan) }
 {
+    let sessions = kept.sessions;
+    let cache = kept.cache;
     let Heard {
         cache: live,
         mut marks,
     } = hear_event(alloc, cache, now, word, event, steps)?;
-    let outcome = early_outcome(opened, sessions, event);
+    let outcome = early_outcome(kept.opened, sessions, event);
     let refusal = marks.as_slice();
     let asking = make_asking(
         alloc,
-        asker,
+        kept.asker,
         sessions,
         live.held(),
         now,
@@ -118,10 +127,9 @@ fn make_asking(
     ensures asked { IfOk result (λ asking. asking.asked.items ≡ asked_for asker.now.questions held.now now refusal.now event.now) }
     ensures sent { IfOk result (λ asking. asking.sent ≡ sent_for held.now now event.now asking.asked.items) }
     ensures questions { IfOk result (λ asking. asking.asker.questions ≡ questions_after (sessions_of sessions.now) now word event.now outcome.now asking.asked.items asker.now.questions) }
-    ensures told { IfOk result (λ asking. asking.asker.held ≡ held.now) }
 {
-    let mut asker = asker.copy_told(alloc, held)?;
-    let asked = asked_questions(alloc, &asker, held, now, refusal, event)?;
+    let mut asker = asker.copy_untold(alloc)?;
+    let asked = asked_questions(alloc, asker.questions(), held, now, refusal, event)?;
     let sent = queries(alloc, held, now, event, &asked)?;
     follow(&mut asker, sessions, now, word, event, outcome, &asked)?;
     Ok(Asking { asker, asked, sent })

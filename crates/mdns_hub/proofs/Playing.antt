@@ -1,7 +1,8 @@
 -- What the steps of a hub write and stand for, over plain values.
-use Rattle.std.proofs.Common.{◌≡◌, ℕ, ◌++◌, ◌∙◌, ◌&&◌, ◌==◌, not, ◌≤◌, ◌⊎◌, ⊎_elim, inl, inr, Bool, true, false, max, take, List, [], ◌∷◌, Option, Some, None, refl, sym, ap, subst}
+use Rattle.std.proofs.Common.{◌≡◌, ℕ, ◌++◌, ◌∙◌, ◌&&◌, ◌==◌, not, ◌≤◌, ◌⊎◌, ⊎_elim, inl, inr, Bool, true, false, max, take, List, [], ◌∷◌, Option, Some, None, refl, sym, ap, subst, append-nil}
 use Rattle.std.specs.Option.{is_none, is_some}
 use Rattle.std.specs.Io.KnownBytes.{Appends}
+use Rattle.std.proofs.KnownBytes.{Appends-nil, Appends-trans}
 use Rattle.std.proofs.lemmas.Bool.{false≢true}
 use Rattle.mdns_history.specs.declared.config.Config.{Config}
 use Rattle.mdns_history.specs.declared.event.Event.{Event}
@@ -29,20 +30,29 @@ use Rattle.mdns_hub.specs.declared.hub.Hub.{Hub}
 use Rattle.mdns_hub.specs.declared.hub.Booted.{Booted}
 use Rattle.mdns_hub.specs.Played.{Played, transcript, IsAt, Happens, Boots, AreTicks, IsTick, IsIdleUntil, RunsTo}
 use Rattle.mdns_hub.specs.Plays.{may_run_to, is_ready_at, is_ready, Does, Plays}
-use Rattle.mdns_hub.specs.Output.{Gains, Fronts, OrNothing, RunsPartTo, DoesPart, PlaysPart}
-use Rattle.mdns_hub.proofs.Written.{gains_then, gains_appends, fronts_then, fronts_appends, fronts_nothing}
+use Rattle.mdns_hub.specs.Output.{OrNothing, RunsPartTo, DoesPart, PlaysPart}
+use Rattle.mdns_hub.proofs.Written.{part_nothing, part_whole, part_then, history_text-append}
 use Rattle.mdns_hub.specs.Hubs.{StandsFor, BootedFor, Advances, BreaksIn, number_of, hub_ready}
 
--- gains told of the print of a numbered history are gains of what was played
-gains_numbered : (old new : Option (List ℕ)) (played : Played) (number : ℕ) (history : List Entry) → played.number ≡ Some number
-    → Gains old new (history_text number played.history) (history_text number history)
-    → Gains old new (transcript played) (transcript (record played { history = history }))
-gains_numbered old new played number history e g = rw e g
+-- what a step adds to the transcript was put
+abbrev pub Puts : Option (List ℕ) → Option (List ℕ) → Played → Played → Type 0
+Puts old new before after = (text : List ℕ) × (transcript after ≡ transcript before ++ text) × Appends old new text
 
-fronts_numbered : (old new : Option (List ℕ)) (played : Played) (number : ℕ) (history : List Entry) → played.number ≡ Some number
-    → Fronts old new (history_text number played.history) (history_text number history)
-    → Fronts old new (transcript played) (transcript (record played { history = history }))
-fronts_numbered old new played number history e g = rw e g
+-- a beginning of what a step adds to the transcript was put
+abbrev pub PutsPart : Option (List ℕ) → Option (List ℕ) → Played → Played → Type 0
+PutsPart old new before after = (text : List ℕ) × (transcript after ≡ transcript before ++ text) × ((n : ℕ) × Appends old new (take n text))
+
+-- nothing was put, and the transcript is as before
+pub puts_nothing : (o : Option (List ℕ)) (before after : Played) → transcript after ≡ transcript before → Puts o o before after
+puts_nothing o before after same = ([], same ∙ sym (append-nil (transcript before)), Appends-nil o)
+
+pub puts_no_part : (old new : Option (List ℕ)) (played : Played) → new ≡ old → PutsPart old new played played
+puts_no_part old new played same = ([], sym (append-nil (transcript played)), part_nothing old new [] same)
+
+-- further entries add their text to the transcript
+adds : (played : Played) (number : ℕ) (more : List Entry) → played.number ≡ Some number
+    → transcript (record played { history = more ++ played.history }) ≡ transcript played ++ history_text number more
+adds played number more e = rw e (history_text-append number more played.history)
 
 -- an entry at the hub's moment with its word is at those of what was played
 at_played : (entry : Entry) (clock word : ℕ) (happening : Event) (played : Played) → clock ≡ played.clock → word ≡ played.word → IsAt entry clock word happening → IsAt entry played.clock played.word happening
@@ -54,7 +64,7 @@ at_played entry clock word happening played now given is =
 pub happens : (old new : Option (List ℕ)) (clock word number : ℕ) (before after : State) (happening : Event) (played : Played)
     → clock ≡ played.clock → word ≡ played.word → played.number ≡ Some number → Stands before played.history
     → ((history : List Entry) → Stands before history → (entry : Entry) × Fits in_force entry history × IsAt entry clock word happening × Stands after (entry ∷ history) × Appends old new (entry_text number entry))
-    → (next : Played) × Happens happening played next × (clock ≡ next.clock) × (word ≡ next.word) × (next.number ≡ Some number) × Stands after next.history × Gains old new (transcript played) (transcript next)
+    → (next : Played) × Happens happening played next × (clock ≡ next.clock) × (word ≡ next.word) × (next.number ≡ Some number) × Stands after next.history × Puts old new played next
 happens old new clock word number before after happening played now given numbered stands done =
     let d = done played.history stands in (
       record played { history = d.0 ∷ played.history },
@@ -63,20 +73,20 @@ happens old new clock word number before after happening played now given number
       given,
       numbered,
       d.3,
-      gains_numbered old new played number (d.0 ∷ played.history) numbered (gains_appends old new (history_text number played.history) (entry_text number d.0) d.4),
+      (entry_text number d.0, adds played number (d.0 ∷ []) numbered, d.4),
     )
 
 pub happens_part : (old new : Option (List ℕ)) (clock word number : ℕ) (before : State) (happening : Event) (played : Played)
     → clock ≡ played.clock → word ≡ played.word → played.number ≡ Some number → Stands before played.history
     → ((history : List Entry) → Stands before history → (new ≡ old) ⊎ ((entry : Entry) × Fits in_force entry history × IsAt entry clock word happening × ((n : ℕ) × Appends old new (take n (entry_text number entry)))))
-    → (reached : Played) × OrNothing (Happens happening) played reached × Fronts old new (transcript played) (transcript reached)
+    → (reached : Played) × OrNothing (Happens happening) played reached × PutsPart old new played reached
 happens_part old new clock word number before happening played now given numbered stands part =
     ⊎_elim
-    (λ same. (played, inr refl, fronts_nothing old new (transcript played) same))
+    (λ same. (played, inr refl, puts_no_part old new played same))
     (λ d. (
       record played { history = d.0 ∷ played.history },
       inl record { entry = d.0; fits = d.1; is = at_played d.0 clock word happening played now given d.2; after_is = refl },
-      fronts_numbered old new played number (d.0 ∷ played.history) numbered (fronts_appends old new (history_text number played.history) (entry_text number d.0) d.3),
+      (entry_text number d.0, adds played number (d.0 ∷ []) numbered, d.3),
     ))
     (part played.history stands)
 
@@ -93,7 +103,7 @@ boots_is played clock word number config now given in_time = record {
 pub boots : (old new : Option (List ℕ)) (clock word number : ℕ) (config : Config) (after : State) (played : Played)
     → clock ≡ played.clock → word ≡ played.word → played.number ≡ None → clock ≤ last_moment
     → Stands after (boot_entry clock word config ∷ []) → Appends old new (entry_text number (boot_entry clock word config))
-    → (next : Played) × Boots number config played next × (clock ≡ next.clock) × (word ≡ next.word) × (next.number ≡ Some number) × Stands after next.history × Gains old new (transcript played) (transcript next)
+    → (next : Played) × Boots number config played next × (clock ≡ next.clock) × (word ≡ next.word) × (next.number ≡ Some number) × Stands after next.history × Puts old new played next
 boots old new clock word number config after played now given none in_time stands appended = (
   booted_played played clock word number config,
   boots_is played clock word number config now given in_time,
@@ -101,17 +111,17 @@ boots old new clock word number config after played now given none in_time stand
   given,
   refl,
   stands,
-  rw none (gains_appends old new [] (entry_text number (boot_entry clock word config)) appended),
+  (entry_text number (boot_entry clock word config), rw none refl, appended),
 )
 
 pub boots_part : (old new : Option (List ℕ)) (clock word number : ℕ) (config : Config) (played : Played)
     → clock ≡ played.clock → word ≡ played.word → played.number ≡ None → clock ≤ last_moment
     → (n : ℕ) × Appends old new (take n (entry_text number (boot_entry clock word config)))
-    → (reached : Played) × OrNothing (Boots number config) played reached × Fronts old new (transcript played) (transcript reached)
+    → (reached : Played) × OrNothing (Boots number config) played reached × PutsPart old new played reached
 boots_part old new clock word number config played now given none in_time part = (
   booted_played played clock word number config,
   inl (boots_is played clock word number config now given in_time),
-  rw none (fronts_appends old new [] (entry_text number (boot_entry clock word config)) part),
+  (entry_text number (boot_entry clock word config), rw none refl, part),
 )
 
 -- Ticks.
@@ -124,31 +134,28 @@ tick_is clock word until due moment history entry next by greater fits is =
 
 -- one more tick was done
 pub ticks_more : (old mid new : Option (List ℕ)) (clock word until due moment number : ℕ) (after : State) (history ticks : List Entry) → AreTicks clock word until history ticks
-    → Gains old mid (history_text number history) (history_text number (ticks ++ history)) → IsNextDue in_force (ticks ++ history) due → due ≤ until → moment ≡ max due clock
+    → Appends old mid (history_text number ticks) → IsNextDue in_force (ticks ++ history) due → due ≤ until → moment ≡ max due clock
     → (entry : Entry) × Fits in_force entry (ticks ++ history) × IsAt entry moment word event.Tick × Stands after (entry ∷ ticks ++ history) × Appends mid new (entry_text number entry)
-    → (all : List Entry) × AreTicks clock word until history all × Stands after (all ++ history) × Gains old new (history_text number history) (history_text number (all ++ history))
-ticks_more old mid new clock word until due moment number after history ticks are gains next by greater one =
-    let then = history_text number (ticks ++ history) in (
-      one.0 ∷ ticks,
-      (are, tick_is clock word until due moment (ticks ++ history) one.0 next by greater one.1 one.2),
-      one.3,
-      gains_then old mid new (history_text number history) then (then ++ entry_text number one.0) gains (gains_appends mid new then (entry_text number one.0) one.4),
-    )
+    → (all : List Entry) × AreTicks clock word until history all × Stands after (all ++ history) × Appends old new (history_text number all)
+ticks_more old mid new clock word until due moment number after history ticks are put next by greater one = (
+  one.0 ∷ ticks,
+  (are, tick_is clock word until due moment (ticks ++ history) one.0 next by greater one.1 one.2),
+  one.3,
+  Appends-trans old mid new (history_text number ticks) (entry_text number one.0) put one.4,
+)
 
 -- one more tick was broken off
 pub ticks_part : (old mid new : Option (List ℕ)) (clock word until due moment number : ℕ) (history ticks : List Entry) → AreTicks clock word until history ticks
-    → Gains old mid (history_text number history) (history_text number (ticks ++ history)) → IsNextDue in_force (ticks ++ history) due → due ≤ until → moment ≡ max due clock
+    → Appends old mid (history_text number ticks) → IsNextDue in_force (ticks ++ history) due → due ≤ until → moment ≡ max due clock
     → (new ≡ mid) ⊎ ((entry : Entry) × Fits in_force entry (ticks ++ history) × IsAt entry moment word event.Tick × ((n : ℕ) × Appends mid new (take n (entry_text number entry))))
-    → (all : List Entry) × AreTicks clock word until history all × Fronts old new (history_text number history) (history_text number (all ++ history))
-ticks_part old mid new clock word until due moment number history ticks are gains next by greater (inl same) =
-    let then = history_text number (ticks ++ history) in
-    (ticks, are, fronts_then old mid new (history_text number history) then then gains (fronts_nothing mid new then same))
-ticks_part old mid new clock word until due moment number history ticks are gains next by greater (inr one) =
-    let then = history_text number (ticks ++ history) in (
-      one.0 ∷ ticks,
-      (are, tick_is clock word until due moment (ticks ++ history) one.0 next by greater one.1 one.2),
-      fronts_then old mid new (history_text number history) then (then ++ entry_text number one.0) gains (fronts_appends mid new then (entry_text number one.0) one.3),
-    )
+    → (all : List Entry) × AreTicks clock word until history all × ((n : ℕ) × Appends old new (take n (history_text number all)))
+ticks_part old mid new clock word until due moment number history ticks are put next by greater (inl same) =
+    (ticks, are, part_whole old mid new (history_text number ticks) put same)
+ticks_part old mid new clock word until due moment number history ticks are put next by greater (inr one) = (
+  one.0 ∷ ticks,
+  (are, tick_is clock word until due moment (ticks ++ history) one.0 next by greater one.1 one.2),
+  part_then old mid new (history_text number ticks) (entry_text number one.0) put one.3,
+)
 
 -- ticks from the hub's moment with its word are from those of what was played
 ticks_played : (clock word until : ℕ) (ticks : List Entry) (played : Played) → clock ≡ played.clock → word ≡ played.word
@@ -158,8 +165,8 @@ ticks_played clock word until ticks played now given are =
 
 pub runs_to : (old new : Option (List ℕ)) (clock word until number : ℕ) (before after : State) (played : Played)
     → clock ≡ played.clock → word ≡ played.word → played.number ≡ Some number → Stands before played.history
-    → ((history : List Entry) → Stands before history → (ticks : List Entry) × AreTicks clock word until history ticks × IsIdleUntil until (ticks ++ history) × Stands after (ticks ++ history) × Gains old new (history_text number history) (history_text number (ticks ++ history)))
-    → (next : Played) × RunsTo until played next × (until ≡ next.clock) × (word ≡ next.word) × (next.number ≡ Some number) × Stands after next.history × Gains old new (transcript played) (transcript next)
+    → ((history : List Entry) → Stands before history → (ticks : List Entry) × AreTicks clock word until history ticks × IsIdleUntil until (ticks ++ history) × Stands after (ticks ++ history) × Appends old new (history_text number ticks))
+    → (next : Played) × RunsTo until played next × (until ≡ next.clock) × (word ≡ next.word) × (next.number ≡ Some number) × Stands after next.history × Puts old new played next
 runs_to old new clock word until number before after played now given numbered stands done =
     let d = done played.history stands in (
       record played { clock = until; history = d.0 ++ played.history },
@@ -168,18 +175,18 @@ runs_to old new clock word until number before after played now given numbered s
       given,
       numbered,
       d.3,
-      rw numbered (d.4),
+      (history_text number d.0, adds played number d.0 numbered, d.4),
     )
 
 pub runs_to_part : (old new : Option (List ℕ)) (clock word until number : ℕ) (before : State) (played : Played)
     → clock ≡ played.clock → word ≡ played.word → played.number ≡ Some number → Stands before played.history
-    → ((history : List Entry) → Stands before history → (ticks : List Entry) × AreTicks clock word until history ticks × Fronts old new (history_text number history) (history_text number (ticks ++ history)))
-    → (reached : Played) × RunsPartTo until played reached × Fronts old new (transcript played) (transcript reached)
+    → ((history : List Entry) → Stands before history → (ticks : List Entry) × AreTicks clock word until history ticks × ((n : ℕ) × Appends old new (take n (history_text number ticks))))
+    → (reached : Played) × RunsPartTo until played reached × PutsPart old new played reached
 runs_to_part old new clock word until number before played now given numbered stands part =
     let d = part played.history stands in (
       record played { history = d.0 ++ played.history },
       record { ticks = d.0; are = ticks_played clock word until d.0 played now given d.1; after_is = refl },
-      fronts_numbered old new played number (d.0 ++ played.history) numbered d.2,
+      (history_text number d.0, adds played number d.0 numbered, d.2),
     )
 
 -- a tick before the boot does nothing
@@ -270,4 +277,4 @@ part_ready before command old new ready part = λ played stands.
 
 -- a command that isn't ready leaves the output as it is
 pub part_unready : (before : Hub) (command : Command) (o : Option (List ℕ)) → BreaksIn (PlaysPart command) before o o
-part_unready before command o = λ played stands. (played, inl refl, fronts_nothing o o (transcript played) refl)
+part_unready before command o = λ played stands. (played, inl refl, puts_no_part o o played refl)

@@ -1,41 +1,32 @@
--- What is written, step by step.
-use Rattle.std.proofs.Common.{◌≡◌, ℕ, ◌+◌, ◌++◌, ◌∙◌, take, length, List, Option, Some, None, Result, Ok, Err, sym, ap, arith, append_assoc, append-nil}
+-- What was put, step by step.
+use Rattle.std.proofs.Common.{◌≡◌, ℕ, ◌+◌, ◌++◌, ◌∙◌, take, length, List, [], ◌∷◌, Option, Result, Ok, Err, sym, ap, subst, append_assoc, append-nil}
 use Rattle.std.specs.Result.{OnErr}
 use Rattle.std.specs.Io.KnownBytes.{Appends}
-use Rattle.std.proofs.Math.Seq.{take-append-add}
-use Rattle.std.proofs.lemmas.List.{take_all}
-use Rattle.mdns_hub.specs.Output.{Gains, Fronts}
+use Rattle.std.proofs.KnownBytes.{Appends-nil, Appends-trans}
+use Rattle.std.proofs.Math.Seq.{take-append-add, take-length}
+use Rattle.mdns_history.specs.declared.entry.Entry.{Entry}
+use Rattle.mdns_history.specs.EntryText.{entry_text, history_text}
 
-pub gains_nothing : (o : Option (List ℕ)) (p : List ℕ) → Gains o o p p
-gains_nothing o p = λ base h. h
+-- nothing was put where the bytes are as before, and that is a beginning of every text
+pub part_nothing : (old new : Option (List ℕ)) (text : List ℕ) → new ≡ old → (n : ℕ) × Appends old new (take n text)
+part_nothing old new text same = (0, subst (λ (o : Option (List ℕ)). Appends old o []) (sym same) (Appends-nil old))
 
-pub gains_appends : (old new : Option (List ℕ)) (printed text : List ℕ) → Appends old new text → Gains old new printed (printed ++ text)
-gains_appends None new printed text a = λ base h. absurd (none≢some h)
-  where
-    none≢some : {x : List ℕ} → None ≡ Some x → ⊥
-    none≢some q = cc
-gains_appends (Some xs) None printed text a = absurd a
-gains_appends (Some xs) (Some ys) printed text a = λ base h.
-    let same : xs ≡ base ++ printed = cc in
-    ap (λ (l : List ℕ). Some l) (a ∙ ap (λ (l : List ℕ). l ++ text) same ∙ append_assoc base printed text)
+-- the whole of a text is a beginning of it
+pub part_whole : (old mid new : Option (List ℕ)) (text : List ℕ) → Appends old mid text → new ≡ mid → (n : ℕ) × Appends old new (take n text)
+part_whole old mid new text whole same =
+    (length text, subst (λ (o : Option (List ℕ)). Appends old o (take (length text) text)) (sym same) (subst (λ (l : List ℕ). Appends old mid l) (sym (take-length text)) whole))
 
-pub gains_then : (a b c : Option (List ℕ)) (p q r : List ℕ) → Gains a b p q → Gains b c q r → Gains a c p r
-gains_then a b c p q r g h = λ base e. h base (g base e)
+-- a beginning of one text behind the whole of another is a beginning of both
+pub part_then : (a b c : Option (List ℕ)) (p q : List ℕ) → Appends a b p → (n : ℕ) × Appends b c (take n q) → (n : ℕ) × Appends a c (take n (p ++ q))
+part_then a b c p q whole (n, part) =
+    (length p + n, subst (λ (l : List ℕ). Appends a c l) (sym (take-append-add p q n)) (Appends-trans a b c p (take n q) whole part))
 
-pub fronts_appends : (old new : Option (List ℕ)) (printed text : List ℕ) → (n : ℕ) × Appends old new (take n text) → Fronts old new printed (printed ++ text)
-fronts_appends old new printed text (n, a) = λ base e.
-    (length printed + n, gains_appends old new printed (take n text) a base e ∙ ap (λ (l : List ℕ). Some (base ++ l)) (sym (take-append-add printed text n)))
-
-pub fronts_nothing : (old new : Option (List ℕ)) (printed : List ℕ) → new ≡ old → Fronts old new printed printed
-fronts_nothing old new printed same = λ base e.
-    (length printed, same ∙ e ∙ ap (λ (l : List ℕ). Some (base ++ l)) (sym (take_all (length printed) printed (omega arith))))
-
-pub fronts_then : (a b c : Option (List ℕ)) (p q whole : List ℕ) → Gains a b p q → Fronts b c q whole → Fronts a c p whole
-fronts_then a b c p q whole g f = λ base e. f base (g base e)
-
-pub appends_nothing : (o : Option (List ℕ)) (text : List ℕ) → (n : ℕ) × Appends o o (take n text)
-appends_nothing None text = (0, tt)
-appends_nothing (Some xs) text = (0, sym (append-nil xs))
+-- the text of further entries stands behind that of the history
+pub history_text-append : (number : ℕ) (more history : List Entry) → history_text number (more ++ history) ≡ history_text number history ++ history_text number more
+history_text-append number [] history = sym (append-nil (history_text number history))
+history_text-append number (entry ∷ more) history =
+    ap (λ (l : List ℕ). l ++ entry_text number entry) (history_text-append number more history)
+    ∙ append_assoc (history_text number history) (history_text number more) (entry_text number entry)
 
 pub on_err_from : {T E P : Type 0} (r : Result T E) → P → OnErr r P
 on_err_from (Ok x) p = tt

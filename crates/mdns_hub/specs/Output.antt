@@ -1,5 +1,5 @@
--- What is written, told of what was written before.
-use Rattle.std.specs.Prelude.{◌≡◌, ◌⊎◌, ℕ, ◌≤◌, List, ◌++◌, take, Option, Some, Result, Err, true}
+-- What a command that was broken off had done, and when a sink failed.
+use Rattle.std.specs.Prelude.{◌≡◌, ◌≢◌, ◌⊎◌, ℕ, ◌≤◌, List, ◌++◌, Result, Err, true}
 use Rattle.mdns_base.specs.Outside.{Rose}
 use Rattle.mdns_history.specs.declared.entry.Entry.{Entry}
 use Rattle.mdns_script.specs.declared.command.Command.{Command}
@@ -9,18 +9,11 @@ use Rattle.mdns_hub.specs.declared.error.HubError.TheVariants.{WriteFault}
 use Rattle.mdns_hub.specs.Played.{Played, AreTicks}
 use Rattle.mdns_hub.specs.Plays.{is_ready, Does}
 
--- A sink that tells its bytes and held `printed` at its end holds `after` in its place.
-abbrev pub Gains : Option (List ℕ) → Option (List ℕ) → List ℕ → List ℕ → Type 0
-Gains old new printed after = (base : List ℕ) → old ≡ Some (base ++ printed) → new ≡ Some (base ++ after)
-
--- The same with a beginning of `whole`.
-abbrev pub Fronts : Option (List ℕ) → Option (List ℕ) → List ℕ → List ℕ → Type 0
-Fronts old new printed whole = (base : List ℕ) → old ≡ Some (base ++ printed) → (n : ℕ) × (new ≡ Some (base ++ take n whole))
-
--- the count hasn't fallen, and has risen where a write failed
+-- the count has risen where a write failed, and is as before where none did
 pub record HasWriteCause {T : Type 0} (before now : ℕ) (result : Result T HubError) : Type 0 where
   pub later : before ≤ now
   pub failed : result ≡ Err WriteFault → Rose before now
+  pub quiet : result ≢ Err WriteFault → now ≡ before
 
 -- a step was done, or nothing
 abbrev pub OrNothing : (Played → Played → Type 0) → Played → Played → Type 0

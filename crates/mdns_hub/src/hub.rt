@@ -57,7 +57,8 @@ impl Hub {
     }
 
     /// Does a command, and puts the print of each entry as one piece. After `NotYet` the hub and the output are as
-    /// before; after another error the output is a beginning of what was to be put, and the hub isn't used again.
+    /// before; after another error a beginning of what was to be put was put, and the hub isn't used again. `WriteFault`
+    /// exactly where the sink failed.
     pub fn run<K: Sink>(&mut self, command: Command, output: &mut K) -> Result<(), HubError>
         ensures done { OnOk result (Advances (Plays command) self.old self.new (K.held output.old) (K.held output.new)) }
 

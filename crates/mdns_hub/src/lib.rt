@@ -16,6 +16,7 @@ mod tests {
     use mdns_base::MemSink;
     use mdns_history::{Config, Event};
     use mdns_script::Command;
+    use std::alloc::AllocError;
     use std::test::Fail;
 
     const ALONE: Config = Config {
@@ -34,28 +35,37 @@ mod tests {
         Command::Event { daemon, event }
     }
 
+    // Does a command before the listed put, so that a put fails for want of memory alone.
+    fn run(hub: &mut Hub, command: Command, sink: &mut MemSink) -> Result<(), Fail> {
+        match hub.run(command, sink) {
+            Err(HubError::WriteFault) => Err(AllocError)?,
+            ran => ran?,
+        }
+        Ok(())
+    }
+
     #[test]
     fn plays_what_is_ready(rt: HostRuntime) -> Result<(), Fail> {
         let alloc = rt.alloc();
         let mut hub = Hub::new(alloc);
         let mut sink = MemSink::new(alloc, Vec::from_slice(alloc, &[4])?);
         let refused = Err(HubError::NotYet);
-        assert_eq!(rt; hub.run(Command::Pass, &mut sink), Ok(()));
+        run(&mut hub, Command::Pass, &mut sink)?;
         assert_eq!(rt; hub.run(Command::Attach { daemon: 1 }, &mut sink), refused);
-        assert_eq!(rt; hub.run(boot(1), &mut sink), Ok(()));
+        run(&mut hub, boot(1), &mut sink)?;
         assert_eq!(rt; hub.run(boot(2), &mut sink), refused);
         assert_eq!(rt;
             hub.run(Command::At { moment: 86_400_001 }, &mut sink),
             refused
         );
-        assert_eq!(rt; hub.run(Command::At { moment: 5 }, &mut sink), Ok(()));
+        run(&mut hub, Command::At { moment: 5 }, &mut sink)?;
         assert_eq!(rt; hub.run(Command::At { moment: 4 }, &mut sink), refused);
-        assert_eq!(rt; hub.run(Command::Attach { daemon: 1 }, &mut sink), Ok(()));
+        run(&mut hub, Command::Attach { daemon: 1 }, &mut sink)?;
         assert_eq!(rt; hub.run(Command::Attach { daemon: 2 }, &mut sink), refused);
         assert_eq!(rt; hub.run(happens(2, Event::Tick), &mut sink), refused);
         let boots = Event::Boot { config: ALONE };
         assert_eq!(rt; hub.run(happens(1, boots), &mut sink), refused);
-        assert_eq!(rt; hub.run(happens(1, Event::Tick), &mut sink), Ok(()));
+        run(&mut hub, happens(1, Event::Tick), &mut sink)?;
         assert_eq!(rt;
             hub.run(happens(1, Event::Tick), &mut sink),
             Err(HubError::WriteFault)

@@ -7,7 +7,7 @@ ghost use Rattle.mdns_core.specs.InForce.{in_force};
 ghost use Rattle.mdns_history.specs.Fitting.{Fits, is_boot};
 ghost use Rattle.mdns_core.specs.State.{Stands, due_of};
 ghost use Rattle.mdns_hub.specs.Played.{IsAt, AreTicks, IsIdleUntil};
-ghost use Rattle.mdns_hub.specs.Output.{Gains, Fronts, HasWriteCause};
+ghost use Rattle.mdns_hub.specs.Output.{HasWriteCause};
 
 use crate::HubError;
 use mdns_base::Sink;
@@ -110,12 +110,10 @@ pub fn tick_to<K: Sink>(
     ensures done { OnOk result ((history : List Entry) → Stands daemon.old history
         → (ticks : List Entry) × AreTicks clock word moment history ticks × IsIdleUntil moment (ticks ++ history)
         × Stands daemon.new (ticks ++ history)
-        × Gains (K.held output.old) (K.held output.new)
-        (history_text number history) (history_text number (ticks ++ history))) }
+        × Appends (K.held output.old) (K.held output.new) (history_text number ticks)) }
     ensures part { OnErr result ((history : List Entry) → Stands daemon.old history
         → (ticks : List Entry) × AreTicks clock word moment history ticks
-        × Fronts (K.held output.old) (K.held output.new)
-        (history_text number history) (history_text number (ticks ++ history))) }
+        × ((n : ℕ) × Appends (K.held output.old) (K.held output.new) (take n (history_text number ticks)))) }
     ensures last { OnOk result (daemon.new.last ≤ moment) }
     ensures cause { HasWriteCause (K.faults output.old) (K.faults output.new) result }
     ensures ready { result ≡ Err HubError.NotYet → ⊥ }

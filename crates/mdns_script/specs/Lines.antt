@@ -4,9 +4,9 @@ use Rattle.std.specs.Option.{option_map}
 use Rattle.std.specs.Str.{bytes_eq}
 use Rattle.mdns_base.specs.Cut.{cut_of}
 use Rattle.mdns_base.specs.declared.host.Host.{Host}
-use Rattle.mdns_base.specs.Digits.{decimal_of, decimal_below, ipv4_of, hex_of}
+use Rattle.mdns_base.specs.Digits.{◌>>=◌, decimal_of, decimal_below, ipv4_of, hex_of}
 use Rattle.mdns_history.specs.declared.event.Event.TheVariants as event
-use Rattle.mdns_script.specs.Tokens.{◌>>=◌, when}
+use Rattle.mdns_script.specs.Tokens.{when}
 use Rattle.mdns_script.specs.Requests.{request_of}
 use Rattle.mdns_script.specs.declared.command.Command.{Command}
 use Rattle.mdns_script.specs.declared.command.Command.TheVariants as commands

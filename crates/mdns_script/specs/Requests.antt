@@ -3,11 +3,11 @@ use Rattle.std.specs.Prelude.{ℕ, ◌^◌, Bool, true, false, if◌then◌else�
 use Rattle.std.specs.Option.{option_map}
 use Rattle.std.specs.Str.{bytes_eq}
 use Rattle.mdns_base.specs.Cut.{cut_of}
-use Rattle.mdns_base.specs.Digits.{decimal_below}
+use Rattle.mdns_base.specs.Digits.{◌>>=◌, decimal_below}
 use Rattle.dns_record.specs.ReadRecord.{kind_read}
 use Rattle.sd_call.specs.declared.request.Request.{Request}
 use Rattle.sd_call.specs.declared.request.Request.TheVariants as request
-use Rattle.mdns_script.specs.Tokens.{◌>>=◌, name_of, label_of, type_of, txt_of}
+use Rattle.mdns_script.specs.Tokens.{name_of, label_of, type_of, txt_of}
 
 -- after `query `: `KIND NAME`
 unfoldable pub query_of : List ℕ → Option Request

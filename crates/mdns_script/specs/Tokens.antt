@@ -1,18 +1,15 @@
 -- The tokens of lines: names, labels, service types and TXT data as text. (RFC 1035 5.1, RFC 6763 4 and 6.1)
-use Rattle.std.specs.Prelude.{ℕ, ◌==◌, nat_le, not, ◌&&◌, Bool, if◌then◌else◌, List, [], ◌∷◌, length, Option, Some, None, option_and_then, codes}
+use Rattle.std.specs.Prelude.{ℕ, ◌==◌, nat_le, not, ◌&&◌, Bool, if◌then◌else◌, List, [], ◌∷◌, length, Option, Some, None, codes}
 use Rattle.std.specs.Option.{option_map}
 use Rattle.std.specs.Result.{result_ok}
 use Rattle.std.specs.List.{list_all, slice_split}
 use Rattle.std.specs.Str.{bytes_eq, is_utf8}
+use Rattle.mdns_base.specs.Digits.{◌>>=◌}
 use Rattle.dns_name.specs.ReadName.{read_name}
 use Rattle.dns_name.specs.TextItems.{items_of, label_read}
 use Rattle.dns_name.specs.declared.items.TextItem.{TextItem}
 use Rattle.dns_name.specs.declared.items.TextItem.TheVariants.{Dot, Byte, Bad}
 use Rattle.txt_record.specs.Strings.{txt_data}
-
-infixl 10 ◌>>=◌
-abbrev pub ◌>>=◌ : {A B : Type 0} → Option A → (A → Option B) → Option B
-o >>= f = option_and_then f o
 
 -- a value where a test passes
 abbrev pub when : {A : Type 0} → Bool → A → Option A

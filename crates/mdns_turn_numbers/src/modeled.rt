@@ -24,6 +24,7 @@ impl Model for Dial {
 }
 
 impl Dial {
+    /// A dial that stands at this number.
     pub fn new(value: u32) -> Dial
         ensures { result ≡ value }
     {
@@ -32,12 +33,14 @@ impl Dial {
         }
     }
 
+    /// Sets it to another number.
     pub fn set(&mut self, to: u32)
         ensures { self.new ≡ to }
     {
         self.value = to as u64;
     }
 
+    /// The number that it stands at.
     pub fn value(&self) -> u64
         ensures { result ≡ self.now }
     {

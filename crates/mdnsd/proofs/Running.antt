@@ -4,6 +4,7 @@ use Rattle.std.proofs.Common.{inl, inr, take}
 use Rattle.std.specs.Prelude.{codes}
 use Rattle.std.specs.Result.{OnOk}
 use Rattle.std.specs.Io.KnownBytes.{Appends}
+use Rattle.std.proofs.KnownBytes.{Appends-nil, Appends-trans}
 use Rattle.mdns_script.specs.Lines.{line_of}
 use Rattle.mdns_script.specs.declared.command.Line.{Line}
 use Rattle.mdns_script.specs.declared.command.Line.TheVariants.{Bad, NotYet, Command as CommandLine}
@@ -15,9 +16,8 @@ use Rattle.mdns_history.specs.Calls.{GoodCallsSucceed}
 use Rattle.mdns_hub.specs.declared.hub.Hub.{Hub}
 use Rattle.mdns_hub.specs.declared.hub.Booted.{Booted}
 use Rattle.mdns_hub.specs.Played.{Played, start, transcript}
-use Rattle.mdns_hub.specs.Output.{Gains}
 use Rattle.mdns_hub.specs.Hubs.{StandsFor, BootedFor, BreaksIn}
-use Rattle.mdns_hub.proofs.Written.{gains_nothing, gains_then, fronts_nothing, fronts_appends, fronts_then}
+use Rattle.mdns_hub.proofs.Written.{part_nothing, part_then}
 use Rattle.mdnsd.specs.declared.stop.Stop.{Stop}
 use Rattle.mdnsd.specs.declared.stop.Stop.TheVariants as stop
 use Rattle.mdnsd.specs.Stops.{status_of}
@@ -35,10 +35,10 @@ pub record Ran (script rest : List ℕ) (number : ℕ) (hub : Hub) (old new : Op
   pub plays : PlaysAll start done played
   pub lines : lines_of script ≡ done ++ lines_of rest
   pub count : number ≡ length done + 1
-  pub gains : Gains old new [] (transcript played)
+  pub gains : Appends old new (transcript played)
 
 pub ran_start : (script : List ℕ) (hub : Hub) (o : Option (List ℕ)) → StandsFor hub start → Ran script script 1 hub o o
-ran_start script hub o stands = record { done = []; played = start; stands = stands; plays = refl; lines = refl; count = refl; gains = gains_nothing o [] }
+ran_start script hub o stands = record { done = []; played = start; stands = stands; plays = refl; lines = refl; count = refl; gains = Appends-nil o }
 
 plays_push : (first between last : Played) (done : List (List ℕ)) (line : List ℕ) → PlaysAll first done between → PlaysLine (line_of line) between last → PlaysAll first (done ++ line ∷ []) last
 plays_push first between last [] line all one = (last, subst (λ (p : Played). PlaysLine (line_of line) p last) all one, refl)
@@ -55,7 +55,7 @@ ran_next script rest line after number before next old mid new ran takes one =
       plays = plays_push start ran.played o.0 ran.done line ran.plays o.1;
       lines = ran.lines ∙ ap (λ (l : List (List ℕ)). ran.done ++ l) takes.lines ∙ sym (append_assoc ran.done (line ∷ []) (lines_of after));
       count = omega (arith, ran.count, length-append ran.done (line ∷ []));
-      gains = gains_then old mid new [] (transcript ran.played) (transcript o.0) ran.gains o.3;
+      gains = subst (λ (text : List ℕ). Appends old new text) (sym o.3.1) (Appends-trans old mid new (transcript ran.played) o.3.0 ran.gains o.3.2);
     }
 
 -- what holds of every legal history, and of none, holds of what a hub stands for
@@ -88,8 +88,8 @@ ran_stops script rest line after number hub old mid new words is_cause ran takes
       played = ran.played;
       plays = ran.plays;
       cause = s.0;
-      gains = subst (λ (n : ℕ). Gains old new [] (transcript ran.played ++ note_text words n)) ran.count
-          (gains_then old mid new [] (transcript ran.played) (transcript ran.played ++ note_text words number) ran.gains s.1);
+      gains = subst (λ (n : ℕ). Appends old new (transcript ran.played ++ note_text words n)) ran.count
+          (Appends-trans old mid new (transcript ran.played) (note_text words number) ran.gains s.1);
     }
 
 pub ran_breaks : (script rest line after : List ℕ) (number : ℕ) (hub : Hub) (old mid new : Option (List ℕ)) → Ran script rest number hub old mid → TakesLine rest line after
@@ -106,7 +106,7 @@ ran_breaks script rest line after number hub old mid new ran takes breaks =
         plays = ran.plays;
         text = subst (λ (n : ℕ). MayPrint ran.played line n b.0) ran.count b.1;
       };
-      front = fronts_then old mid new [] (transcript ran.played) b.0 ran.gains b.2;
+      front = subst (λ (whole : List ℕ). (n : ℕ) × Appends old new (take n whole)) (sym b.2.1) (part_then old mid new (transcript ran.played) b.2.0 ran.gains b.2.2);
     }
 
 -- One line.
@@ -118,7 +118,7 @@ part_none played NotYet = refl
 part_none played (CommandLine command) = inl refl
 
 pub breaks_nothing : (hub : Hub) (line : List ℕ) (o : Option (List ℕ)) → BreaksIn (PlaysPartOfLine (line_of line)) hub o o
-breaks_nothing hub line o = λ played stands. (played, part_none played (line_of line), fronts_nothing o o (transcript played) refl)
+breaks_nothing hub line o = λ played stands. (played, part_none played (line_of line), ([], sym (append-nil (transcript played)), part_nothing o o [] refl))
 
 -- a line that was broken off as it was played
 pub breaks_played : (hub : Hub) (line : List ℕ) (number : ℕ) (old new : Option (List ℕ)) → BreaksIn (PlaysPartOfLine (line_of line)) hub old new → BreaksAt hub line number old new
@@ -132,7 +132,7 @@ pub breaks_bad : (hub : Hub) (line : List ℕ) (number : ℕ) (old same new : Op
 breaks_bad hub line number old same new bad put = λ played stands.
     let note = note_text (codes "bad line ") number in
     let part = subst (λ (o : Option (List ℕ)). (n : ℕ) × Appends o new (take n note)) bad.1 put in
-    (transcript played ++ note, inr (inl (bad.0, refl)), fronts_appends old new (transcript played) note part)
+    (transcript played ++ note, inr (inl (bad.0, refl)), (note, refl, part))
 
 -- a line that isn't built at its place, as it was named
 pub breaks_not_yet : (hub : Hub) (line : List ℕ) (number : ℕ) (old same new : Option (List ℕ)) → ((played : Played) → StandsFor hub played → IsNotYet played (line_of line) × (same ≡ old))
@@ -141,7 +141,7 @@ breaks_not_yet hub line number old same new not_yet put = λ played stands.
     let cause = not_yet played stands in
     let note = note_text (codes "not yet line ") number in
     let part = subst (λ (o : Option (List ℕ)). (n : ℕ) × Appends o new (take n note)) cause.1 put in
-    (transcript played ++ note, inr (inr (cause.0, refl)), fronts_appends old new (transcript played) note part)
+    (transcript played ++ note, inr (inr (cause.0, refl)), (note, refl, part))
 
 pub stopped : {T : Type 0} {x y : Stop} → x ≡ y → ◌≡◌ {A = Result T Stop} (Err x) (Err y)
 stopped {T} e = let err : Stop → Result T Stop = λ stop. Err stop in ap err e

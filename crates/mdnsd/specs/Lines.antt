@@ -1,8 +1,8 @@
 -- What running one line of a script says, told of a hub that stands for what was played before it.
-use Rattle.std.specs.Prelude.{◌⊎◌, ◌≡◌, ℕ, ◌<◌, ◌++◌, List, ◌∷◌, length, Option, Result, Err}
+use Rattle.std.specs.Prelude.{◌⊎◌, ◌≡◌, ℕ, ◌<◌, ◌++◌, List, ◌∷◌, length, take, Option, Result, Err}
+use Rattle.std.specs.Io.KnownBytes.{Appends}
 use Rattle.mdns_hub.specs.declared.hub.Hub.{Hub}
 use Rattle.mdns_hub.specs.Played.{Played, transcript}
-use Rattle.mdns_hub.specs.Output.{Gains, Fronts}
 use Rattle.mdns_hub.specs.Hubs.{StandsFor, Advances}
 use Rattle.mdns_script.specs.Lines.{line_of}
 use Rattle.mdnsd.specs.declared.stop.Stop.{Stop}
@@ -21,12 +21,13 @@ RanLine before line after old new = Advances (PlaysLine (line_of line)) before a
 -- the line stopped the script for a cause, and a line that names it was put
 abbrev pub StopsAt : List ℕ → (Played → List ℕ → Type 0) → Hub → List ℕ → ℕ → Option (List ℕ) → Option (List ℕ) → Type 0
 StopsAt words IsCause hub line number old new =
-    (played : Played) → StandsFor hub played → IsCause played line × Gains old new (transcript played) (transcript played ++ note_text words number)
+    (played : Played) → StandsFor hub played → IsCause played line × Appends old new (note_text words number)
 
--- the line was broken off, and a beginning of what it may print was put
+-- the line was broken off, and a beginning of what it may add to the transcript was put
 abbrev pub BreaksAt : Hub → List ℕ → ℕ → Option (List ℕ) → Option (List ℕ) → Type 0
 BreaksAt hub line number old new =
-    (played : Played) → StandsFor hub played → (whole : List ℕ) × MayPrint played line number whole × Fronts old new (transcript played) whole
+    (played : Played) → StandsFor hub played → (whole : List ℕ) × MayPrint played line number whole
+    × ((text : List ℕ) × (whole ≡ transcript played ++ text) × ((n : ℕ) × Appends old new (take n text)))
 
 -- the first line of a text was taken, and what is left is shorter
 pub record TakesLine (old : List ℕ) (line new : List ℕ) : Type 0 where

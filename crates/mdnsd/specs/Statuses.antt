@@ -1,10 +1,11 @@
 -- What each status of a script says of its input and output.
-use Rattle.std.specs.Prelude.{◌⊎◌, ◌≡◌, ℕ, ◌+◌, ◌<◌, ◌≤◌, ◌++◌, List, [], ◌∷◌, length, Option, Some, codes}
+use Rattle.std.specs.Prelude.{◌⊎◌, ◌≡◌, ℕ, ◌+◌, ◌<◌, ◌≤◌, ◌++◌, List, [], ◌∷◌, length, take, Option, Some, codes}
+use Rattle.std.specs.Io.KnownBytes.{Appends}
 use Rattle.mdns_script.specs.declared.command.Line.{Line}
 use Rattle.mdns_script.specs.declared.command.Line.TheVariants.{Bad, NotYet, Command as CommandLine}
 use Rattle.mdns_script.specs.Lines.{line_of}
 use Rattle.mdns_hub.specs.Played.{Played, start, transcript}
-use Rattle.mdns_hub.specs.Output.{Gains, Fronts, PlaysPart}
+use Rattle.mdns_hub.specs.Output.{PlaysPart}
 use Rattle.mdnsd.specs.Histories.{AreServedThroughout, CallsSucceedThroughout}
 use Rattle.mdnsd.specs.Scripts.{lines_of, PlaysAll, IsNotYet, note_text}
 
@@ -33,7 +34,7 @@ IsWithin old new = Took old new (λ count. count ≤ most_bytes)
 pub record PlaysScript (script : List ℕ) (old new : Option (List ℕ)) : Type 0 where
   pub played : Played
   pub plays : PlaysAll start (lines_of script) played
-  pub gains : Gains old new [] (transcript played)
+  pub gains : Appends old new (transcript played)
   pub replays : AreServedThroughout played.history
   pub calls : CallsSucceedThroughout played.history
 
@@ -46,7 +47,7 @@ pub record Stops (script : List ℕ) (words : List ℕ) (IsCause : Played → Li
   pub played : Played
   pub plays : PlaysAll start done played
   pub cause : IsCause played line
-  pub gains : Gains old new [] (transcript played ++ note_text words (length done + 1))
+  pub gains : Appends old new (transcript played ++ note_text words (length done + 1))
 
 -- a line that is no line
 abbrev pub IsBadLine : Played → List ℕ → Type 0
@@ -87,7 +88,7 @@ pub record IsPrintable (script : List ℕ) (whole : List ℕ) : Type 0 where
 pub record BreaksOff (script : List ℕ) (old new : Option (List ℕ)) : Type 0 where
   pub whole : List ℕ
   pub printable : IsPrintable script whole
-  pub front : Fronts old new [] whole
+  pub front : (n : ℕ) × Appends old new (take n whole)
 
 -- the statuses of a script
 abbrev pub IsScriptStatus : ℕ → Type 0

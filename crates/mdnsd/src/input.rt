@@ -1,5 +1,5 @@
 // The input, read whole.
-ghost use Rattle.std.specs.Prelude.{◌≡◌, ◌≤◌, [], Some, Err, IfOk, length};
+ghost use Rattle.std.specs.Prelude.{◌≡◌, ◌≢◌, ◌≤◌, [], Some, Err, IfOk, length};
 ghost use Rattle.mdns_base.specs.Outside.{Rose};
 ghost use Rattle.mdnsd.specs.Statuses.{ReadAll, IsTooLarge, IsWithin};
 
@@ -28,6 +28,7 @@ pub fn read_all<S: Source>(alloc: Global, input: &mut S) -> Result<Vec<u8>, Read
     ensures large { result ≡ Err ReadError.TooLarge → IsTooLarge (S.left input.old) (S.left input.new) }
     ensures fault { result ≡ Err ReadError.Fault → Rose (S.faults input.old) (S.faults input.new)
         × IsWithin (S.left input.old) (S.left input.new) }
+    ensures quiet { result ≢ Err ReadError.Fault → S.faults input.new ≡ S.faults input.old }
 {
     let mut all = Vec::new(alloc);
     let mut buffer = [0u8; 4096];

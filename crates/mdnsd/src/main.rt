@@ -17,8 +17,9 @@ use std::{env, io};
 fn main(rt: HostRuntime) -> ExitCode {
     let alloc = rt.alloc();
     let mut words = Vec::new(alloc);
-    let Ok(args) = env::args(&rt) else {
-        return ExitCode::from(USAGE);
+    let args = match env::args(&rt) {
+        Ok(args) => args,
+        Err(error) => return ExitCode::from(unread_status(&error)),
     };
     for word in args.skip(1) {
         if words.push(word).is_err() {
@@ -41,6 +42,15 @@ fn main(rt: HostRuntime) -> ExitCode {
         &mut output,
         &mut NoPlace,
     ))
+}
+
+// The status where the words can't be read: memory was refused, or a word is no text.
+fn unread_status(error: &io::Error) -> u8 {
+    if error.kind() == io::ErrorKind::OutOfMemory {
+        NO_MEMORY
+    } else {
+        USAGE
+    }
 }
 
 #[cfg(test)]

@@ -1,5 +1,5 @@
 // A script, run line by line.
-ghost use Rattle.std.specs.Prelude.{ℕ, ◌≡◌, ◌⊎◌, ◌≤◌, Err, take, OnOk, OnErr, IfOk, codes, length};
+ghost use Rattle.std.specs.Prelude.{ℕ, ◌≡◌, ◌≢◌, ◌⊎◌, ◌≤◌, Err, take, OnOk, OnErr, IfOk, codes, length};
 ghost use Rattle.std.specs.Io.KnownBytes.{Appends};
 ghost use Rattle.mdns_base.specs.Outside.{Rose};
 ghost use Rattle.mdns_script.specs.Lines.{line_of};
@@ -19,13 +19,13 @@ use mdns_script::{Line, read_line};
 use std::alloc::{AllocError, Global};
 
 /// Reads the script to its end and runs it line by line. The answer is the status of the program:
-/// - 0: all lines were played, and the output is the print of every entry.
-/// - 3: a line is no line. The output is the print of the lines before it, and a line that names it.
-/// - 4: the source failed. The output is empty.
-/// - 5: the sink failed. The output is a beginning of what was to be put.
-/// - 6: memory was refused. The output is as with 5.
-/// - 7: a line isn't built yet, or not at its place. The output is as with 3.
-/// - 8: there are more than 67,108,864 bytes. The output is empty.
+/// - 0: all lines were played, and the print of every entry was put.
+/// - 3: the first word of a line begins no line. The print of the lines before it was put, and a line that names it.
+/// - 4: exactly where the source failed. Nothing is put.
+/// - 5: exactly where the sink failed. A beginning of what was to be put was put.
+/// - 6: memory was refused. What was put is as with 5.
+/// - 7: a line isn't built yet, or not at its place. What was put is as with 3.
+/// - 8: there are more than 67,108,864 bytes. Nothing is put.
 pub fn run_script<S: Source, K: Sink>(alloc: Global, input: &mut S, output: &mut K) -> u8
     ensures done { result ≡ 0 → ReadAll (S.left input.old) (S.left input.new)
         (λ script. PlaysScript script (K.held output.old) (K.held output.new)) }
@@ -36,10 +36,12 @@ pub fn run_script<S: Source, K: Sink>(alloc: Global, input: &mut S, output: &mut
 
     ensures read { result ≡ 4 → Rose (S.faults input.old) (S.faults input.new)
         × IsWithin (S.left input.old) (S.left input.new) × (output.new ≡ output.old) }
+    ensures quiet_source { result ≢ 4 → S.faults input.new ≡ S.faults input.old }
     ensures large { result ≡ 8 → IsTooLarge (S.left input.old) (S.left input.new) × (output.new ≡ output.old) }
 
-    // The output is then a beginning of what was to be printed.
+    // A beginning of what was to be printed was then put.
     ensures write { result ≡ 5 → Rose (K.faults output.old) (K.faults output.new) }
+    ensures quiet_sink { result ≢ 5 → K.faults output.new ≡ K.faults output.old }
     ensures broken { result ≡ 5 → ReadAll (S.left input.old) (S.left input.new)
         (λ script. BreaksOff script (K.held output.old) (K.held output.new)) }
     ensures memory { result ≡ 6 → (output.new ≡ output.old) ⊎ ReadAll (S.left input.old) (S.left input.new)
@@ -65,6 +67,7 @@ fn run_lines<K: Sink>(alloc: Global, script: &[u8], output: &mut K) -> Result<()
         → Stops script.now (codes "not yet line ") IsNotYetLine (K.held output.old) (K.held output.new) }
     ensures broken { IsFault result → BreaksOff script.now (K.held output.old) (K.held output.new) }
     ensures write { result ≡ Err Stop.WriteFault → Rose (K.faults output.old) (K.faults output.new) }
+    ensures quiet { result ≢ Err Stop.WriteFault → K.faults output.new ≡ K.faults output.old }
 {
     let mut hub = Hub::new(alloc);
     let mut rest = script;
@@ -80,7 +83,7 @@ fn run_lines<K: Sink>(alloc: Global, script: &[u8], output: &mut K) -> Result<()
     Ok(())
 }
 
-// Runs the line of a number. One that is no line, or isn't built, is named in the output.
+// Runs the line of a number. One whose first word begins no line, or that isn't built, is named in the output.
 fn run_numbered<K: Sink>(
     alloc: Global,
     hub: &mut Hub,
@@ -95,6 +98,7 @@ fn run_numbered<K: Sink>(
         → StopsAt (codes "not yet line ") IsNotYetLine hub.old line.now number (K.held output.old) (K.held output.new) }
     ensures broken { IsFault result → BreaksAt hub.old line.now number (K.held output.old) (K.held output.new) }
     ensures write { result ≡ Err Stop.WriteFault → Rose (K.faults output.old) (K.faults output.new) }
+    ensures quiet { result ≢ Err Stop.WriteFault → K.faults output.new ≡ K.faults output.old }
     ensures later { K.faults output.old ≤ K.faults output.new }
 {
     match run_line(alloc, hub, line, output) {
@@ -114,6 +118,7 @@ fn run_line<K: Sink>(alloc: Global, hub: &mut Hub, line: &[u8], output: &mut K) 
     ensures broken { IsFault result
         → BreaksIn (PlaysPartOfLine (line_of line.now)) hub.old (K.held output.old) (K.held output.new) }
     ensures write { result ≡ Err Stop.WriteFault → Rose (K.faults output.old) (K.faults output.new) }
+    ensures quiet { result ≢ Err Stop.WriteFault → K.faults output.new ≡ K.faults output.old }
     ensures later { K.faults output.old ≤ K.faults output.new }
 {
     match read_line(alloc, line)? {
@@ -140,6 +145,7 @@ fn put_note<K: Sink>(
         × Appends (K.held output.old) (K.held output.new) (take n (note_text words.now number)) }
     ensures others { (result ≡ Err stop) ⊎ IsFault result }
     ensures write { result ≡ Err Stop.WriteFault → Rose (K.faults output.old) (K.faults output.new) }
+    ensures quiet { result ≢ Err Stop.WriteFault → K.faults output.new ≡ K.faults output.old }
     ensures later { K.faults output.old ≤ K.faults output.new }
 {
     let note = note(alloc, words, number)?;

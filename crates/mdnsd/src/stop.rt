@@ -11,7 +11,7 @@ pub const DONE: u8 = 0;
 /// The words are no command.
 pub const USAGE: u8 = 2;
 
-/// A line of the script is no line.
+/// The first word of a line begins no line.
 pub const BAD_LINE: u8 = 3;
 
 /// The source failed.
@@ -32,7 +32,7 @@ pub const TOO_LARGE: u8 = 8;
 /// Why a script stopped before its end.
 #[derive(Clone, Copy, Debug, PartialEq, Eq)]
 pub enum Stop {
-    /// A line is no line.
+    /// The first word of a line begins no line.
     BadLine,
     /// A line isn't built yet, or not at its place.
     NotYet,

@@ -35,10 +35,12 @@ pub fn mdnsd<R: Wait + Copy + Send + 'static, S: Source, K: Sink, P: Place>(
 
     ensures read { result ≡ 4 → Rose (S.faults input.old) (S.faults input.new)
         × IsWithin (S.left input.old) (S.left input.new) × (output.new ≡ output.old) }
+    ensures quiet_source { result ≢ 4 → S.faults input.new ≡ S.faults input.old }
     ensures large { result ≡ 8 → IsTooLarge (S.left input.old) (S.left input.new) × (output.new ≡ output.old) }
 
-    // The output is then a beginning of what was to be printed.
+    // A beginning of what was to be printed was then put.
     ensures write { result ≡ 5 → Rose (K.faults output.old) (K.faults output.new) }
+    ensures quiet_sink { result ≢ 5 → K.faults output.new ≡ K.faults output.old }
     ensures broken { result ≡ 5 → ReadAll (S.left input.old) (S.left input.new)
         (λ script. BreaksOff script (K.held output.old) (K.held output.new)) }
     ensures memory { result ≡ 6 → (output.new ≡ output.old) ⊎ ReadAll (S.left input.old) (S.left input.new)

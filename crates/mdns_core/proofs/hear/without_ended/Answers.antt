@@ -1,13 +1,11 @@
-use Rattle.std.proofs.Common.{◌≡◌, ◌+◌, ◌∙◌, List, length, ap, sym, subst, arith}
-use Rattle.mdns_history.specs.declared.held.Held.{Held}
-use Rattle.mdns_cache.specs.Lifetimes.{Stands, AllHeard}
-use Rattle.mdns_cache.proofs.Hearing.{Stands-from_held}
-use Rattle.mdns_core.proofs.HeardPackets.{fewer, heard-taken}
+use Rattle.std.proofs.Common.{◌≡◌, ◌+◌, ◌∙◌, length, ap, sym, subst, arith}
+use Rattle.mdns_cache.specs.Lifetimes.{AllHeard}
+use Rattle.mdns_core.proofs.HeardPackets.{fewer}
 use Rattle.mdns_core.proofs.hear.without_ended.Goals as goal
 
 pub loop-init : goal.loop-init
 loop-init g c = record {
-  stands = λ past before earlier holds. subst (λ (held : List Held). Stands held past c.args.now) (sym c.in_ok-live.ensures.held) (Stands-from_held c.args.cache.now.held past before c.args.now earlier holds);
+  stands = λ past before earlier holds. c.in_ok-live.ensures.stands past before c.args.now earlier holds;
   limit = c.in_ok-live.ensures.limit;
   within = omega (arith, ap length c.in_ok-live.ensures.held);
   past = subst (AllHeard c.args.now) (sym c.in_ok-live.ensures.held) c.requires;
@@ -27,5 +25,5 @@ loop-preserved g c =
       stands = λ past before earlier holds. c.expire.ensures.stands past c.args.now (omega arith) (c.loop.invariant.stands past before earlier holds);
       limit = c.expire.ensures.limit ∙ c.loop.invariant.limit;
       within = omega (arith, c.loop.invariant.within);
-      past = heard-taken c.args.now c.expire.result c.loop.live.held c.expire.new.self.held (sym c.is_some.ensures ∙ c.if-is_some.true) c.expire.ensures.taken c.loop.invariant.past;
+      past = c.expire.ensures.heard c.args.now c.loop.invariant.past;
     }

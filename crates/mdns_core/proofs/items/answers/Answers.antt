@@ -7,9 +7,9 @@ use Rattle.mdns_core.specs.Next.{rrs_of}
 use Rattle.mdns_core.proofs.Asked.{asked_answers}
 use Rattle.mdns_core.proofs.items.answers.Goals as goal
 
-pub returns : goal.returns
-returns c =
+pub returns-clause-value : goal.returns-clause-value
+returns-clause-value c =
     let same : answers_over c.args.request.now c.in_ok-rrs.rrs ≡ answers_over c.args.request.now (rrs_of c.args.held.now) =
     ap (answers_over c.args.request.now) (c.in_ok-rrs.ensures ∙ ap (λ (q : List Key). matching q (rrs_of c.args.held.now)) (c.as_slice.ensures.value ∙ c.questions_of-questions.ensures))
     ∙ asked_answers c.args.request.now (rrs_of c.args.held.now) in
-    subst (λ (other : List Answer). IfOk c.answers_of.result (λ answers. answers ≡ other)) same c.answers_of.ensures
+    subst (λ (other : List Answer). IfOk c.answers_of.result (λ answers. answers ≡ other)) same c.answers_of.ensures.value

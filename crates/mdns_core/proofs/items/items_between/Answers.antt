@@ -8,8 +8,6 @@ use Rattle.sd_call.specs.Answers.{answer_cmp, answer_eq}
 use Rattle.mdns_history.specs.Answers.{answers_over}
 use Rattle.mdns_core.specs.Changes.{had, lost, gained}
 use Rattle.mdns_core.specs.Next.{rrs_of}
-use Rattle.sd_answer.proofs.Puts.{answers-sorted}
-use Rattle.mdns_core.proofs.Among.{had-sorted}
 use Rattle.mdns_core.proofs.Nexts.{flat_map-next, formed-next}
 use Rattle.mdns_core.proofs.items.items_between.Goals as goal
 
@@ -17,8 +15,8 @@ pub loop-operation-preserved : goal.loop-operation-preserved
 loop-operation-preserved c =
     let earlier : List Answer = had c.args.before.now (rrs_of c.args.earlier.now) c.operation-item.result.op in
     let later : List Answer = answers_over c.operation-item.result.request (rrs_of c.args.later.now) in
-    let is_had : c.in_ok-had.had ≡ earlier = c.in_ok-had.ensures in
-    let is_has : c.in_ok-has.has ≡ later = c.in_ok-has.ensures in
+    let is_had : c.in_ok-had.had ≡ earlier = c.in_ok-had.ensures.value in
+    let is_has : c.in_ok-has.has ≡ later = c.in_ok-has.ensures.value in
     record {
       removes = c.in_ok-put_removes.ensures
           ∙ (λ i. c.loop-operation.invariant.removes i ++ map (λ answer. item.Remove c.operation-item.result.op answer) (without answer_eq ((c.as_slice.ensures ∙ is_had) i) ((c.as_slice-in-loop-operation.ensures ∙ is_has) i)))
@@ -31,9 +29,7 @@ loop-operation-preserved c =
     }
 
 pub put_removes-requires : goal.put_removes-requires
-put_removes-requires c =
-    subst (IsSorted answer_cmp) (sym (c.as_slice-in-loop-operation.ensures ∙ c.in_ok-has.ensures)) (answers-sorted c.operation-item.result.request (rrs_of c.args.later.now))
+put_removes-requires c = subst (IsSorted answer_cmp) (sym c.as_slice-in-loop-operation.ensures) c.in_ok-has.ensures.sorted
 
 pub put_adds-requires : goal.put_adds-requires
-put_adds-requires c =
-    subst (IsSorted answer_cmp) (sym (c.as_slice-in-loop-operation-3.ensures ∙ c.in_ok-had.ensures)) (had-sorted c.args.before.now (rrs_of c.args.earlier.now) c.operation-item.result.op)
+put_adds-requires c = subst (IsSorted answer_cmp) (sym c.as_slice-in-loop-operation-3.ensures) c.in_ok-had.ensures.sorted

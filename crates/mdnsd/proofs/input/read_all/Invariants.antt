@@ -4,7 +4,7 @@ use Rattle.mdnsd.proofs.input.read_all.Given as goal
 abbrev pub invariant-pieces : goal.invariant-pieces
 invariant-pieces g l = record {
   all : (script : List ℕ) → g.S.Source.left l.fn.input ≡ Some script → (rest : List ℕ) × (script ≡ l.all.items ++ rest) × (g.S.Source.left l.input ≡ Some rest);
-  later : g.S.Source.faults l.fn.input ≤ g.S.Source.faults l.input;
+  quiet : g.S.Source.faults l.input ≡ g.S.Source.faults l.fn.input;
   short : length l.all.items ≤ 67108864 + 4096;
 }
 

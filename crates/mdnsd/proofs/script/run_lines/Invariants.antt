@@ -1,4 +1,4 @@
-use Rattle.std.proofs.Common.{◌+◌, ◌≤◌, length}
+use Rattle.std.proofs.Common.{◌≡◌, ◌+◌, ◌≤◌, length}
 use Rattle.mdnsd.proofs.Running.{Ran}
 use Rattle.mdnsd.proofs.script.run_lines.Given as goal
 
@@ -6,7 +6,7 @@ abbrev pub invariant-lines : goal.invariant-lines
 invariant-lines g l = record {
   ran : Ran l.script l.rest l.number l.hub (g.K.Sink.held l.fn.output) (g.K.Sink.held l.output);
   small : l.number + length l.rest ≤ length l.script + 1;
-  later : g.K.Sink.faults l.fn.output ≤ g.K.Sink.faults l.output;
+  quiet : g.K.Sink.faults l.output ≡ g.K.Sink.faults l.fn.output;
 }
 
 abbrev pub decreases-lines : goal.decreases-lines

@@ -4,7 +4,6 @@ use Rattle.std.specs.Option.{option_map}
 use Rattle.dns_name.specs.Lists.{least}
 use Rattle.mdns_core.specs.InForce.{in_force}
 use Rattle.mdns_history.specs.Due.{NextDue}
-use Rattle.mdns_history.specs.declared.held.Held.{Held}
 use Rattle.mdns_question.specs.Next.{next_of}
 use Rattle.mdns_core.specs.State.{due_of}
 use Rattle.mdns_core.proofs.Standing.{due-stands}
@@ -16,7 +15,7 @@ returns-clause-value c =
     let nexts : List ℕ = map (next_of c.self.inside.cache.held) c.self.inside.asker.questions in
     let least_is : c.earlier-due.result ≡ least (ends ++ nexts) =
     c.earlier-due.ensures ends nexts c.next_end.ensures.least
-    (c.next_due.ensures.least ∙ ap (λ (held : List Held). least (map (next_of held) c.self.inside.asker.questions)) c.self.invariant.5) in
+    (c.next_due-asked.ensures ∙ (λ i. least (map (next_of (c.held.ensures i)) (c.questions.ensures i)))) in
     c.not_before.ensures ∙ ap (option_map (max c.self.inside.last)) least_is ∙ ap due_of c.self.view_is
 
 pub returns-clause-due : goal.returns-clause-due

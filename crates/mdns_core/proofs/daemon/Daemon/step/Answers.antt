@@ -72,8 +72,7 @@ invariant_of-self-2 g c =
       c.in_ok-plan.ensures.within,
       c.in_ok-plan.ensures.live,
       c.in_ok-plan.ensures.past,
-      c.in_ok-plan.ensures.told,
-      subst HaveGaps (sym c.in_ok-plan.ensures.tracked) (gaps_kept _ c.args.now c.args.word c.args.event c.in_ok-plan.plan.outcome _ c.self.inside.asker.questions c.self.invariant.6),
+      subst HaveGaps (sym c.in_ok-plan.ensures.tracked) (gaps_kept _ c.args.now c.args.word c.args.event c.in_ok-plan.plan.outcome _ c.self.inside.asker.questions c.self.invariant.5),
     )
 
 pub returns-clause-ticked : goal.returns-clause-ticked
@@ -81,5 +80,5 @@ returns-clause-ticked g c = λ tick.
     let state : State = kept c.args.now c.opened_then-self-inside.result (sessions_of c.carry_out-outcome.new.sessions.items) c.in_ok-plan.plan.cache.held c.in_ok-plan.plan.asker.questions in
     let followed : Event → List Tracked = λ ev. questions_after (sessions_of c.deref.result.now) c.args.now c.args.word ev c.in_ok-plan.plan.outcome
     (asked_for c.self.inside.asker.questions c.in_ok-plan.plan.cache.held c.args.now c.in_ok-plan.ensures.refusal ev) c.self.inside.asker.questions in
-    due-ticked state (sessions_of c.deref.result.now) c.args.word c.in_ok-plan.plan.outcome c.in_ok-plan.ensures.refusal c.self.inside.asker.questions c.in_ok-plan.ensures.live c.self.invariant.6
+    due-ticked state (sessions_of c.deref.result.now) c.args.word c.in_ok-plan.plan.outcome c.in_ok-plan.ensures.refusal c.self.inside.asker.questions c.in_ok-plan.ensures.live c.self.invariant.5
     (c.in_ok-plan.ensures.tracked ∙ ap followed tick)

@@ -4,10 +4,9 @@ use Rattle.mdns_history.specs.declared.entry.Entry.{Entry}
 use Rattle.mdns_history.specs.EntryText.{entry_text}
 use Rattle.mdns_core.specs.State.{Stands}
 use Rattle.mdns_hub.specs.declared.hub.Booted.{Booted}
-use Rattle.mdns_hub.specs.Played.{transcript}
 use Rattle.mdns_hub.specs.Hubs.{BootedFor}
-use Rattle.mdns_hub.proofs.Written.{on_err_from, fronts_nothing}
-use Rattle.mdns_hub.proofs.Playing.{boots, boots_part, none_from}
+use Rattle.mdns_hub.proofs.Written.{on_err_from}
+use Rattle.mdns_hub.proofs.Playing.{boots, boots_part, none_from, puts_no_part}
 use Rattle.mdns_hub.proofs.hub.Hub.boot.Goals as goal
 
 pub returns-clause-done : goal.returns-clause-done
@@ -35,4 +34,4 @@ returns-in_err-put_entry-clause-part g c = on_err_from c.from_residual-in_err-pu
 
 pub returns-in_err-daemon-clause-part : goal.returns-in_err-daemon-clause-part
 returns-in_err-daemon-clause-part g c = on_err_from c.from_residual.result (λ played stands.
-    (played, inr refl, fronts_nothing (g.K.Sink.held c.args.output.now) (g.K.Sink.held c.args.output.now) (transcript played) refl))
+    (played, inr refl, puts_no_part (g.K.Sink.held c.args.output.now) (g.K.Sink.held c.args.output.now) played refl))

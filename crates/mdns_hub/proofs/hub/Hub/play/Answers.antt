@@ -1,9 +1,8 @@
 use Rattle.std.proofs.Common.{refl, sym, subst}
 use Rattle.mdns_script.specs.declared.command.Command.{Command}
-use Rattle.mdns_hub.specs.Played.{Played, transcript}
+use Rattle.mdns_hub.specs.Played.{Played}
 use Rattle.mdns_hub.specs.Plays.{Does}
-use Rattle.mdns_hub.proofs.Written.{gains_nothing}
-use Rattle.mdns_hub.proofs.Playing.{with_word, ready_boot, ready_run, ready_attach, ready_event}
+use Rattle.mdns_hub.proofs.Playing.{puts_nothing, with_word, ready_boot, ready_run, ready_attach, ready_event}
 use Rattle.mdns_hub.proofs.hub.Hub.play.Goals as goal
 
 pub boot-requires-clause-free : goal.boot-requires-clause-free
@@ -30,5 +29,5 @@ returns-in-Word-clause-done g c = λ played stands.
       next,
       subst (λ (command : Command). Does command played next) (sym c.in-Word.is) refl,
       record { clock = stands.clock; word = refl; booted = with_word c.args.self.now.booted played c.in-Word.word stands.booted },
-      gains_nothing (g.K.Sink.held c.args.output.now) (transcript played),
+      puts_nothing (g.K.Sink.held c.args.output.now) played next refl,
     )

@@ -1,9 +1,9 @@
 use Rattle.std.proofs.Common.{Option, refl, sym, subst}
 use Rattle.mdns_hub.specs.declared.hub.Booted.{Booted}
-use Rattle.mdns_hub.specs.Played.{Played, transcript}
+use Rattle.mdns_hub.specs.Played.{Played}
 use Rattle.mdns_hub.specs.Hubs.{BootedFor}
-use Rattle.mdns_hub.proofs.Written.{gains_nothing, on_err_from}
-use Rattle.mdns_hub.proofs.Playing.{runs_to, runs_to-none, runs_to_part}
+use Rattle.mdns_hub.proofs.Written.{on_err_from}
+use Rattle.mdns_hub.proofs.Playing.{puts_nothing, runs_to, runs_to-none, runs_to_part}
 use Rattle.mdns_hub.proofs.hub.Hub.run_to.Goals as goal
 
 pub returns-in_ok-tick_to-in-Some-clause-done : goal.returns-in_ok-tick_to-in-Some-clause-done
@@ -20,7 +20,7 @@ returns-in-None-clause-done g c = λ played stands.
       next,
       runs_to-none c.args.moment played booted.1,
       record { clock = refl; word = stands.word; booted = subst (λ (b : Option Booted). BootedFor b next) (sym c.in-None.ensures.after) (booted.0, booted.1) },
-      gains_nothing (g.K.Sink.held c.args.output.now) (transcript played),
+      puts_nothing (g.K.Sink.held c.args.output.now) played next refl,
     )
 
 pub returns-in_err-tick_to-in-Some-clause-part : goal.returns-in_err-tick_to-in-Some-clause-part
