@@ -6,15 +6,12 @@
 It builds a small program over mdns_core in a temporary folder, over a copy of the crates that it stands on, and needs
 valgrind. The first run takes some minutes, where those crates weren't built yet. Nothing here is part of the gate.
 """
-import os
-import re
-import shutil
-import subprocess
-import sys
 import tempfile
 
-TOP = os.path.join(os.path.dirname(os.path.abspath(__file__)), "..")
+from tools import built, instructions, table
+
 STANDS_ON = "mdns_core mdns_history mdns_cache sd_call dns_record dns_name mdns_base"
+WHY = "The daemon keeps plain lists, copies what it holds at each step, and goes over all of it for each live operation."
 PROGRAM = r"""//! Lets a daemon hear so many packets while operations are live.
 #![tactic(auto)]
 ghost use Rattle.std.specs.Prelude.{◌≡◌, ◌<◌};
@@ -162,61 +159,19 @@ GHOSTS = """use Rattle.measured.proofs.main.Given as goal
 abbrev pub ghosts-run : goal.ghosts-run
 ghosts-run a = record { name = a.blank.name; parts = a.blank.parts }
 """
+FILES = {"src/main.rt": PROGRAM, "proofs/main/Invariants.antt": GHOSTS}
 
 
-def needs(lines, crate, found):
-    """The crates of the repository that a crate stands on, itself too."""
-    for line in lines:
-        name, _, rest = line.partition(":")
-        if name.split()[:1] == [crate] and crate not in found:
-            found.append(crate)
-            for word in rest.split():
-                needs(lines, word, found)
-    return found
-
-
-def built(folder, words):
-    """Builds the program below the folder, and returns its path."""
-    with open(os.path.join(TOP, "crates.txt"), encoding="utf-8") as listed:
-        lines = list(listed)
-    below = needs(lines, "mdns_core", [])
-    with open(f"{folder}/crates.txt", "w", encoding="utf-8") as out:
-        out.write("".join(line for line in lines if line.split(":")[0] in below) + f"measured: {STANDS_ON}\n")
-    shutil.copy(os.path.join(TOP, "HANDLES"), folder)
-    for name in below:
-        shutil.copytree(os.path.join(TOP, "crates", name), f"{folder}/crates/{name}", symlinks=True)
-    os.makedirs(f"{folder}/crates/measured/src")
-    os.makedirs(f"{folder}/crates/measured/proofs/main")
-    with open(f"{folder}/crates/measured/src/main.rt", "w", encoding="utf-8") as out:
-        out.write(PROGRAM)
-    with open(f"{folder}/crates/measured/proofs/main/Invariants.antt", "w", encoding="utf-8") as out:
-        out.write(GHOSTS)
-    ran = subprocess.run(["rt", *words, "--", "0", "1"], cwd=f"{folder}/crates/measured", capture_output=True, text=True)
-    program = f"{folder}/crates/measured/out/measured"
-    if not os.path.isfile(program):
-        sys.exit(ran.stdout + ran.stderr)
-    return program
-
-
-def instructions(program, what, times):
+def rows():
     with tempfile.TemporaryDirectory() as folder:
-        run = subprocess.run(
-            ["valgrind", "--tool=callgrind", f"--callgrind-out-file={folder}/out", program, str(what), str(times)],
-            stdout=subprocess.DEVNULL, stderr=subprocess.PIPE)
-    if run.returncode:
-        sys.exit(f"{what}: status {run.returncode}")
-    return int(re.search(rb"Collected\s*:\s*(\d+)", run.stderr).group(1))
-
-
-def main():
-    with tempfile.TemporaryDirectory() as folder:
-        program = built(folder, ["run"])
-        print("| What | Instructions | Wanted |\n|---|---|---|")
+        program = built(folder, FILES, STANDS_ON)
         each = (instructions(program, 0, 11) - instructions(program, 0, 1)) // 10
-        print(f"| ten records heard, with ten operations live and 100 records held | {each:,} | at most 400,000 |", flush=True)
+        yield ("ten records heard, with ten operations live and 100 records held", f"{each:,} instructions",
+               "at most 400,000", WHY)
         for count in (100, 200, 400):
             each = (instructions(program, 1, count + 10) - instructions(program, 1, count)) // 10
-            print(f"| one more record heard that answers a question, with {count} that do so held | {each:,} | |", flush=True)
+            yield f"one more record heard that answers a question, with {count} that do so held", f"{each:,} instructions", ""
 
 
-main()
+if __name__ == "__main__":
+    table(rows())

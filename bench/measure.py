@@ -1,19 +1,18 @@
 #!/usr/bin/env python3
-"""Measures the built program in instructions, which are repeatable, and in peak memory, and prints one table.
+"""Measures the program in instructions, which are repeatable, and in peak memory, and prints one table.
 
     python3 bench/measure.py [PROGRAM]
 
-PROGRAM is crates/mdnsd/out/mdnsd where none is given. It needs valgrind. Nothing here is part of the gate.
+PROGRAM is crates/mdnsd/out/mdnsd where none is given, which is built where it isn't yet. It needs valgrind. Nothing here
+is part of the gate.
 """
 import os
-import re
-import resource
 import subprocess
 import sys
 import tempfile
 
-HERE = os.path.dirname(os.path.abspath(__file__))
-PROGRAM = sys.argv[1] if len(sys.argv) > 1 else os.path.join(HERE, "..", "crates", "mdnsd", "out", "mdnsd")
+from tools import TOP, instructions, table
+
 PACKET = "0000840000000001000000000161056c6f63616c0000010001000000780004c0000201"
 
 
@@ -33,20 +32,7 @@ def hearings(count):
     return ("\n".join(lines) + "\n").encode()
 
 
-def instructions(script):
-    with tempfile.TemporaryDirectory() as folder:
-        path = os.path.join(folder, "script")
-        with open(path, "wb") as out:
-            out.write(script)
-        with open(path, "rb") as standard_input:
-            run = subprocess.run(
-                ["valgrind", "--tool=callgrind", f"--callgrind-out-file={folder}/out", PROGRAM, "script"],
-                stdin=standard_input, stdout=subprocess.DEVNULL, stderr=subprocess.PIPE, text=True)
-    found = re.search(r"Collected\s*:\s*(\d+)", run.stderr)
-    return int(found.group(1)) if found else 0
-
-
-def peak_memory(script):
+def peak_memory(program, script):
     """Bytes of memory at most, and bytes of output."""
     child = "import resource,subprocess,sys\n" \
         "run = subprocess.run([sys.argv[1], 'script'], stdin=sys.stdin, stdout=subprocess.PIPE)\n" \
@@ -54,32 +40,32 @@ def peak_memory(script):
     with tempfile.TemporaryFile() as held:
         held.write(script)
         held.seek(0)
-        run = subprocess.run([sys.executable, "-c", child, PROGRAM], stdin=held, stdout=subprocess.PIPE, text=True)
+        run = subprocess.run([sys.executable, "-c", child, program], stdin=held, stdout=subprocess.PIPE, text=True)
     most, printed = run.stdout.split()
     return int(most), int(printed)
 
 
-def row(name, value, wanted):
-    print(f"| {name} | {value} | {wanted} |")
+def rows(program=None):
+    if program is None:
+        subprocess.run([os.path.join(TOP, "mdnsd"), "script"], stdin=subprocess.DEVNULL, check=True)
+        program = os.path.join(TOP, "crates", "mdnsd", "out", "mdnsd")
+    base = instructions(program, "script")
 
+    def each(script, count):
+        return (instructions(program, "script", standard_input=script) - base) / count
 
-def main():
-    base = instructions(b"")
-    print("| What | Measured | Wanted |\n|---|---|---|")
-    row("empty script", f"{base:,} instructions", "")
+    yield "empty script", f"{base:,} instructions", ""
     size = 6_400_000
-    script = comments(size)
-    row("6.4 MB of comments", f"{(instructions(script) - base) / len(script):.1f} instructions a byte", "at most 30")
-    for count in (100, 1000):
-        script = at_lines(count)
-        row(f"{count} `at` lines", f"{(instructions(script) - base) / count:,.0f} instructions a line", "linear")
+    yield "6.4 MB of comments", f"{each(comments(size), size):.1f} instructions a byte", "at most 30"
+    first = each(at_lines(100), 100)
+    yield "100 `at` lines", f"{first:,.0f} instructions a line", ""
+    yield "1000 `at` lines", f"{each(at_lines(1000), 1000):,.0f} instructions a line", f"linear: at most {1.1 * first:,.0f}"
     for count in (10, 100, 1000):
-        script = hearings(count)
-        row(f"{count} records heard", f"{(instructions(script) - base) / count:,.0f} instructions a packet", "")
+        yield f"{count} records heard", f"{each(hearings(count), count):,.0f} instructions a packet", ""
     script = comments(60_000_000)
-    most, printed = peak_memory(script)
-    row("peak memory, 60 MB of comments", f"{most / (len(script) + printed):.2f} times input and output", "at most 3")
+    most, printed = peak_memory(program, script)
+    yield "peak memory, 60 MB of comments", f"{most / (len(script) + printed):.2f} times input and output", "at most 3"
 
 
 if __name__ == "__main__":
-    main()
+    table(rows(*sys.argv[1:2]))

@@ -6,15 +6,11 @@
 It builds a small program in a temporary folder, over a copy of the crates that it stands on, and needs valgrind. The first
 run takes some minutes, where those crates weren't built yet. Nothing here is part of the gate.
 """
-import os
-import re
-import shutil
-import subprocess
-import sys
 import tempfile
 
-TOP = os.path.join(os.path.dirname(os.path.abspath(__file__)), "..")
-BELOW = ("mdns_base", "dns_name", "dns_record", "dns_message")
+from tools import built, instructions, table
+
+STANDS_ON = "dns_message dns_record dns_name mdns_base"
 PROGRAM = r"""//! Does one thing so many times: compares names or records, writes a text, or reads or writes a message.
 #![tactic(auto)]
 
@@ -199,43 +195,13 @@ ROWS = (
 )
 
 
-def built(folder):
-    """Builds the program below the folder, and returns its path."""
-    with open(os.path.join(TOP, "crates.txt"), encoding="utf-8") as listed:
-        lines = [line for line in listed if line.split(":")[0] in BELOW]
-    with open(f"{folder}/crates.txt", "w", encoding="utf-8") as out:
-        out.write("".join(lines) + "measured: dns_message dns_record dns_name mdns_base\n")
-    shutil.copy(os.path.join(TOP, "HANDLES"), folder)
-    for name in BELOW:
-        shutil.copytree(os.path.join(TOP, "crates", name), f"{folder}/crates/{name}", symlinks=True)
-    os.makedirs(f"{folder}/crates/measured/src")
-    with open(f"{folder}/crates/measured/src/main.rt", "w", encoding="utf-8") as out:
-        out.write(PROGRAM)
-    ran = subprocess.run(["rt", "run", "--", "0", "1"], cwd=f"{folder}/crates/measured", capture_output=True, text=True)
-    program = f"{folder}/crates/measured/out/measured"
-    if not os.path.isfile(program):
-        sys.exit(ran.stdout + ran.stderr)
-    return program
-
-
-def instructions(program, what, bytes_in, times):
+def rows():
     with tempfile.TemporaryDirectory() as folder:
-        run = subprocess.run(
-            ["valgrind", "--tool=callgrind", f"--callgrind-out-file={folder}/out", program, str(what), str(times)],
-            input=bytes_in or b"", stdout=subprocess.DEVNULL, stderr=subprocess.PIPE)
-    if run.returncode:
-        sys.exit(f"{what}: status {run.returncode}")
-    return int(re.search(rb"Collected\s*:\s*(\d+)", run.stderr).group(1))
-
-
-def main():
-    with tempfile.TemporaryDirectory() as folder:
-        program = built(folder)
-        print("| What | Instructions | Wanted |\n|---|---|---|")
+        program = built(folder, {"src/main.rt": PROGRAM}, STANDS_ON)
         for label, what, bytes_in, most in ROWS:
-            each = (instructions(program, what, bytes_in, 11) - instructions(program, what, bytes_in, 1)) // 10
-            wanted = f"at most {most:,}" if most else ""
-            print(f"| {label} | {each:,} | {wanted} |", flush=True)
+            many, one = (instructions(program, what, times, standard_input=bytes_in or b"") for times in (11, 1))
+            yield label, f"{(many - one) // 10:,} instructions", f"at most {most:,}" if most else ""
 
 
-main()
+if __name__ == "__main__":
+    table(rows())
