@@ -9,7 +9,8 @@ use crate::chains::Chains;
 use crate::fields::{u16_at, u32_at, u128_at};
 use crate::names::read_name;
 use dns_name::Name;
-use dns_record::{Bytes, Rdata};
+use bytes::Bytes;
+use dns_record::Rdata;
 use std::alloc::{AllocError, Global};
 
 /// The data of a type that stand from an offset up to another.
@@ -39,10 +40,10 @@ pub(crate) fn read_rdata(
         2 => read_ns(alloc, bytes, chains, at, stop),
         15 => read_mx(alloc, bytes, chains, at, stop),
         6 => read_soa(alloc, bytes, chains, at, stop),
-        16 => Ok(Rdata::Txt(Bytes::from_slice(alloc, &bytes[at..stop])?)),
+        16 => Ok(Rdata::Txt(Bytes::copy_from_slice(alloc, &bytes[at..stop])?)),
         kind => Ok(Rdata::Raw {
             kind,
-            bytes: Bytes::from_slice(alloc, &bytes[at..stop])?,
+            bytes: Bytes::copy_from_slice(alloc, &bytes[at..stop])?,
         }),
     }
 }
@@ -122,7 +123,7 @@ fn read_nsec(
     let (next, end) = read_inner_name(bytes, chains, at, stop)?;
     Ok(Rdata::Nsec {
         next,
-        bitmap: Bytes::from_slice(alloc, &bytes[end..stop])?,
+        bitmap: Bytes::copy_from_slice(alloc, &bytes[end..stop])?,
     })
 }
 
@@ -141,7 +142,7 @@ fn read_ns(
     let name = read_last_name(bytes, chains, at, stop)?;
     Ok(Rdata::Raw {
         kind: 2,
-        bytes: Bytes::from_slice(alloc, name.as_wire())?,
+        bytes: Bytes::copy_from_slice(alloc, name.as_wire())?,
     })
 }
 
@@ -205,5 +206,5 @@ fn joined(alloc: Global, first: &[u8], second: &[u8], third: &[u8]) -> Result<By
     let mut whole = Vec::from_slice(alloc, first)?;
     whole.extend_from_slice(second)?;
     whole.extend_from_slice(third)?;
-    Ok(Bytes::from_vec(whole))
+    Ok(Bytes::from_vec(whole)?)
 }

@@ -9,7 +9,8 @@ ghost use Rattle.dns_message.specs.Compressing.{item_count};
 use crate::compress::{Suffix, compress};
 use crate::{Message, WriteError};
 use dns_name::Name;
-use dns_record::{Bytes, Question, Rdata, Rr};
+use bytes::Bytes;
+use dns_record::{Question, Rdata, Rr};
 use std::alloc::{AllocError, Global};
 
 /// The bytes that the message is written as: of opcode and rcode the low four bits, and names of questions, owners, PTR
@@ -32,7 +33,7 @@ pub fn write(alloc: Global, message: &Message, limit: usize) -> Result<Bytes, Wr
     put_records(&mut out, &mut names, message.answers.as_slice(), limit)?;
     put_records(&mut out, &mut names, message.authority.as_slice(), limit)?;
     put_records(&mut out, &mut names, message.additional.as_slice(), limit)?;
-    Ok(Bytes::from_vec(out))
+    Ok(Bytes::from_vec(out)?)
 }
 
 // ID, flags and counts.

@@ -1,7 +1,6 @@
 //! Resource records and questions of class IN: their data, when two records are the same, and their order.
 #![tactic(auto)]
 
-mod bytes;
 mod compare;
 mod error;
 mod forms;
@@ -10,7 +9,6 @@ mod read;
 mod record;
 mod write;
 
-pub use bytes::Bytes;
 pub use compare::{matches, matches_any, rdata_cmp, record_cmp};
 pub use error::RecordError;
 pub use law::record_order_is_total;

@@ -9,7 +9,8 @@ ghost use Rattle.dns_record.specs.ReadRecord.{named_kinds, is_name_of, numbered_
 ghost use Rattle.dns_record.specs.Records.{is_rdata};
 
 use crate::write::kind_name;
-use crate::{Bytes, Rdata, RecordError, Rr};
+use bytes::Bytes;
+use crate::{Rdata, RecordError, Rr};
 use dns_name::Name;
 use mdns_base::{is_same, read_decimal_u16, read_decimal_u32, read_hex, read_ipv4, read_ipv6};
 use std::alloc::{AllocError, Global};
@@ -112,7 +113,7 @@ fn read_bytes(alloc: Global, text: &str) -> Result<Option<Bytes>, AllocError>
     ensures { IfOk result (λ found. found ≡ hex_of text.now) }
 {
     match read_hex(alloc, text.as_bytes())? {
-        Some(bytes) => Ok(Some(Bytes::from_vec(bytes))),
+        Some(bytes) => Ok(Some(Bytes::from_vec(bytes)?)),
         None => Ok(None),
     }
 }

@@ -2,7 +2,7 @@
 ghost use Rattle.std.specs.Prelude.{◌≡◌, IfOk};
 ghost use Rattle.dns_record.specs.Records.{kind_of};
 
-use crate::Bytes;
+use bytes::Bytes;
 use dns_name::Name;
 use std::alloc::{AllocError, Global};
 
@@ -78,14 +78,14 @@ impl Rdata {
                 port: *port,
                 target: target.copy(),
             },
-            Rdata::Txt(bytes) => Rdata::Txt(bytes.copy(alloc)?),
+            Rdata::Txt(bytes) => Rdata::Txt(bytes.clone()?),
             Rdata::Nsec { next, bitmap } => Rdata::Nsec {
                 next: next.copy(),
-                bitmap: bitmap.copy(alloc)?,
+                bitmap: bitmap.clone()?,
             },
             Rdata::Raw { kind, bytes } => Rdata::Raw {
                 kind: *kind,
-                bytes: bytes.copy(alloc)?,
+                bytes: bytes.clone()?,
             },
         })
     }

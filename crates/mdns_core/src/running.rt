@@ -5,7 +5,7 @@ ghost use Rattle.dns_name.specs.Lists.{insert_by};
 ghost use Rattle.mdns_history.specs.Sessions.{after_request, updated, has_op, by_op};
 ghost use Rattle.mdns_core.specs.Settling.{count_below};
 
-use dns_record::Bytes;
+use bytes::Bytes;
 use mdns_history::Operation;
 use sd_call::Request;
 use std::alloc::{AllocError, Global};
@@ -143,7 +143,7 @@ fn with_txt(alloc: Global, request: &Request, txt: &Bytes) -> Result<Request, Al
             regtype: regtype.copy(alloc)?,
             port: *port,
             norename: *norename,
-            txt: txt.copy(alloc)?,
+            txt: txt.clone()?,
         }),
         _ => request.copy(alloc),
     }

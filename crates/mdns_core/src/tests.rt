@@ -2,7 +2,7 @@ ghost use Rattle.std.specs.Prelude.{◌≡◌, ◌<◌};
 
 use super::*;
 use dns_name::Name;
-use dns_record::Bytes;
+use bytes::Bytes;
 use mdns_base::Host;
 use mdns_cache::Steps;
 use mdns_history::{Config, Entry, Event, Mark, Outcome, print_entry};
@@ -228,10 +228,10 @@ fn request(alloc: Global, asked: &Asked) -> Result<Request, Fail> {
             regtype: text(alloc, "_ipp._tcp")?,
             port: 631,
             norename: false,
-            txt: Bytes::new(alloc),
+            txt: Bytes::new(),
         },
         Asked::Update => Request::Update {
-            txt: Bytes::new(alloc),
+            txt: Bytes::new(),
         },
         Asked::Stop => Request::Stop,
     })
@@ -250,7 +250,7 @@ fn event(alloc: Global, told: &Told) -> Result<Event, Fail> {
             op: *op,
             request: request(alloc, asked)?,
         },
-        Told::Hear(bytes) => heard(Bytes::from_vec(bytes.to_vec(alloc)?)),
+        Told::Hear(bytes) => heard(Bytes::copy_from_slice(alloc, bytes)?),
         Told::Tick => Event::Tick,
     })
 }
@@ -345,7 +345,7 @@ fn big(alloc: Global, number: u16) -> Result<Event, AllocError> {
     bytes.extend_from_slice(BIG_HEAD)?;
     bytes.extend_from_slice(&number.to_be_bytes())?;
     bytes.resize(BIG_HEAD.len() + 8180, 0)?;
-    Ok(heard(Bytes::from_vec(bytes)))
+    Ok(heard(Bytes::from_vec(bytes)?))
 }
 
 // How many bytes the frames of what an entry gives have.

@@ -1,6 +1,6 @@
 // What happens to a daemon.
 use crate::Config;
-use dns_record::Bytes;
+use bytes::Bytes;
 use mdns_base::Host;
 use sd_call::Request;
 

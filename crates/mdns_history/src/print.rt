@@ -6,7 +6,8 @@ ghost use Rattle.mdns_history.specs.EntryText.{entry_text, head_line, mark_line,
 use crate::print_event::put_event;
 use crate::print_sent::put_sends;
 use crate::{Cause, Entry, Given, Mark, Outcome};
-use dns_record::{Bytes, Key, put_kind, put_name};
+use bytes::Bytes;
+use dns_record::{Key, put_kind, put_name};
 use mdns_base::put_decimal;
 use sd_call::{Item, put_code, put_item};
 use std::alloc::{AllocError, Global};
@@ -22,7 +23,7 @@ pub fn print_entry(alloc: Global, daemon: u32, entry: &Entry) -> Result<Bytes, A
     put_sends(&mut out, entry.sent.as_slice())?;
     put_gifts(&mut out, entry.given.as_slice())?;
     put_outcome(&mut out, &entry.outcome)?;
-    Ok(Bytes::from_vec(out))
+    Ok(Bytes::from_vec(out)?)
 }
 
 fn put_head(out: &mut Vec<u8>, daemon: u32, entry: &Entry) -> Result<(), AllocError>

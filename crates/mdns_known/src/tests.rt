@@ -2,7 +2,8 @@
 use crate::{all_known_answers, known_answers, suppresses};
 use dns_message::Rrs;
 use dns_name::Name;
-use dns_record::{Bytes, Key, Rdata, Rr, put_record};
+use bytes::Bytes;
+use dns_record::{Key, Rdata, Rr, put_record};
 use mdns_history::Held;
 use std::alloc::Global;
 use std::test::Fail;
@@ -123,7 +124,7 @@ fn records_that_fit_no_message_are_not_listed(rt: HostRuntime) -> Result<(), Fai
             owner: Name::parse_text("a.local").map_err(|_| "name")?,
             flush: true,
             ttl: 120,
-            rdata: Rdata::Txt(Bytes::from_vec(vec![in alloc; 0u8; length]?)),
+            rdata: Rdata::Txt(Bytes::from_vec(vec![in alloc; 0u8; length]?)?),
         };
         let known = listed_at(alloc, &[held_at(rr, 0, 120_000)], 0)?;
         assert_eq!(rt; known.as_slice().len(), listed, "{length}");

@@ -2,7 +2,8 @@
 use crate::pack_query;
 use dns_message::{Message, Rrs, write};
 use dns_name::Name;
-use dns_record::{Bytes, Key, Rdata, Rr};
+use bytes::Bytes;
+use dns_record::{Key, Rdata, Rr};
 use std::alloc::Global;
 use std::test::Fail;
 
@@ -116,7 +117,7 @@ fn record_of(alloc: Global, letter: char, length: usize) -> Result<Rr, Fail> {
         owner: name_of(alloc, letter)?,
         flush: false,
         ttl: 60,
-        rdata: Rdata::Txt(Bytes::from_vec(vec![in alloc; 0u8; length]?)),
+        rdata: Rdata::Txt(Bytes::from_vec(vec![in alloc; 0u8; length]?)?),
     })
 }
 

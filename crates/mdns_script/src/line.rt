@@ -5,7 +5,7 @@ ghost use Rattle.mdns_script.specs.Lines.{line_of, is_read, first_of, is_known, 
 
 use crate::requests::request;
 use crate::{Command, Line};
-use dns_record::Bytes;
+use bytes::Bytes;
 use mdns_base::{
     Host, cut_at, is_same, read_decimal, read_decimal_u16, read_decimal_u32, read_hex, read_ipv4,
 };
@@ -231,7 +231,7 @@ fn hear_command(alloc: Global, text: &[u8]) -> Result<Option<Command>, AllocErro
         daemon,
         event: Event::Hear {
             from,
-            bytes: Bytes::from_vec(bytes),
+            bytes: Bytes::from_vec(bytes)?,
         },
     }))
 }

@@ -7,7 +7,7 @@ ghost use Rattle.mdns_script.specs.Tokens.{text_of, is_whole, is_token, token_of
 
 use arrayvec::ArrayVec;
 use dns_name::{Name, TextItem, TextItems, read_label};
-use dns_record::Bytes;
+use bytes::Bytes;
 use mdns_base::{cut_at, is_same};
 use sd_call::Text;
 use std::alloc::{AllocError, Global};
@@ -45,22 +45,22 @@ pub(crate) fn txt(alloc: Global, bytes: &[u8]) -> Result<Option<Bytes>, AllocErr
     ensures { IfOk result (λ found. found ≡ txt_of bytes.now) }
 {
     if is_same(bytes, b"-") {
-        return Ok(Some(Bytes::new(alloc)));
+        return Ok(Some(Bytes::new()));
     }
     match strings(alloc, bytes)? {
-        Some(strings) => Ok(short_txt(strings)),
+        Some(strings) => short_txt(strings),
         None => Ok(None),
     }
 }
 
 // TXT data that are short enough.
-fn short_txt(strings: Vec<u8>) -> Option<Bytes>
-    ensures { result ≡ short_txt strings.items }
+fn short_txt(strings: Vec<u8>) -> Result<Option<Bytes>, AllocError>
+    ensures { IfOk result (λ found. found ≡ short_txt strings.items) }
 {
     if strings.len() <= 8192 {
-        Some(Bytes::from_vec(strings))
+        Ok(Some(Bytes::from_vec(strings)?))
     } else {
-        None
+        Ok(None)
     }
 }
 

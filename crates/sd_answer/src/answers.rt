@@ -8,7 +8,8 @@ ghost use Rattle.mdns_history.specs.Answers.{matching, datum_of, found_in, resol
 
 use crate::{Answers, questions_of};
 use dns_message::Rrs;
-use dns_record::{Bytes, Key, Rdata, Rr, matches_any};
+use bytes::Bytes;
+use dns_record::{Key, Rdata, Rr, matches_any};
 use sd_call::{Answer, Request};
 use std::alloc::{AllocError, Global};
 
@@ -207,7 +208,7 @@ fn pair(alloc: Global, place: &Rdata, txt: &Rdata) -> Result<Option<Answer>, All
             weight: *weight,
             port: *port,
             target: target.copy(),
-            txt: txt.copy(alloc)?,
+            txt: txt.clone()?,
         })),
         _ => Ok(None),
     }

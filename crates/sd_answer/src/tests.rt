@@ -2,7 +2,8 @@
 use crate::{answers_of, questions_of};
 use dns_message::Rrs;
 use dns_name::Name;
-use dns_record::{Bytes, Rr, put_kind, put_name};
+use bytes::Bytes;
+use dns_record::{Rr, put_kind, put_name};
 use sd_call::{Request, Text, put_answer, well_formed};
 use std::alloc::Global;
 use std::test::Fail;
@@ -97,10 +98,10 @@ fn other_requests_ask_nothing(rt: HostRuntime) -> Result<(), Fail> {
         regtype: text(alloc, "_ipp._tcp")?,
         port: 631,
         norename: false,
-        txt: Bytes::new(alloc),
+        txt: Bytes::new(),
     };
     let update = Request::Update {
-        txt: Bytes::new(alloc),
+        txt: Bytes::new(),
     };
     for request in [&register, &update, &Request::Stop] {
         assert!(rt; outcome(alloc, request, &rrs)?.is_empty());

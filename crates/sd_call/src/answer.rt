@@ -2,7 +2,8 @@
 ghost use Rattle.std.specs.Prelude.{◌≡◌, IfOk};
 
 use dns_name::Name;
-use dns_record::{Bytes, Rdata};
+use bytes::Bytes;
+use dns_record::Rdata;
 use std::alloc::{AllocError, Global};
 
 /// An answer of an operation.
@@ -55,7 +56,7 @@ impl Answer {
                 weight: *weight,
                 port: *port,
                 target: target.copy(),
-                txt: txt.copy(alloc)?,
+                txt: txt.clone()?,
             },
             Answer::Named { full } => Answer::Named { full: full.copy() },
             Answer::Conflict => Answer::Conflict,

@@ -3,7 +3,7 @@ ghost use Rattle.std.specs.Prelude.{◌≡◌, IfOk};
 
 use crate::Text;
 use dns_name::Name;
-use dns_record::Bytes;
+use bytes::Bytes;
 use std::alloc::{AllocError, Global};
 
 /// What a client asks of the daemon.
@@ -76,10 +76,10 @@ impl Request {
                 regtype: regtype.copy(alloc)?,
                 port: *port,
                 norename: *norename,
-                txt: txt.copy(alloc)?,
+                txt: txt.clone()?,
             },
             Request::Update { txt } => Request::Update {
-                txt: txt.copy(alloc)?,
+                txt: txt.clone()?,
             },
             Request::Stop => Request::Stop,
         })

@@ -6,7 +6,7 @@ ghost use Rattle.sd_ipc.specs.Reading.{datum_of, resolved_of, tagged_of, answer_
 use crate::FrameError;
 use crate::data::{last_name_of, rdata_of};
 use crate::parts::{byte_part, ended, name_part, u16_part};
-use dns_record::Bytes;
+use bytes::Bytes;
 use sd_call::Answer;
 use std::alloc::Global;
 
@@ -62,6 +62,6 @@ fn resolved_of(alloc: Global, bytes: &[u8]) -> Result<Answer, FrameError>
         weight,
         port,
         target,
-        txt: Bytes::from_slice(alloc, rest)?,
+        txt: Bytes::copy_from_slice(alloc, rest)?,
     })
 }

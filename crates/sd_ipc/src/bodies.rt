@@ -5,7 +5,7 @@ ghost use Rattle.sd_ipc.specs.Again.{IsBody};
 
 use crate::fields::{put_name, put_text, put_txt, put_u16};
 use dns_name::Name;
-use dns_record::Bytes;
+use bytes::Bytes;
 use sd_call::{Request, Text};
 use std::alloc::{AllocError, Global};
 

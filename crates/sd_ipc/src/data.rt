@@ -6,7 +6,8 @@ ghost use Rattle.sd_ipc.specs.Reading.{a_of, aaaa_of, last_name_of, srv_of, nsec
 use crate::FrameError;
 use crate::parts::{ended, name_part, u16_part};
 use dns_name::Name;
-use dns_record::{Bytes, Rdata};
+use bytes::Bytes;
+use dns_record::Rdata;
 use std::alloc::Global;
 
 /// The data of a type.
@@ -20,7 +21,7 @@ pub(crate) fn rdata_of(alloc: Global, kind: u16, bytes: &[u8]) -> Result<Rdata, 
         12 => Ok(Rdata::Ptr(last_name_of(bytes)?)),
         5 => Ok(Rdata::Cname(last_name_of(bytes)?)),
         33 => srv_of(bytes),
-        16 => Ok(Rdata::Txt(Bytes::from_slice(alloc, bytes)?)),
+        16 => Ok(Rdata::Txt(Bytes::copy_from_slice(alloc, bytes)?)),
         47 => nsec_of(alloc, bytes),
         _ => raw_of(alloc, kind, bytes),
     }
@@ -79,7 +80,7 @@ fn nsec_of(alloc: Global, bytes: &[u8]) -> Result<Rdata, FrameError>
     let (next, rest) = name_part(bytes)?;
     Ok(Rdata::Nsec {
         next,
-        bitmap: Bytes::from_slice(alloc, rest)?,
+        bitmap: Bytes::copy_from_slice(alloc, rest)?,
     })
 }
 
@@ -90,7 +91,7 @@ fn raw_of(alloc: Global, kind: u16, bytes: &[u8]) -> Result<Rdata, FrameError>
 {
     let rdata = Rdata::Raw {
         kind,
-        bytes: Bytes::from_slice(alloc, bytes)?,
+        bytes: Bytes::copy_from_slice(alloc, bytes)?,
     };
     if !rdata.is_valid() {
         return Err(FrameError::BadBody);

@@ -4,7 +4,8 @@ ghost use Rattle.sd_ipc.specs.Again.{IsData};
 
 use crate::fields::{put_name, put_u16};
 use dns_name::Name;
-use dns_record::{Bytes, Rdata};
+use bytes::Bytes;
+use dns_record::Rdata;
 use std::alloc::{AllocError, Global};
 
 /// The bytes of data.

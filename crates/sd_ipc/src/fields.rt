@@ -6,7 +6,7 @@ ghost use Rattle.sd_ipc.specs.Frames.{counted};
 ghost use Rattle.sd_ipc.specs.Again.{ReadsNumber, ReadsName, ReadsText, ReadsTxt};
 
 use dns_name::Name;
-use dns_record::Bytes;
+use bytes::Bytes;
 use sd_call::Text;
 use std::alloc::AllocError;
 

@@ -4,7 +4,7 @@ ghost use Rattle.sd_ipc.specs.Parts.{byte_part, u16_part, u32_part, bytes_part, 
 
 use crate::FrameError;
 use dns_name::Name;
-use dns_record::Bytes;
+use bytes::Bytes;
 use sd_call::Text;
 use std::alloc::Global;
 use std::str;
@@ -80,7 +80,7 @@ pub(crate) fn txt_part(alloc: Global, bytes: &[u8]) -> Result<(Bytes, &[u8]), Fr
     ensures { MatchResult result (λ p. txt_part bytes.now ≡ Ok (p.0, p.1.now)) (λ e. (e ≡ FrameError.NoMemory) ⊎ (txt_part bytes.now ≡ Err e)) }
 {
     let (txt, rest) = counted_part(8192, bytes)?;
-    Ok((Bytes::from_slice(alloc, txt)?, rest))
+    Ok((Bytes::copy_from_slice(alloc, txt)?, rest))
 }
 
 /// A name in wire form, without pointers.

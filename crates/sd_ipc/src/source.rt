@@ -5,7 +5,7 @@ ghost use Rattle.sd_ipc.specs.Reading.{word_at, whole_frame, frame_of, frame_siz
 ghost use Rattle.sd_ipc.specs.Taking.{Told, IsRefused, IsOf, TakesUpTo, TakesWhole};
 
 use crate::FrameError;
-use dns_record::Bytes;
+use bytes::Bytes;
 use mdns_base::Source;
 use std::alloc::Global;
 
@@ -51,12 +51,13 @@ fn word_at(word: &[u8]) -> Result<Option<usize>, FrameError>
 
 // So many bytes, Truncated where they are fewer.
 fn whole_frame(size: usize, frame: Vec<u8>) -> Result<Option<Bytes>, FrameError>
-    ensures { result ≡ whole_frame size frame.items }
+    ensures of { IsOf result (whole_frame size frame.items) }
+    ensures read { result ≢ Err FrameError.ReadFault }
 {
     if frame.len() < size {
         return Err(FrameError::Truncated);
     }
-    Ok(Some(Bytes::from_vec(frame)))
+    Ok(Some(Bytes::from_vec(frame)?))
 }
 
 // The next bytes, so many, and fewer only where the source ends.

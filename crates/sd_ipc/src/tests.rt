@@ -1,5 +1,6 @@
 use super::*;
-use dns_record::{Bytes, Rdata};
+use bytes::Bytes;
+use dns_record::Rdata;
 use mdns_base::{Failed, MemSource, Source};
 use sd_call::{Answer, Item, Request, Text, put_item, put_request};
 use std::alloc::{AllocError, Global};
@@ -279,7 +280,7 @@ fn lengths_up_to_their_limits(rt: HostRuntime) -> Result<(), Fail> {
         let item = Item::Add {
             op: 1,
             answer: Answer::Datum {
-                rdata: Rdata::Txt(Bytes::from_vec(counted(alloc, len - 2)?)),
+                rdata: Rdata::Txt(Bytes::from_vec(counted(alloc, len - 2)?)?),
             },
         };
         let written = write_item(alloc, &item)?;

@@ -7,7 +7,7 @@ ghost use Rattle.sd_ipc.specs.Reading.{frame_size, request_in, item_in};
 
 use crate::bodies::{request_body, request_kind};
 use crate::item_bodies::{item_body, item_kind, item_op};
-use dns_record::Bytes;
+use bytes::Bytes;
 use sd_call::{Item, Request};
 use std::alloc::{AllocError, Global};
 
@@ -46,5 +46,5 @@ fn framed(alloc: Global, kind: u8, op: u32, body: &[u8]) -> Result<Bytes, AllocE
     out.push(kind)?;
     out.extend_from_slice(&op.to_be_bytes())?;
     out.extend_from_slice(body)?;
-    Ok(Bytes::from_vec(out))
+    Ok(Bytes::from_vec(out)?)
 }

@@ -1,5 +1,6 @@
 use super::*;
-use dns_record::{Bytes, Rdata};
+use bytes::Bytes;
+use dns_record::Rdata;
 use sd_call::{Answer, Item, Verb};
 use std::alloc::{AllocError, Global};
 use std::test::Fail;
@@ -19,7 +20,7 @@ fn datum(alloc: Global, len: usize) -> Result<Item, AllocError> {
     Ok(Item::Add {
         op: 1,
         answer: Answer::Datum {
-            rdata: Rdata::Txt(Bytes::from_vec(bytes)),
+            rdata: Rdata::Txt(Bytes::from_vec(bytes)?),
         },
     })
 }
