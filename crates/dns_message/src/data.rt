@@ -8,8 +8,8 @@ use crate::MessageError;
 use crate::chains::Chains;
 use crate::fields::{u16_at, u32_at, u128_at};
 use crate::names::read_name;
-use dns_name::Name;
 use bytes::Bytes;
+use dns_name::Name;
 use dns_record::Rdata;
 use std::alloc::{AllocError, Global};
 

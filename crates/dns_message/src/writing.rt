@@ -8,8 +8,8 @@ ghost use Rattle.dns_message.specs.Compressing.{item_count};
 
 use crate::compress::{Suffix, compress};
 use crate::{Message, WriteError};
-use dns_name::Name;
 use bytes::Bytes;
+use dns_name::Name;
 use dns_record::{Question, Rdata, Rr};
 use std::alloc::{AllocError, Global};
 
@@ -33,7 +33,14 @@ pub fn write(alloc: Global, message: &Message, limit: usize) -> Result<Bytes, Wr
     put_records(&mut out, &mut names, message.answers.as_slice(), limit)?;
     put_records(&mut out, &mut names, message.authority.as_slice(), limit)?;
     put_records(&mut out, &mut names, message.additional.as_slice(), limit)?;
-    Ok(Bytes::from_vec(out)?)
+    Ok(shared(out)?)
+}
+
+// The bytes of a vector, to be shared.
+fn shared(bytes: Vec<u8>) -> Result<Bytes, AllocError>
+    ensures { IfOk result (λ shared. shared ≡ bytes.items) }
+{
+    Ok(Bytes::from_vec(bytes)?)
 }
 
 // ID, flags and counts.

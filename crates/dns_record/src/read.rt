@@ -9,8 +9,8 @@ ghost use Rattle.dns_record.specs.ReadRecord.{named_kinds, is_name_of, numbered_
 ghost use Rattle.dns_record.specs.Records.{is_rdata};
 
 use crate::write::kind_name;
-use bytes::Bytes;
 use crate::{Rdata, RecordError, Rr};
+use bytes::Bytes;
 use dns_name::Name;
 use mdns_base::{is_same, read_decimal_u16, read_decimal_u32, read_hex, read_ipv4, read_ipv6};
 use std::alloc::{AllocError, Global};

@@ -59,7 +59,7 @@ impl Rdata {
     }
 
     /// Equal data. Refused only for want of memory.
-    pub fn copy(&self, alloc: Global) -> Result<Rdata, AllocError>
+    pub fn copy(&self) -> Result<Rdata, AllocError>
         ensures { IfOk result (λ copy. copy ≡ self.now) }
     {
         Ok(match self {
@@ -106,14 +106,14 @@ pub struct Rr {
 
 impl Rr {
     /// An equal record. Refused only for want of memory.
-    pub fn copy(&self, alloc: Global) -> Result<Rr, AllocError>
+    pub fn copy(&self) -> Result<Rr, AllocError>
         ensures { IfOk result (λ copy. copy ≡ self.now) }
     {
         Ok(Rr {
             owner: self.owner.copy(),
             flush: self.flush,
             ttl: self.ttl,
-            rdata: self.rdata.copy(alloc)?,
+            rdata: self.rdata.copy()?,
         })
     }
 }

@@ -17,7 +17,7 @@ fn expect_text(
         written.as_bytes(),
         "{text}"
     );
-    let copy = rr.copy(alloc)?;
+    let copy = rr.copy()?;
     assert_eq!(rt;
         copy.write_text(alloc)?.as_slice(),
         written.as_bytes(),

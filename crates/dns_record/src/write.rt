@@ -6,8 +6,8 @@ ghost use Rattle.dns_record.specs.RecordText.{kind_name, kind_text, srv_text, da
 ghost use Rattle.dns_record.specs.Records.{kind_of, is_rdata};
 ghost use Rattle.dns_record.specs.ReadRecord.{name_read, kind_read, srv_read, rdata_read, record_read};
 
-use bytes::Bytes;
 use crate::{Rdata, Rr};
+use bytes::Bytes;
 use dns_name::Name;
 use mdns_base::{put_decimal, put_hex, put_ipv4, put_ipv6};
 use std::alloc::{AllocError, Global};

@@ -185,7 +185,7 @@ fn copied(alloc: Global, held: &[Held]) -> Result<Vec<Held>, AllocError>
 {
     let mut copy = Vec::with_capacity(alloc, held.len().saturating_add(MORE))?;
     for one in held {
-        copy.push(one.copy(alloc)?)?;
+        copy.push(one.copy()?)?;
     }
     Ok(copy)
 }

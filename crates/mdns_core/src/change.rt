@@ -184,22 +184,17 @@ pub fn gifts(alloc: Global, changes: &[SessionChange]) -> Result<Gifts, AllocErr
     let mut gifts = Gifts::new(alloc);
     for change in changes {
         if !change.cuts {
-            put_gifts(alloc, &mut gifts, change.session, change.brought.as_slice())?;
+            put_gifts(&mut gifts, change.session, change.brought.as_slice())?;
         }
     }
     Ok(gifts)
 }
 
-fn put_gifts(
-    alloc: Global,
-    gifts: &mut Gifts,
-    session: u64,
-    items: &[Item],
-) -> Result<(), AllocError>
+fn put_gifts(gifts: &mut Gifts, session: u64, items: &[Item]) -> Result<(), AllocError>
     ensures { OnOk result (gifts.new ≡ gifts.old ++ map (given_to session) items.now) }
 {
     for item in items {
-        let item = item.copy(alloc)?;
+        let item = item.copy()?;
         gifts.push(Given { session, item })?;
     }
     Ok(())

@@ -43,39 +43,21 @@ pub fn items_between(
     for operation in after {
         let had = had_by(alloc, before, operation.op, earlier)?;
         let has = answers(alloc, &operation.request, later)?;
-        put_removes(
-            alloc,
-            &mut brought,
-            operation.op,
-            had.as_slice(),
-            has.as_slice(),
-        )?;
-        put_adds(
-            alloc,
-            &mut adds,
-            operation.op,
-            has.as_slice(),
-            had.as_slice(),
-        )?;
+        put_removes(&mut brought, operation.op, had.as_slice(), has.as_slice())?;
+        put_adds(&mut adds, operation.op, has.as_slice(), had.as_slice())?;
     }
     brought.append(adds)?;
     Ok(brought)
 }
 
 // Removes what an operation had and has no more.
-fn put_removes(
-    alloc: Global,
-    items: &mut Items,
-    op: u32,
-    had: &[Answer],
-    has: &[Answer],
-) -> Result<(), AllocError>
+fn put_removes(items: &mut Items, op: u32, had: &[Answer], has: &[Answer]) -> Result<(), AllocError>
     requires { IsSorted answer_cmp has.now }
     ensures { OnOk result (items.new ≡ items.old ++ map (λ answer. item.Remove op answer) (without answer_eq had.now has.now)) }
 {
     for answer in had {
         if !is_among(answer, has) {
-            let answer = answer.copy(alloc)?;
+            let answer = answer.copy()?;
             items.push(Item::Remove { op, answer })?;
         }
     }
@@ -83,19 +65,13 @@ fn put_removes(
 }
 
 // Adds what an operation has and hadn't before.
-fn put_adds(
-    alloc: Global,
-    items: &mut Items,
-    op: u32,
-    has: &[Answer],
-    had: &[Answer],
-) -> Result<(), AllocError>
+fn put_adds(items: &mut Items, op: u32, has: &[Answer], had: &[Answer]) -> Result<(), AllocError>
     requires { IsSorted answer_cmp had.now }
     ensures { OnOk result (items.new ≡ items.old ++ map (λ answer. item.Add op answer) (without answer_eq has.now had.now)) }
 {
     for answer in has {
         if !is_among(answer, had) {
-            let answer = answer.copy(alloc)?;
+            let answer = answer.copy()?;
             items.push(Item::Add { op, answer })?;
         }
     }
@@ -150,7 +126,7 @@ fn asked(alloc: Global, questions: &[Key], held: &[Held]) -> Result<Rrs, AllocEr
     let mut rrs = Rrs::new(alloc);
     for one in held {
         if matches_any(questions, &one.rr) {
-            rrs.push(one.rr.copy(alloc)?)?;
+            rrs.push(one.rr.copy()?)?;
         }
     }
     Ok(rrs)

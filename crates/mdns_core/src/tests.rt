@@ -1,8 +1,8 @@
 ghost use Rattle.std.specs.Prelude.{◌≡◌, ◌<◌};
 
 use super::*;
-use dns_name::Name;
 use bytes::Bytes;
+use dns_name::Name;
 use mdns_base::Host;
 use mdns_cache::Steps;
 use mdns_history::{Config, Entry, Event, Mark, Outcome, print_entry};
@@ -230,9 +230,7 @@ fn request(alloc: Global, asked: &Asked) -> Result<Request, Fail> {
             norename: false,
             txt: Bytes::new(),
         },
-        Asked::Update => Request::Update {
-            txt: Bytes::new(),
-        },
+        Asked::Update => Request::Update { txt: Bytes::new() },
         Asked::Stop => Request::Stop,
     })
 }
@@ -334,11 +332,8 @@ const BIG_HEAD: &[u8] = &[
     1, 0, 0, 0, 120, 31, 244,
 ];
 
-// How many such records are held, and how often an operation that finds them all begins and stops: the last time the queue
-// would pass its limit of 16,777,216 bytes.
-const RECORDS: u16 = 32;
-
-const ROUNDS: u32 = 64;
+// How many such packets are heard: what the last one brings would pass the limit of 16,777,216 bytes that are queued.
+const PACKETS: u16 = 2048;
 
 fn big(alloc: Global, number: u16) -> Result<Event, AllocError> {
     let mut bytes = Vec::new(alloc);
@@ -369,25 +364,23 @@ fn ask<L: Ledger>(
     tell(daemon, steps, 0, event)
 }
 
-fn fill<L: Ledger>(
+// An operation starts, and each packet brings it an answer: a reply of 14 bytes, and then items of 8192.
+fn flood<L: Ledger>(
     rt: &impl Abort,
     alloc: Global,
     daemon: &mut Daemon,
     steps: &mut Steps<L>,
 ) -> Result<(), Fail> {
-    let mut queued: usize = 0;
-    for round in 0..ROUNDS {
-        let started = ask(daemon, steps, alloc, 1, "big.local")?;
-        let stop = event(alloc, &Told::Call(1, 1, Asked::Stop))?;
-        let stopped = tell(daemon, steps, 0, stop)?;
-        let mark = started.marks.as_slice().first();
+    let started = ask(daemon, steps, alloc, 1, "big.local")?;
+    let mut queued = given_len(&started);
+    for number in 0..PACKETS {
+        let heard = tell(daemon, steps, 0, big(alloc, number)?)?;
+        let mark = heard.marks.as_slice().first();
         let cut = matches!(mark, Some(Mark::Cut { session: 1 }));
-        assert_eq!(rt; cut, round + 1 == ROUNDS, "{round}");
-        queued = queued.saturating_add(given_len(&started));
-        queued = queued.saturating_add(given_len(&stopped));
+        assert_eq!(rt; cut, number + 1 == PACKETS, "{number}");
+        queued = queued.saturating_add(given_len(&heard));
     }
-    // Each time two replies of 14 bytes, and 32 items of 8192.
-    assert_eq!(rt; queued, 16_516_836);
+    assert_eq!(rt; queued, 16_769_038);
     Ok(())
 }
 
@@ -401,10 +394,7 @@ fn overflow<L: Ledger>(rt: &impl Abort, alloc: Global, blank: Blank) -> Result<(
     for _ in 0..2 {
         tell(&mut daemon, &mut steps, 0, Event::Attach)?;
     }
-    for number in 0..RECORDS {
-        tell(&mut daemon, &mut steps, 0, big(alloc, number)?)?;
-    }
-    fill(rt, alloc, &mut daemon, &mut steps)?;
+    flood(rt, alloc, &mut daemon, &mut steps)?;
     let taken = tell(
         &mut daemon,
         &mut steps,

@@ -19,11 +19,11 @@ pub struct Held {
 
 impl Held {
     /// An equal record. Refused only for want of memory.
-    pub fn copy(&self, alloc: Global) -> Result<Held, AllocError>
+    pub fn copy(&self) -> Result<Held, AllocError>
         ensures { IfOk result (λ copy. copy ≡ self.now) }
     {
         Ok(Held {
-            rr: self.rr.copy(alloc)?,
+            rr: self.rr.copy()?,
             heard: self.heard,
             word: self.word,
             end: self.end,

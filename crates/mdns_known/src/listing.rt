@@ -26,7 +26,7 @@ pub fn listing(
     ensures { IfOk result (λ listing. listing ≡ (if is_listed question.now now one.now then Some (listed now one.now) else None)) }
 {
     if is_fresh(question, one, now) {
-        if_it_fits(alloc, listed(alloc, one, now)?)
+        if_it_fits(alloc, listed(one, now)?)
     } else {
         Ok(None)
     }
@@ -56,7 +56,7 @@ fn is_half_fresh(one: &Held, now: u64) -> bool
 }
 
 // An uncut record as it is listed: without the flush bit, with the seconds that are left, rounded up.
-fn listed(alloc: Global, one: &Held, now: u64) -> Result<Rr, AllocError>
+fn listed(one: &Held, now: u64) -> Result<Rr, AllocError>
     requires bound { now ≤ 2 ^ 53 }
     requires heard { one.now.heard ≤ now }
     requires uncut { IsTrue (is_uncut one.now) }
@@ -66,7 +66,7 @@ fn listed(alloc: Global, one: &Held, now: u64) -> Result<Rr, AllocError>
         owner: one.rr.owner.copy(),
         flush: false,
         ttl: seconds_left(one, now),
-        rdata: one.rr.rdata.copy(alloc)?,
+        rdata: one.rr.rdata.copy()?,
     })
 }
 

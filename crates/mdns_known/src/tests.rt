@@ -1,8 +1,8 @@
 // Held records, and how they are listed as known answers.
 use crate::{all_known_answers, known_answers, suppresses};
+use bytes::Bytes;
 use dns_message::Rrs;
 use dns_name::Name;
-use bytes::Bytes;
 use dns_record::{Key, Rdata, Rr, put_record};
 use mdns_history::Held;
 use std::alloc::Global;

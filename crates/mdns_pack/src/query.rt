@@ -78,7 +78,7 @@ fn put_known(
     ensures message { OnOk result (message.new ≡ (if fits (with_answer message.old rr.now) then with_answer message.old rr.now
         else bare_query [] (rr.now ∷ []))) }
 {
-    if let Some(rr) = put_record(alloc, message, rr.copy(alloc)?)? {
+    if let Some(rr) = put_record(alloc, message, rr.copy()?)? {
         let next = further_query(alloc, rr)?;
         message.truncated = true;
         messages.push(mem::replace(message, next))?;

@@ -1,8 +1,8 @@
 // Queries that are packed: what each of their messages holds and how long it is.
 use crate::pack_query;
+use bytes::Bytes;
 use dns_message::{Message, Rrs, write};
 use dns_name::Name;
-use bytes::Bytes;
 use dns_record::{Key, Rdata, Rr};
 use std::alloc::Global;
 use std::test::Fail;

@@ -6,8 +6,8 @@ ghost use Rattle.txt_record.specs.Strings.{txt_data};
 ghost use Rattle.mdns_script.specs.Tokens.{text_of, is_whole, is_token, token_of, name_of, item_byte, type_read, label_bytes, type_bytes, label_of, type_of, string_of, strings_of, short_txt, txt_of};
 
 use arrayvec::ArrayVec;
-use dns_name::{Name, TextItem, TextItems, read_label};
 use bytes::Bytes;
+use dns_name::{Name, TextItem, TextItems, read_label};
 use mdns_base::{cut_at, is_same};
 use sd_call::Text;
 use std::alloc::{AllocError, Global};

@@ -7,8 +7,8 @@ ghost use Rattle.sd_call.specs.Requests.{well_formed};
 ghost use Rattle.mdns_history.specs.Answers.{matching, datum_of, found_in, resolved_with, resolved_pairs, answers_from, answers_over};
 
 use crate::{Answers, questions_of};
-use dns_message::Rrs;
 use bytes::Bytes;
+use dns_message::Rrs;
 use dns_record::{Key, Rdata, Rr, matches_any};
 use sd_call::{Answer, Request};
 use std::alloc::{AllocError, Global};
@@ -25,13 +25,7 @@ pub fn answers_of(alloc: Global, request: &Request, rrs: &Rrs) -> Result<Answers
 {
     let mut answers = Answers::new(alloc);
     let questions = questions_of(request);
-    put_answers(
-        alloc,
-        &mut answers,
-        request,
-        questions.as_slice(),
-        rrs.as_slice(),
-    )?;
+    put_answers(&mut answers, request, questions.as_slice(), rrs.as_slice())?;
     answers.order()?;
     Ok(answers)
 }
@@ -41,7 +35,6 @@ const SRV: u16 = 33;
 
 // Puts the answers that the matching records give.
 fn put_answers(
-    alloc: Global,
     answers: &mut Answers,
     request: &Request,
     questions: &[Key],
@@ -50,41 +43,31 @@ fn put_answers(
     ensures { OnOk result (answers.new ≡ answers.old ++ answers_from request.now (matching questions.now rrs.now)) }
 {
     match request {
-        Request::Query { .. } | Request::Address { .. } => put_data(alloc, answers, questions, rrs),
+        Request::Query { .. } | Request::Address { .. } => put_data(answers, questions, rrs),
         Request::Browse { .. } => put_instances(answers, questions, rrs),
-        Request::Resolve { .. } => put_places(alloc, answers, questions, rrs),
+        Request::Resolve { .. } => put_places(answers, questions, rrs),
         Request::Register { .. } | Request::Update { .. } | Request::Stop => Ok(()),
     }
 }
 
 // Puts the data of the matching records.
-fn put_data(
-    alloc: Global,
-    answers: &mut Answers,
-    questions: &[Key],
-    rrs: &[Rr],
-) -> Result<(), AllocError>
+fn put_data(answers: &mut Answers, questions: &[Key], rrs: &[Rr]) -> Result<(), AllocError>
     ensures { OnOk result (answers.new ≡ answers.old ++ filter_map datum_of (matching questions.now rrs.now)) }
 {
     for rr in rrs {
-        put_datum(alloc, answers, questions, rr)?;
+        put_datum(answers, questions, rr)?;
     }
     Ok(())
 }
 
 // Puts a record's type and data, where it matches.
-fn put_datum(
-    alloc: Global,
-    answers: &mut Answers,
-    questions: &[Key],
-    rr: &Rr,
-) -> Result<(), AllocError>
+fn put_datum(answers: &mut Answers, questions: &[Key], rr: &Rr) -> Result<(), AllocError>
     ensures { OnOk result (answers.new ≡ answers.old ++ filter_map datum_of (matching questions.now (rr.now ∷ []))) }
 {
     if !matches_any(questions, rr) {
         return Ok(());
     }
-    let rdata = rr.rdata.copy(alloc)?;
+    let rdata = rr.rdata.copy()?;
     answers.push(Answer::Datum { rdata })?;
     Ok(())
 }
@@ -118,23 +101,17 @@ fn put_instance(answers: &mut Answers, questions: &[Key], rr: &Rr) -> Result<(),
 }
 
 // Puts each pair of matching SRV and TXT data.
-fn put_places(
-    alloc: Global,
-    answers: &mut Answers,
-    questions: &[Key],
-    rrs: &[Rr],
-) -> Result<(), AllocError>
+fn put_places(answers: &mut Answers, questions: &[Key], rrs: &[Rr]) -> Result<(), AllocError>
     ensures { OnOk result (answers.new ≡ answers.old ++ resolved_pairs (matching questions.now rrs.now)) }
 {
     for rr in rrs {
-        put_place(alloc, answers, questions, rrs, rr)?;
+        put_place(answers, questions, rrs, rr)?;
     }
     Ok(())
 }
 
 // Puts a record's pairs with the matching TXT data, where it matches.
 fn put_place(
-    alloc: Global,
     answers: &mut Answers,
     questions: &[Key],
     rrs: &[Rr],
@@ -145,13 +122,12 @@ fn put_place(
     if !matches_any(questions, rr) {
         return Ok(());
     }
-    put_pairs(alloc, answers, &rr.rdata, questions, rrs)?;
+    put_pairs(answers, &rr.rdata, questions, rrs)?;
     Ok(())
 }
 
 // Puts the pairs of SRV data with the matching TXT data; of other data there are none.
 fn put_pairs(
-    alloc: Global,
     answers: &mut Answers,
     place: &Rdata,
     questions: &[Key],
@@ -163,14 +139,13 @@ fn put_pairs(
         return Ok(());
     }
     for rr in rrs {
-        put_pair(alloc, answers, place, questions, rr)?;
+        put_pair(answers, place, questions, rr)?;
     }
     Ok(())
 }
 
 // Puts the pair of SRV data with a record's TXT data, where it matches.
 fn put_pair(
-    alloc: Global,
     answers: &mut Answers,
     place: &Rdata,
     questions: &[Key],
@@ -181,7 +156,7 @@ fn put_pair(
     if !matches_any(questions, rr) {
         return Ok(());
     }
-    match pair(alloc, place, &rr.rdata)? {
+    match pair(place, &rr.rdata)? {
         Some(answer) => {
             answers.push(answer)?;
             Ok(())
@@ -191,7 +166,7 @@ fn put_pair(
 }
 
 // The answer of SRV data with TXT data.
-fn pair(alloc: Global, place: &Rdata, txt: &Rdata) -> Result<Option<Answer>, AllocError>
+fn pair(place: &Rdata, txt: &Rdata) -> Result<Option<Answer>, AllocError>
     ensures { IfOk result (λ found. found ≡ resolved_with place.now txt.now) }
 {
     match (place, txt) {

@@ -1,8 +1,8 @@
 // Requests over a fixed list of records: the questions that each asks, and the answers that it has.
 use crate::{answers_of, questions_of};
+use bytes::Bytes;
 use dns_message::Rrs;
 use dns_name::Name;
-use bytes::Bytes;
 use dns_record::{Rr, put_kind, put_name};
 use sd_call::{Request, Text, put_answer, well_formed};
 use std::alloc::Global;
@@ -100,9 +100,7 @@ fn other_requests_ask_nothing(rt: HostRuntime) -> Result<(), Fail> {
         norename: false,
         txt: Bytes::new(),
     };
-    let update = Request::Update {
-        txt: Bytes::new(),
-    };
+    let update = Request::Update { txt: Bytes::new() };
     for request in [&register, &update, &Request::Stop] {
         assert!(rt; outcome(alloc, request, &rrs)?.is_empty());
     }

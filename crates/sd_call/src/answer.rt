@@ -1,8 +1,8 @@
 // What an operation finds.
 ghost use Rattle.std.specs.Prelude.{◌≡◌, IfOk};
 
-use dns_name::Name;
 use bytes::Bytes;
+use dns_name::Name;
 use dns_record::Rdata;
 use std::alloc::{AllocError, Global};
 
@@ -35,12 +35,12 @@ pub enum Answer {
 
 impl Answer {
     /// An equal answer. Refused only for want of memory.
-    pub fn copy(&self, alloc: Global) -> Result<Answer, AllocError>
+    pub fn copy(&self) -> Result<Answer, AllocError>
         ensures { IfOk result (λ copy. copy ≡ self.now) }
     {
         Ok(match self {
             Answer::Datum { rdata } => Answer::Datum {
-                rdata: rdata.copy(alloc)?,
+                rdata: rdata.copy()?,
             },
             Answer::Found { instance } => Answer::Found {
                 instance: instance.copy(),

@@ -20,7 +20,7 @@ pub enum Item {
 
 impl Item {
     /// An equal item. Refused only for want of memory.
-    pub fn copy(&self, alloc: Global) -> Result<Item, AllocError>
+    pub fn copy(&self) -> Result<Item, AllocError>
         ensures { IfOk result (λ copy. copy ≡ self.now) }
     {
         Ok(match self {
@@ -31,11 +31,11 @@ impl Item {
             },
             Item::Add { op, answer } => Item::Add {
                 op: *op,
-                answer: answer.copy(alloc)?,
+                answer: answer.copy()?,
             },
             Item::Remove { op, answer } => Item::Remove {
                 op: *op,
-                answer: answer.copy(alloc)?,
+                answer: answer.copy()?,
             },
         })
     }

@@ -2,8 +2,8 @@
 ghost use Rattle.std.specs.Prelude.{◌≡◌, IfOk};
 
 use crate::Text;
-use dns_name::Name;
 use bytes::Bytes;
+use dns_name::Name;
 use std::alloc::{AllocError, Global};
 
 /// What a client asks of the daemon.
@@ -78,9 +78,7 @@ impl Request {
                 norename: *norename,
                 txt: txt.clone()?,
             },
-            Request::Update { txt } => Request::Update {
-                txt: txt.clone()?,
-            },
+            Request::Update { txt } => Request::Update { txt: txt.clone()? },
             Request::Stop => Request::Stop,
         })
     }

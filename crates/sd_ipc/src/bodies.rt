@@ -4,8 +4,8 @@ ghost use Rattle.sd_ipc.specs.Frames.{request_kind, is_short};
 ghost use Rattle.sd_ipc.specs.Again.{IsBody};
 
 use crate::fields::{put_name, put_text, put_txt, put_u16};
-use dns_name::Name;
 use bytes::Bytes;
+use dns_name::Name;
 use sd_call::{Request, Text};
 use std::alloc::{AllocError, Global};
 

@@ -5,8 +5,8 @@ ghost use Rattle.sd_ipc.specs.Reading.{a_of, aaaa_of, last_name_of, srv_of, nsec
 
 use crate::FrameError;
 use crate::parts::{ended, name_part, u16_part};
-use dns_name::Name;
 use bytes::Bytes;
+use dns_name::Name;
 use dns_record::Rdata;
 use std::alloc::Global;
 

@@ -3,8 +3,8 @@ ghost use Rattle.std.specs.Prelude.{IfOk};
 ghost use Rattle.sd_ipc.specs.Again.{IsData};
 
 use crate::fields::{put_name, put_u16};
-use dns_name::Name;
 use bytes::Bytes;
+use dns_name::Name;
 use dns_record::Rdata;
 use std::alloc::{AllocError, Global};
 

@@ -5,8 +5,8 @@ ghost use Rattle.dns_name.specs.Names.{wire_of};
 ghost use Rattle.sd_ipc.specs.Frames.{counted};
 ghost use Rattle.sd_ipc.specs.Again.{ReadsNumber, ReadsName, ReadsText, ReadsTxt};
 
-use dns_name::Name;
 use bytes::Bytes;
+use dns_name::Name;
 use sd_call::Text;
 use std::alloc::AllocError;
 

@@ -5,8 +5,8 @@ ghost use Rattle.sd_ipc.specs.Again.{IsAnswer, IsItemBody};
 
 use crate::data_bytes::data_bytes;
 use crate::fields::{put_name, put_u16};
-use dns_name::Name;
 use bytes::Bytes;
+use dns_name::Name;
 use dns_record::Rdata;
 use sd_call::{Answer, Item, Verb};
 use std::alloc::{AllocError, Global};

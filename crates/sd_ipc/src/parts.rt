@@ -3,8 +3,8 @@ ghost use Rattle.std.specs.Prelude.{◌≡◌, ◌⊎◌, ◌≤◌, length, Ok,
 ghost use Rattle.sd_ipc.specs.Parts.{byte_part, u16_part, u32_part, bytes_part, counted_part, text_part, txt_part, name_part, ended};
 
 use crate::FrameError;
-use dns_name::Name;
 use bytes::Bytes;
+use dns_name::Name;
 use sd_call::Text;
 use std::alloc::Global;
 use std::str;

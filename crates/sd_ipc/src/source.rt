@@ -7,7 +7,7 @@ ghost use Rattle.sd_ipc.specs.Taking.{Told, IsRefused, IsOf, TakesUpTo, TakesWho
 use crate::FrameError;
 use bytes::Bytes;
 use mdns_base::Source;
-use std::alloc::Global;
+use std::alloc::{AllocError, Global};
 
 /// The bytes behind the length word of the next frame; None where the source ends before a first byte.
 pub(crate) fn next_frame<S: Source>(
@@ -57,7 +57,14 @@ fn whole_frame(size: usize, frame: Vec<u8>) -> Result<Option<Bytes>, FrameError>
     if frame.len() < size {
         return Err(FrameError::Truncated);
     }
-    Ok(Some(Bytes::from_vec(frame)?))
+    Ok(Some(shared(frame)?))
+}
+
+// The bytes of a vector, to be shared.
+fn shared(bytes: Vec<u8>) -> Result<Bytes, AllocError>
+    ensures { IfOk result (λ shared. shared ≡ bytes.items) }
+{
+    Ok(Bytes::from_vec(bytes)?)
 }
 
 // The next bytes, so many, and fewer only where the source ends.

@@ -64,4 +64,4 @@ returns-clause-written c =
     let answers = stage written_record _ (questions_of m).names _ _ _ (answers_at m) _ m.answers questions.size questions.names_are c.as_slice-2.ensures c.in_ok-put_records.ensures.0 c.in_ok-put_records.ensures.1 in
     let authority = stage written_record _ (answers_of m).names _ _ _ (authority_at m) _ m.authority answers.size answers.names_are c.as_slice-3.ensures c.in_ok-put_records-2.ensures.0 c.in_ok-put_records-2.ensures.1 in
     let additional = stage written_record _ (authority_of m).names _ _ _ (additional_at m) _ m.additional authority.size authority.names_are c.as_slice-4.ensures c.in_ok-put_records-3.ensures.0 c.in_ok-put_records-3.ensures.1 in
-    c.from_vec.ensures ∙ put_together m _ _ _ _ _ _ _ _ _ begin questions answers authority additional
+    c.in_ok-shared.ensures ∙ put_together m _ _ _ _ _ _ _ _ _ begin questions answers authority additional
