@@ -1,4 +1,5 @@
 use crate::*;
+use bytes::Bytes;
 use dns_name::Name;
 use std::alloc::Global;
 use std::cmp::Ordering;
