@@ -44,12 +44,12 @@ fn what_was_appended_is_taken_in_order(rt: HostRuntime) -> Result<(), Fail> {
             op,
             answer: Answer::Conflict,
         };
-        assert_eq!(rt; outbox.append(item), Ok(()));
+        outbox.append(item)?;
     }
     assert_eq!(rt; outbox.bytes(), 30);
     assert_eq!(rt; op_of(outbox.take()), Some(1));
     assert_eq!(rt; outbox.bytes(), 20);
-    assert_eq!(rt; outbox.append(reply()), Ok(()));
+    outbox.append(reply())?;
     assert_eq!(rt; op_of(outbox.take()), Some(2));
     assert_eq!(rt; op_of(outbox.take()), Some(3));
     assert_eq!(rt; outbox.bytes(), 14);
@@ -63,9 +63,9 @@ fn what_was_appended_is_taken_in_order(rt: HostRuntime) -> Result<(), Fail> {
 fn a_queue_that_passes_the_limit_is_cut(rt: HostRuntime) -> Result<(), Fail> {
     let alloc = rt.alloc();
     let mut outbox = Outbox::new(alloc);
-    assert_eq!(rt; outbox.append(reply()), Ok(()));
+    outbox.append(reply())?;
     for _ in 0..2047 {
-        assert_eq!(rt; outbox.append(datum(alloc, 8180)?), Ok(()));
+        outbox.append(datum(alloc, 8180)?)?;
     }
     assert_eq!(rt; outbox.bytes(), 16_769_038);
     assert_eq!(rt; outbox.len(), 2048);
@@ -86,11 +86,11 @@ fn a_queue_that_passes_the_limit_is_cut(rt: HostRuntime) -> Result<(), Fail> {
 fn an_item_of_exactly_the_rest_is_queued(rt: HostRuntime) -> Result<(), Fail> {
     let alloc = rt.alloc();
     let mut outbox = Outbox::new(alloc);
-    assert_eq!(rt; outbox.append(reply()), Ok(()));
-    assert_eq!(rt; outbox.append(datum(alloc, 16_777_216 - 14 - 12)?), Ok(()));
+    outbox.append(reply())?;
+    outbox.append(datum(alloc, 16_777_216 - 14 - 12)?)?;
     assert_eq!(rt; outbox.bytes(), 16_777_216);
     assert_eq!(rt; op_of(outbox.take()), Some(1));
-    assert_eq!(rt; outbox.append(reply()), Ok(()));
+    outbox.append(reply())?;
     assert_eq!(rt; outbox.append(reply()), Err(AppendError::Cut));
     Ok(())
 }
