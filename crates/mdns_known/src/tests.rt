@@ -73,7 +73,7 @@ fn known_answers_are_listed(rt: HostRuntime) -> Result<(), Fail> {
     for (records, written) in HELD {
         let mut held = Vec::new(alloc);
         for (text, heard, end) in records {
-            let rr = Rr::parse_text(alloc, text).map_err(|_| "record")?;
+            let rr = Rr::parse_text(alloc, text)?;
             held.push(held_at(rr, *heard, *end))?;
         }
         let known = listed_at(alloc, held.as_slice(), 10_000)?;
@@ -101,7 +101,7 @@ fn several_questions_have_each_answer_once(rt: HostRuntime) -> Result<(), Fail> 
         "b.local. 120 - A 10.0.0.1",
         "d.local. 120 - A 10.0.0.1",
     ] {
-        let rr = Rr::parse_text(alloc, text).map_err(|_| "record")?;
+        let rr = Rr::parse_text(alloc, text)?;
         held.push(held_at(rr, 0, 120_000))?;
     }
     let held = held.as_slice();
@@ -170,8 +170,8 @@ const PAIRS: [(&str, &str, bool); 6] = [
 fn listed_records_silence_replies(rt: HostRuntime) -> Result<(), Fail> {
     let alloc = rt.alloc();
     for (listed, own, silenced) in PAIRS {
-        let listed = Rr::parse_text(alloc, listed).map_err(|_| "record")?;
-        let own = Rr::parse_text(alloc, own).map_err(|_| "record")?;
+        let listed = Rr::parse_text(alloc, listed)?;
+        let own = Rr::parse_text(alloc, own)?;
         assert_eq!(rt; suppresses(&listed, &own), silenced);
     }
     Ok(())
