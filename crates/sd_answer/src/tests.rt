@@ -110,7 +110,7 @@ fn other_requests_ask_nothing(rt: HostRuntime) -> Result<(), Fail> {
 fn records(alloc: Global) -> Result<Rrs, Fail> {
     let mut rrs = Rrs::new(alloc);
     for text in RECORDS {
-        rrs.push(Rr::parse_text(alloc, text).map_err(|_| "record")?)?;
+        rrs.push(Rr::parse_text(alloc, text)?)?;
     }
     Ok(rrs)
 }
