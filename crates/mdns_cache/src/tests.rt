@@ -164,9 +164,7 @@ fn hear<L: Ledger>(
         match cache.expire(u64::from(now), steps) {
             Some(one) => gone.push(one)?,
             None => {
-                cache
-                    .hear(u64::from(now), word, heard)
-                    .map_err(|_| "refused")?;
+                cache.hear(u64::from(now), word, heard)?;
                 return Ok(());
             }
         }
@@ -338,7 +336,7 @@ fn is_refused<L: Ledger>(
     match cache.hear(u64::from(now), now, heard) {
         Ok(()) => Ok(false),
         Err(HearError::Full) => Ok(true),
-        Err(HearError::NoMemory) => Err("no memory")?,
+        Err(HearError::NoMemory) => Err(AllocError)?,
     }
 }
 
