@@ -52,12 +52,21 @@ fn counted(alloc: Global, len: usize) -> Result<Vec<u8>, AllocError> {
     Ok(out)
 }
 
+// Why no frame was read. Want of memory is passed on.
+fn fault_of<F: Drop>(read: Result<F, FrameError>) -> Result<Option<FrameError>, AllocError> {
+    match read {
+        Ok(_) => Ok(None),
+        Err(FrameError::NoMemory) => Err(AllocError),
+        Err(fault) => Ok(Some(fault)),
+    }
+}
+
 fn request_fault(alloc: Global, bytes: &[u8]) -> Result<Option<FrameError>, AllocError> {
-    Ok(read_request(alloc, &mut source(alloc, bytes, &[])?).err())
+    fault_of(read_request(alloc, &mut source(alloc, bytes, &[])?))
 }
 
 fn item_fault(alloc: Global, bytes: &[u8]) -> Result<Option<FrameError>, AllocError> {
-    Ok(read_item(alloc, &mut source(alloc, bytes, &[])?).err())
+    fault_of(read_item(alloc, &mut source(alloc, bytes, &[])?))
 }
 
 // The text of the request that was read, and the frame that is written of it.
@@ -68,9 +77,7 @@ fn expect_request<S: Source>(
     bytes: &[u8],
     text: &str,
 ) -> Result<(), Fail> {
-    let (op, request) = read_request(alloc, input)
-        .map_err(|_| "read")?
-        .ok_or("none")?;
+    let (op, request) = read_request(alloc, input)?.ok_or("none")?;
     let mut out = Vec::new(alloc);
     put_request(&mut out, &request)?;
     assert_eq!(rt; out.as_slice(), text.as_bytes(), "{text}");
@@ -89,7 +96,7 @@ fn expect_item<S: Source>(
     bytes: &[u8],
     text: &str,
 ) -> Result<(), Fail> {
-    let item = read_item(alloc, input).map_err(|_| "read")?.ok_or("none")?;
+    let item = read_item(alloc, input)?.ok_or("none")?;
     let mut out = Vec::new(alloc);
     put_item(&mut out, &item)?;
     assert_eq!(rt; out.as_slice(), text.as_bytes(), "{text}");
@@ -297,22 +304,22 @@ fn each_read_fails_in_turn(rt: HostRuntime) -> Result<(), Fail> {
     for failing in 1..3 {
         let mut input = source(alloc, bytes, &[failing])?;
         assert_eq!(rt;
-            read_request(alloc, &mut input).err(),
+            fault_of(read_request(alloc, &mut input))?,
             Some(FrameError::ReadFault)
         );
         let mut input = source(alloc, bytes, &[failing])?;
         assert_eq!(rt;
-            read_item(alloc, &mut input).err(),
+            fault_of(read_item(alloc, &mut input))?,
             Some(FrameError::ReadFault)
         );
     }
     let mut input = source(alloc, bytes, &[3])?;
-    assert!(rt; read_request(alloc, &mut input).is_ok());
+    assert!(rt; read_request(alloc, &mut input)?.is_some());
     assert_eq!(rt;
-        read_request(alloc, &mut input).err(),
+        fault_of(read_request(alloc, &mut input))?,
         Some(FrameError::ReadFault)
     );
-    assert!(rt; matches!(read_request(alloc, &mut input), Ok(None)));
+    assert!(rt; read_request(alloc, &mut input)?.is_none());
     Ok(())
 }
 
