@@ -51,7 +51,7 @@ fn three_threads_append(rt: HostRuntime) -> Result<(), Fail> {
         let one = numbers(alloc, 1_000_000, count)?;
         let two = numbers(alloc, 2_000_000, count)?;
         let three = numbers(alloc, 3_000_000, count)?;
-        let all = by_three(&rt, alloc, &turn, seat, &one, &two, &three).ok_or("no memory")?;
+        let all = by_three(&rt, alloc, &turn, seat, &one, &two, &three).ok_or(AllocError)?;
         assert_eq!(rt; all.len() as u64, 3 * count);
         for from in [1_000_000, 2_000_000, 3_000_000] {
             assert!(rt;
@@ -81,10 +81,10 @@ fn other_works(rt: HostRuntime) -> Result<(), Fail> {
         },
     )?;
     let turn = Arc::new(alloc, turn)?;
-    assert_eq!(rt;
-        turn_in_thread(rt, &turn, seat, Append { number: 7 }),
-        Some(true)
-    );
+    let appended = turn_in_thread(rt, &turn, seat, Append { number: 7 }).ok_or(AllocError)?;
+    if !appended {
+        Err(AllocError)?;
+    }
 
     let (turn, mut seat) = Turn::new(alloc, Dial::new(5))?;
     assert_eq!(rt; set_by_turn(&rt, &turn, &mut seat, 8), 5);
