@@ -16,7 +16,8 @@ use std::alloc::Global;
 /// RFC 6762 18)
 ///
 /// The error is the first fault in reading order: `TooLong` for more than 8972 bytes, before anything is read, and
-/// else `Truncated`, `BadPointer`, `BadLabel`, `LongName` or `BadRdata`. `NoMemory` alone may come at any bytes.
+/// else `Truncated`, `BadPointer`, `BadLabel`, `LongName` or `BadRdata`. `NoMemory` alone may come at any bytes that
+/// hold a header.
 #[tactic(auto, unfolding(crate::specs::Reading::spelled))]
 pub fn read(alloc: Global, bytes: &[u8]) -> Result<Message, MessageError>
     ensures found { IfOk result (λ message. Spells bytes.now message) }
@@ -24,6 +25,7 @@ pub fn read(alloc: Global, bytes: &[u8]) -> Result<Message, MessageError>
     ensures only { (message : Message) → Spells bytes.now message → (result ≡ Ok message) ⊎ (result ≡ Err MessageError.NoMemory) }
     ensures bounded { IsErrOf result MessageError.TooLong ↔ (8972 < length bytes.now) }
     ensures valid { IfOk result (λ message. HasValidParts message) }
+    ensures memory { result ≡ Err MessageError.NoMemory → 12 ≤ length bytes.now }
 {
     if bytes.len() > 8972 {
         return Err(MessageError::TooLong);
@@ -37,6 +39,7 @@ fn read_short(alloc: Global, bytes: &[u8]) -> Result<Message, MessageError>
     requires { length bytes.now ≤ 8972 }
     ensures read { IsReadAs result (spelled bytes.now) }
     ensures bytes { IfOk result (λ _. All (λ byte. byte < 256) bytes.now) }
+    ensures memory { result ≡ Err MessageError.NoMemory → 12 ≤ length bytes.now }
 {
     if bytes.len() < 12 {
         return Err(MessageError::Truncated);
