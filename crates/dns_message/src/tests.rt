@@ -399,7 +399,7 @@ fn rewritten(alloc: Global, bytes: &[u8], limit: usize) -> Result<Vec<u8>, Alloc
         Err(_) => return Ok(Vec::new(alloc)),
     };
     match write(alloc, &message, limit.min(8972)) {
-        Ok(bytes) => Ok(bytes.into_vec()),
+        Ok(bytes) => Ok(Vec::from_slice(alloc, bytes.as_slice())?),
         Err(WriteError::NoMemory) => Err(AllocError),
         Err(fault) => Ok(vec![in alloc; fault as u8]?),
     }
