@@ -43,8 +43,8 @@ returns-in_err-frame-clause-within g c = λ bytes e.
 
 pub returns-clause-value : goal.returns-clause-value
 returns-clause-value g c = λ bytes e.
-    rw c.whole_frame.ensures
-    (inr (a_word bytes _ _ _ _ _ (c.in_ok-word.ensures.taken bytes e) (rw c.in-Some.is at c.in_ok-size.ensures.value ∙ ap word_at c.deref.ensures.value) c.in_ok-frame.ensures.taken).value)
+    rw (a_word bytes _ _ _ _ _ (c.in_ok-word.ensures.taken bytes e) (rw c.in-Some.is at c.in_ok-size.ensures.value ∙ ap word_at c.deref.ensures.value) c.in_ok-frame.ensures.taken).value
+    at c.whole_frame.ensures.of
 
 pub returns-clause-whole : goal.returns-clause-whole
 returns-clause-whole g c = λ bytes e.
