@@ -156,7 +156,6 @@ impl Cache {
         ensures heard { (moment : ℕ) → AllHeard moment self.old.held → AllHeard moment self.new.held }
         ensures limit { self.new.limit ≡ self.old.limit }
         ensures room { self.old.spare ≤ self.new.spare }
-        ensures steps { steps.new ≡ steps.old + 1 }
     {
         steps.tick();
         let place = first_ended(&self.held, now)?;
@@ -165,8 +164,7 @@ impl Cache {
 
     /// The held record at a place, counted from 0, among those of a name, case aside; `None` exactly past the last.
     pub fn visit<L: Ledger>(&self, name: &Name, place: usize, steps: &mut Steps<L>) -> Option<&Held>
-        ensures value { option_copied result ≡ slice_get (held_of name.now self.now.held) place }
-        ensures steps { steps.new ≡ steps.old + 1 }
+        ensures { option_copied result ≡ slice_get (held_of name.now self.now.held) place }
     {
         steps.tick();
         held_at(&self.held, name, place)
