@@ -10,14 +10,14 @@ import tempfile
 
 from tools import built, instructions, table
 
-STANDS_ON = "mdns_core mdns_history mdns_cache sd_call dns_record dns_name mdns_base"
+STANDS_ON = "mdns_core mdns_history mdns_cache sd_call dns_record dns_name mdns_base bytes"
 WHY = "The daemon keeps plain lists, copies what it holds at each step, and goes over all of it for each live operation."
 PROGRAM = r"""//! Lets a daemon hear so many packets while operations are live.
 #![tactic(auto)]
 ghost use Rattle.std.specs.Prelude.{◌≡◌, ◌<◌};
 
+use bytes::Bytes;
 use dns_name::Name;
-use dns_record::Bytes;
 use mdns_base::Host;
 use mdns_cache::Steps;
 use mdns_core::Daemon;
@@ -73,14 +73,14 @@ fn tell<L: Ledger>(daemon: &mut Daemon, steps: &mut Steps<L>, event: Event) -> R
     }
 }
 
-fn heard(bytes: Vec<u8>) -> Event {
-    Event::Hear {
+fn heard(bytes: Vec<u8>) -> Result<Event, AllocError> {
+    Ok(Event::Hear {
         from: Host {
             ip: 0x0a00_0009,
             port: 5353,
         },
-        bytes: Bytes::from_vec(bytes),
-    }
+        bytes: Bytes::from_vec(bytes)?,
+    })
 }
 
 fn ask<L: Ledger>(alloc: Global, daemon: &mut Daemon, steps: &mut Steps<L>, op: u8) -> Result<(), AllocError> {
@@ -104,10 +104,10 @@ fn ten_operations<L: Ledger>(alloc: Global, daemon: &mut Daemon, steps: &mut Ste
         ask(alloc, daemon, steps, op)?;
     }
     for row in 0..10u8 {
-        tell(daemon, steps, heard(ten(alloc, row)?))?;
+        tell(daemon, steps, heard(ten(alloc, row)?)?)?;
     }
     for _ in 0..times {
-        tell(daemon, steps, heard(ten(alloc, 3)?))?;
+        tell(daemon, steps, heard(ten(alloc, 3)?)?)?;
     }
     Ok(())
 }
@@ -116,7 +116,7 @@ fn ten_operations<L: Ledger>(alloc: Global, daemon: &mut Daemon, steps: &mut Ste
 fn one_question<L: Ledger>(alloc: Global, daemon: &mut Daemon, steps: &mut Steps<L>, times: u32) -> Result<(), AllocError> {
     ask(alloc, daemon, steps, 0)?;
     for number in 0..times {
-        tell(daemon, steps, heard(one(alloc, number)?))?;
+        tell(daemon, steps, heard(one(alloc, number)?)?)?;
     }
     Ok(())
 }
