@@ -2,8 +2,8 @@ ghost use Rattle.std.specs.Prelude.{◌≡◌, ◌<◌};
 
 use super::*;
 use dns_message::Rrs;
-use dns_name::{Label, Name, NameError};
-use dns_record::{Rdata, RecordError, Rr};
+use dns_name::{Label, Name};
+use dns_record::{Rdata, Rr};
 use mdns_history::Held;
 use std::alloc::{AllocError, Global};
 use std::marker::Brand;
