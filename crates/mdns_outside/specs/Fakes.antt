@@ -1,0 +1,33 @@
+-- What the fakes in memory have left and hold.
+use Rattle.std.specs.Prelude.{ℕ, List}
+use Rattle.mdns_outside.specs.Parts.{Handed, Arriving}
+use Rattle.mdns_outside.specs.declared.ear.Incoming.{Incoming}
+use Rattle.mdns_outside.specs.declared.air.Packet.{Packet}
+use Rattle.mdns_base.specs.declared.memory.MemSink.{MemSink}
+use Rattle.mdns_base.specs.Memory.{sink_held}
+use Rattle.mdns_outside.specs.declared.counted.Counted.{Counted}
+use Rattle.mdns_outside.specs.declared.mem_plug.Peer.{Peer}
+
+-- a packet that arrives: its sender, and its bytes
+abbrev pub arriving : Incoming → Arriving
+arriving packet = (packet.from, packet.bytes)
+
+-- a packet that was handed over: its bytes, and where it goes
+abbrev pub handed : Packet → Handed
+handed packet = (packet.bytes, packet.to)
+
+-- the source or sink within
+abbrev pub inner_of : {S : Type 0} → Counted S → S
+inner_of counted = counted.inner
+
+-- how often it failed
+abbrev pub counted_faults : {S : Type 0} → Counted S → ℕ
+counted_faults counted = counted.faults
+
+-- what a peer says
+abbrev pub peer_bytes : Peer → List ℕ
+peer_bytes peer = peer.bytes.items
+
+-- what was said to a peer
+abbrev pub said_bytes : Counted MemSink → List ℕ
+said_bytes sink = sink_held sink.inner

@@ -1,0 +1,5 @@
+pub mod Parts
+pub mod Doors
+pub mod Fakes
+pub mod Plugs
+pub mod Plugged
