@@ -1,8 +1,8 @@
 //! A work that holds a reference.
-ghost use Rattle.std.specs.Prelude.{◌≡◌, [], ◌++◌, length};
-ghost use Rattle.mdns_turn.specs.History.{turns};
-ghost use Rattle.mdns_turn.specs.Models.{IsSeatOf};
-ghost use Rattle.mdns_turn_numbers.specs.Numbers.{items_of};
+ghost use Rattle.std.specs.Prelude.{◌≡◌, [], ◌∷◌, ◌++◌, length};
+ghost use Rattle.mdns_turn.specs.Models.{IsSeatOf, IsSameSeat, HasItsTurns};
+ghost use Rattle.mdns_turn_numbers.specs.declared.Change.TheVariants.{Counted};
+ghost use Rattle.mdns_turn_numbers.specs.Numbers.{Counts};
 
 use crate::Numbers;
 use mdns_turn::{Seat, Turn, Work};
@@ -29,7 +29,8 @@ impl<'a> Work<Numbers> for Count<'a> {
     }
 }
 
-/// How many numbers there are of the caller's own, and how many the list has at the seat's turn.
+/// How many numbers there are of the caller's own, and how many the list has at the seat's turn: the list that is made
+/// by all turns which the seat has seen then, before its own.
 pub fn count_both<R: Wait>(
     rt: &R,
     turn: &Turn<Numbers>,
@@ -39,7 +40,9 @@ pub fn count_both<R: Wait>(
     requires turn { IsSeatOf turn.now seat.old }
     requires empty { turn.now.opening.items.items ≡ [] }
     ensures own { result.0 ≡ length own.now }
-    ensures shared { (between : _) × (result.1 ≡ length (items_of (turns (seat.old.seen ++ between)))) }
+    ensures shared { Counts result.1 seat.old seat.new }
+    ensures same { IsSameSeat seat.old seat.new }
+    ensures mine { HasItsTurns seat.new × (seat.new.mine ≡ seat.old.mine ++ Counted ∷ []) }
 {
     turn.turn(rt, seat, Count { own })
 }

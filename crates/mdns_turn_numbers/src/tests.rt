@@ -3,7 +3,7 @@ ghost use Rattle.std.specs.Prelude.{◌<◌, ◌+◌, ◌^◌, ◌≡◌, [], If
 use crate::lent::count_both;
 use crate::modeled::{Dial, set_by_turn};
 use crate::spawned::turn_in_thread;
-use crate::threads::by_three;
+use crate::threads::{append_all, by_three};
 use crate::{Append, Numbers};
 use mdns_turn::Turn;
 use std::alloc::{AllocError, Global};
@@ -42,7 +42,7 @@ fn three_threads_append(rt: HostRuntime) -> Result<(), Fail> {
     let alloc = rt.alloc();
     // Without a wake after each turn the longer run hangs.
     for count in [10, 100_000] {
-        let (turn, seat) = Turn::new(
+        let (turn, mut seat) = Turn::new(
             alloc,
             Numbers {
                 items: Vec::new(alloc),
@@ -51,7 +51,7 @@ fn three_threads_append(rt: HostRuntime) -> Result<(), Fail> {
         let one = numbers(alloc, 1_000_000, count)?;
         let two = numbers(alloc, 2_000_000, count)?;
         let three = numbers(alloc, 3_000_000, count)?;
-        let all = by_three(&rt, alloc, &turn, seat, &one, &two, &three).ok_or(AllocError)?;
+        let all = by_three(&rt, alloc, &turn, &mut seat, &one, &two, &three).ok_or(AllocError)?;
         assert_eq!(rt; all.len() as u64, 3 * count);
         for from in [1_000_000, 2_000_000, 3_000_000] {
             assert!(rt;
@@ -73,6 +73,9 @@ fn other_works(rt: HostRuntime) -> Result<(), Fail> {
         },
     )?;
     assert_eq!(rt; count_both(&rt, &turn, &mut seat, &[1, 2, 3]), (3, 0));
+    if append_all(&rt, &turn, &mut seat, &[4, 5]) {
+        assert_eq!(rt; count_both(&rt, &turn, &mut seat, &[]), (0, 2));
+    }
 
     let (turn, seat) = Turn::new(
         alloc,

@@ -3,7 +3,7 @@ ghost use Rattle.std.specs.Prelude.{◌≡◌, true, false, [], ◌∷◌, ◌++
 ghost use Rattle.mdns_turn.specs.History.{StartsWith, turns};
 ghost use Rattle.mdns_turn.specs.Models.{IsSeatOf, IsSameSeat, HasItsTurns};
 ghost use Rattle.mdns_turn_numbers.specs.declared.Change.TheVariants.{Added, Missed, Taken};
-ghost use Rattle.mdns_turn_numbers.specs.Numbers.{items_of, IsMadeByThree};
+ghost use Rattle.mdns_turn_numbers.specs.Numbers.{TakesOut, IsMadeByThree};
 
 use crate::{Append, Numbers, Take};
 use mdns_turn::{Seat, Turn};
@@ -33,7 +33,8 @@ pub fn append_all<R: Wait>(
     true
 }
 
-/// Takes the list out: it is what the history until then makes of the empty list that the turn was made with.
+/// Takes the list out: it is what all turns that the seat has seen then, before its own, make of the empty list that the
+/// turn was made with.
 pub fn take_out<R: Wait>(
     rt: &R,
     alloc: Global,
@@ -45,7 +46,8 @@ pub fn take_out<R: Wait>(
     ensures same { IsSameSeat seat.old seat.new }
     ensures mine { HasItsTurns seat.new }
     ensures joined { seat.new.joined ≡ seat.old.joined }
-    ensures items { (between : _) × (seat.new.seen ≡ (seat.old.seen ++ between) ++ (seat.old.number, Taken) ∷ []) × (result.items ≡ items_of (turns (seat.old.seen ++ between))) }
+    ensures own { seat.new.mine ≡ seat.old.mine ++ Taken ∷ [] }
+    ensures items { TakesOut result.items seat.old seat.new }
 {
     turn.turn(rt, seat, Take { alloc })
 }
@@ -73,7 +75,7 @@ fn gather<R: Wait>(
     rt: &R,
     alloc: Global,
     turn: &Turn<Numbers>,
-    mut seat: Seat<Numbers>,
+    seat: &mut Seat<Numbers>,
     a: Seat<Numbers>,
     b: Seat<Numbers>,
     c: Seat<Numbers>,
@@ -81,35 +83,38 @@ fn gather<R: Wait>(
     _two: &[u64],
     _three: &[u64],
 ) -> Vec<u64>
-    requires turn { IsSeatOf turn.now seat × IsSeatOf turn.now a × IsSeatOf turn.now b × IsSeatOf turn.now c }
+    requires turn { IsSeatOf turn.now seat.old × IsSeatOf turn.now a × IsSeatOf turn.now b × IsSeatOf turn.now c }
     requires empty { turn.now.opening.items.items ≡ [] }
-    requires joined { (seat.joined ≡ []) × (a.joined ≡ []) × (b.joined ≡ []) × (c.joined ≡ []) }
+    requires joined { (seat.old.joined ≡ []) × (a.joined ≡ []) × (b.joined ≡ []) × (c.joined ≡ []) }
     requires made { (a.mine ≡ map Added _one.now) × (b.mine ≡ map Added _two.now) × (c.mine ≡ map Added _three.now) }
-    ensures { IsMadeByThree result.items _one.now _two.now _three.now }
+    ensures same { IsSameSeat seat.old seat.new }
+    ensures made { IsMadeByThree result.items seat.new _one.now _two.now _three.now }
 {
-    turn.join(&mut seat, a);
-    turn.join(&mut seat, b);
-    turn.join(&mut seat, c);
-    take_out(rt, alloc, turn, &mut seat)
+    turn.join(seat, a);
+    turn.join(seat, b);
+    turn.join(seat, c);
+    take_out(rt, alloc, turn, seat)
 }
 
-/// Three threads append their numbers, and then the list is taken out. `None` where memory ran out.
+/// Three threads append their numbers, and then the seat takes the list out. It is the list of all turns that the seat
+/// has seen then, among them just these of the three. `None` where memory ran out.
 pub fn by_three<R: Threads + Wait + Sync>(
     rt: &R,
     alloc: Global,
     turn: &Turn<Numbers>,
-    mut seat: Seat<Numbers>,
+    seat: &mut Seat<Numbers>,
     one: &[u64],
     two: &[u64],
     three: &[u64],
 ) -> Option<Vec<u64>>
-    requires turn { IsSeatOf turn.now seat × (seat.joined ≡ []) }
+    requires turn { IsSeatOf turn.now seat.old × (seat.old.joined ≡ []) }
     requires empty { turn.now.opening.items.items ≡ [] }
-    ensures { IfSome result (λ v. IsMadeByThree v.items one.now two.now three.now) }
+    ensures same { IsSameSeat seat.old seat.new }
+    ensures made { IfSome result (λ v. IsMadeByThree v.items seat.new one.now two.now three.now) }
 {
-    let first = turn.split(rt, &mut seat).ok()?;
-    let second = turn.split(rt, &mut seat).ok()?;
-    let third = turn.split(rt, &mut seat).ok()?;
+    let first = turn.split(rt, seat).ok()?;
+    let second = turn.split(rt, seat).ok()?;
+    let third = turn.split(rt, seat).ok()?;
     let (a, (b, c)) = join(
         rt,
         || -> Option<Seat<Numbers>>
