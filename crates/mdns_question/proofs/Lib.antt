@@ -6,7 +6,3 @@ pub mod Loops
 pub mod Told
 pub mod Earliest
 pub mod Following
-pub mod Lookups
-pub mod Order
-pub mod Activity
-pub mod Keeping

@@ -13,10 +13,7 @@ mod users;
 
 pub use asker::Asker;
 pub use due::due_questions;
-pub use law::{
-    activity_follows_the_uses, askings_follow_the_history, questions_in_order_are_the_active_ones,
-    questions_stand_apart,
-};
+pub use law::askings_follow_the_history;
 pub use next::next_due;
 pub use tracked::Tracked;
 
