@@ -1,5 +1,5 @@
 -- What the fakes in memory have left and hold.
-use Rattle.std.specs.Prelude.{ℕ, List}
+use Rattle.std.specs.Prelude.{ℕ, ◌-◌, Bool, List, length}
 use Rattle.mdns_outside.specs.Parts.{Handed, Arriving}
 use Rattle.mdns_outside.specs.declared.ear.Incoming.{Incoming}
 use Rattle.mdns_outside.specs.declared.air.Packet.{Packet}
@@ -7,6 +7,7 @@ use Rattle.mdns_base.specs.declared.memory.MemSink.{MemSink}
 use Rattle.mdns_base.specs.Memory.{sink_held}
 use Rattle.mdns_outside.specs.declared.counted.Counted.{Counted}
 use Rattle.mdns_outside.specs.declared.mem_plug.Peer.{Peer}
+use Rattle.mdns_outside.specs.declared.door.MemDoor.{MemDoor}
 
 -- a packet that arrives: its sender, and its bytes
 abbrev pub arriving : Incoming → Arriving
@@ -31,3 +32,15 @@ peer_bytes peer = peer.bytes.items
 -- what was said to a peer
 abbrev pub said_bytes : Counted MemSink → List ℕ
 said_bytes sink = sink_held sink.inner
+
+-- how many connections a door gave
+abbrev pub door_given : {I O : Type 0} → MemDoor I O → ℕ
+door_given door = door.total - length door.callers.items
+
+-- whether it has said that no more come
+abbrev pub door_over : {I O : Type 0} → MemDoor I O → Bool
+door_over door = door.over
+
+-- how often it failed
+abbrev pub door_faults : {I O : Type 0} → MemDoor I O → ℕ
+door_faults door = door.faults

@@ -3,3 +3,4 @@ pub mod Doors
 pub mod Fakes
 pub mod Plugs
 pub mod Plugged
+pub mod Places

@@ -2,19 +2,32 @@
 #![tactic(auto)]
 
 mod air;
+mod chacha;
 mod clock;
 mod counted;
+mod door;
 mod ear;
 mod mem_plug;
+mod null_sink;
 mod parts;
+mod place;
+mod plan;
 mod plug;
 mod spawner;
 
 pub use air::{MemAir, Packet};
+pub use chacha::ChaWords;
 pub use clock::{MemClock, MemWords, OpenGate};
 pub use counted::Counted;
+pub use door::MemDoor;
 pub use ear::{Incoming, MemEar};
 pub use mem_plug::{MemPlug, Peer};
+pub use null_sink::NullSink;
 pub use parts::{Air, Arrival, Clock, Door, Ear, Gate, Point, Spawner, Words};
+pub use place::Place;
+pub use plan::{PathText, Ports, ServePlan};
 pub use plug::Plug;
 pub use spawner::MemSpawner;
+
+#[cfg(test)]
+mod tests;
