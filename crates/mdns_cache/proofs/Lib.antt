@@ -3,3 +3,4 @@ pub mod LeastEnd
 pub mod Hearing
 pub mod Counting
 pub mod Ending
+pub mod Names

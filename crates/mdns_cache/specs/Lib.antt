@@ -1,2 +1,3 @@
 pub mod Lifetimes
 pub mod Contents
+pub mod Ended

@@ -4,9 +4,11 @@ ghost use Rattle.std.specs.Option.{option_copied};
 ghost use Rattle.std.specs.List.Sorted.{IsPermutation};
 ghost use Rattle.mdns_history.specs.Hearings.{Hearing};
 ghost use Rattle.mdns_history.specs.Lifetimes.{live_of};
+ghost use Rattle.mdns_cache.specs.Ended.{HasEnded, AreOfEnded};
 ghost use Rattle.mdns_cache.specs.Lifetimes.{hearing_at, hearings_at, after_hearings, Holds, Stands, AllLive, AllHeard, IsFirstEnded, held_of, next_end_of};
 
 use crate::count::is_room;
+use crate::ended::ended_names;
 use crate::hear::hear_all;
 use crate::look::{first_ended, held_at, least_end};
 use crate::{HearError, Steps};
@@ -24,6 +26,7 @@ const MORE: usize = 32;
 /// The records that were heard and are live, with room for a limited number. A moment is in ms. (RFC 6762 10)
 #[derive(Drop)]
 pub struct Cache {
+    alloc: Global,
     limit: usize,
     held: Vec<Held>,
 }
@@ -46,6 +49,7 @@ impl Cache {
         ensures stands { IfOk result (λ cache. (moment : ℕ) → Holds cache.held [] moment) }
     {
         Ok(Cache {
+            alloc,
             limit,
             held: Vec::new(alloc),
         })
@@ -60,6 +64,7 @@ impl Cache {
             → Stands copy.held heard moment) }
     {
         Ok(Cache {
+            alloc,
             limit: self.limit,
             held: copied(alloc, &self.held)?,
         })
@@ -71,6 +76,7 @@ impl Cache {
         ensures limit { self.new.limit ≡ self.old.limit }
         ensures room { OnOk result (more ≤ self.new.spare) }
         ensures kept { self.old.spare ≤ self.new.spare }
+        ensures enough { more ≤ self.old.spare → IsOk result }
         ensures err { OnErr result (self.new ≡ self.old) }
     {
         self.held.reserve(more)?;
@@ -156,6 +162,7 @@ impl Cache {
         ensures heard { (moment : ℕ) → AllHeard moment self.old.held → AllHeard moment self.new.held }
         ensures limit { self.new.limit ≡ self.old.limit }
         ensures room { self.old.spare ≤ self.new.spare }
+        ensures steps { steps.new ≡ steps.old + 1 }
     {
         steps.tick();
         let place = first_ended(&self.held, now)?;
@@ -164,10 +171,20 @@ impl Cache {
 
     /// The held record at a place, counted from 0, among those of a name, case aside; `None` exactly past the last.
     pub fn visit<L: Ledger>(&self, name: &Name, place: usize, steps: &mut Steps<L>) -> Option<&Held>
-        ensures { option_copied result ≡ slice_get (held_of name.now self.now.held) place }
+        ensures visited { option_copied result ≡ slice_get (held_of name.now self.now.held) place }
+        ensures steps { steps.new ≡ steps.old + 1 }
     {
         steps.tick();
         held_at(&self.held, name, place)
+    }
+
+    /// The owners of all held records that have ended at `now`, in no promised order. Nothing is changed. Refused only for
+    /// want of memory.
+    pub fn ended(&self, now: u64) -> Result<Vec<Name>, AllocError>
+        ensures all { IfOk result (λ names. HasEnded self.now.held now names.items) }
+        ensures only { IfOk result (λ names. AreOfEnded self.now.held now names.items) }
+    {
+        ended_names(self.alloc, &self.held, now)
     }
 
     /// The least end of the held records; `None` exactly where nothing is held.

@@ -3,6 +3,7 @@
 
 mod cache;
 mod count;
+mod ended;
 mod error;
 mod hear;
 mod law;

@@ -268,6 +268,8 @@ fn expect_filled<L: Ledger>(
     let name = Name::parse_text("B.LOCAL").map_err(|_| "name")?;
     assert!(rt; copy.visit(&name, 0, steps).is_some());
     assert!(rt; copy.visit(&name, 1, steps).is_none());
+    assert_eq!(rt; copy.ended(120_999)?.len(), 0);
+    assert_eq!(rt; copy.ended(121_000)?.len(), LIMIT);
     Ok(())
 }
 
