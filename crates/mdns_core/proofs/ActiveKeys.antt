@@ -21,7 +21,7 @@ use Rattle.mdns_question.specs.Standing.{uses}
 use Rattle.mdns_core.specs.InForce.{in_force}
 use Rattle.mdns_core.specs.State.{sessions_in}
 use Rattle.mdns_core.specs.Asked.{begun_keys, ended_keys}
-use Rattle.mdns_core.proofs.Hostless.{accepted-late}
+use Rattle.mdns_core.proofs.Operations.{accepted-late}
 use Rattle.mdns_core.proofs.KeyLists.{IsStrict, looked, key_eq-same, has_ordered, strict_ordered, strict_given, looked_given}
 use Rattle.mdns_core.proofs.KeyUses.{IsMove, times, uses-next}
 

@@ -1,5 +1,5 @@
 -- The entry that follows asks the questions that are chosen by what is kept, and what is kept of questions after it stands for the history with it.
-use Rattle.std.proofs.Common.{◌≡◌, ℕ, Bool, true, false, cond, not, ◌&&◌, ◌||◌, List, [], ◌∷◌, map, Option, Some, None, refl, ap, ◌∙◌, sym}
+use Rattle.std.proofs.Common.{◌≡◌, ℕ, Bool, true, false, cond, not, ◌&&◌, ◌||◌, List, [], ◌∷◌, ◌++◌, map, Option, Some, None, refl, ap, ◌∙◌, sym}
 use Rattle.std.specs.Prelude.{filter}
 use Rattle.std.specs.List.{list_any, filter_map, cons_option}
 use Rattle.std.specs.Option.{option_map, option_map_or}
@@ -28,7 +28,7 @@ use Rattle.mdns_core.specs.InForce.{in_force}
 use Rattle.mdns_core.specs.State.{asker_of, sessions_in}
 use Rattle.mdns_core.specs.Asked.{is_asked_by, heard_unless, asked_for, questions_after}
 use Rattle.mdns_core.specs.Next.{IsHeard}
-use Rattle.mdns_core.proofs.Stage.{bare, duty_marks, noted_marks, entry_after, entry_is}
+use Rattle.mdns_core.proofs.Stage.{bare, duty_marks, noted_marks, entry_after, entry_is, marks_are}
 use Rattle.mdns_core.proofs.Shape.{attached, passes_now, marks-next}
 use Rattle.mdns_core.proofs.AskedFor.{marks-asked}
 use Rattle.mdns_core.proofs.ActiveKeys.{move-next}
@@ -63,10 +63,10 @@ module _ (past : List Entry) (moment word : ℕ) (ev : Event) where
   pub duty_passes : (test : Mark → Bool) → test mark.Full ≡ false → ((number : ℕ) → test (mark.Bad number) ≡ false) → ((n : ℕ) → test (mark.Cut n) ≡ false) →
       has_mark test (entry_after past moment word ev) ≡ list_any test (duty_marks past moment word ev)
   duty_passes test full bad cut =
-      let cut_now : List ℕ = filter (λ n. not (is_cut n past) && passes_now past moment word ev n) (attached past moment word ev) in
+      let cut_now : List ℕ = filter (λ n. not (is_cut n past) && passes_now in_force past moment word ev n) (attached in_force past moment word ev) in
       let refusal : List Mark = refusal_marks (bare past moment word ev) past ev in
       let duties : List Mark = duty_marks past moment word ev in
-      ap (list_any test) (marks-next past moment word ev)
+      ap (list_any test) (marks-next in_force past moment word ev ∙ ap (λ ms. ms ++ map (λ n. mark.Cut n) cut_now) (marks_are past moment word ev))
       ∙ list_any-append test (noted_marks past moment word ev) (map (λ n. mark.Cut n) cut_now)
       ∙ ap (λ b. list_any test (noted_marks past moment word ev) || b) (cuts_pass_none test cut cut_now)
       ∙ or_false (list_any test (noted_marks past moment word ev))

@@ -9,19 +9,19 @@ use Rattle.mdns_history.specs.declared.entry.Outcome.{Outcome}
 use Rattle.mdns_history.specs.declared.entry.Outcome.TheVariants as outcome
 use Rattle.mdns_history.specs.declared.entry.Entry.{Entry}
 use Rattle.mdns_history.specs.History.{latest}
-use Rattle.mdns_core.specs.InForce.{in_force}
+use Rattle.mdns_history.specs.InForce.{Duties}
 use Rattle.mdns_history.specs.Sessions.{opened, opened_count, detached, is_number, attaching, is_attached, attached_sessions}
 use Rattle.mdns_history.specs.Outcomes.{early_outcome}
 use Rattle.mdns_history.specs.Fitting.{IsLegal}
 use Rattle.mdns_history.proofs.CallFacts.{opened_next}
 use Rattle.mdns_history.proofs.LegalReplay.{Holds, holds_from, count-late, attached-late}
 use Rattle.mdns_core.proofs.NumberLists.{has, has-filter, filter-same, filter-filter, filter-append, count_up-last, has-count_up, within-count_up, IsRising, IsRising-filter, IsRising-count_up}
-use Rattle.mdns_core.proofs.Stage.{marked, entry_after}
+use Rattle.mdns_core.proofs.EntryParts.{marked, entry_after}
 
 -- what holds of sessions in a legal history
-pub holds_legal : (past : List Entry) → IsLegal in_force past → Holds past
-holds_legal [] legal = absurd legal
-holds_legal (entry ∷ past) legal = holds_from in_force entry past legal
+pub holds_legal : (duties : Duties) (past : List Entry) → IsLegal duties past → Holds past
+holds_legal duties [] legal = absurd legal
+holds_legal duties (entry ∷ past) legal = holds_from duties entry past legal
 
 -- an entry that opens a session detaches none
 pub opens_alone : (e : Event) (past : List Entry) (k : ℕ) → opened (early_outcome e past) ≡ Some k → detached e (early_outcome e past) ≡ None
@@ -38,26 +38,26 @@ opens_alone (event.Hear from bytes) past k h = refl
 opens_alone event.Tick past k h = refl
 opens_alone (event.Take other max) past k h = refl
 
-module _ (past : List Entry) (moment word : ℕ) (ev : Event) where
+module _ (duties : Duties) (past : List Entry) (moment word : ℕ) (ev : Event) where
   abbrev early : Outcome
   early = early_outcome ev past
 
   abbrev noted_history : List Entry
-  noted_history = marked past moment word ev ∷ past
+  noted_history = marked duties past moment word ev ∷ past
 
   -- The whole entry opens and detaches as the noted one does.
-  pub opened_count-next : opened_count (entry_after past moment word ev ∷ past) ≡ opened_count noted_history
-  opened_count-next = count-late in_force past moment word ev
+  pub opened_count-next : opened_count (entry_after duties past moment word ev ∷ past) ≡ opened_count noted_history
+  opened_count-next = count-late duties past moment word ev
 
-  pub is_attached-next : (n : ℕ) → is_attached n (entry_after past moment word ev ∷ past) ≡ is_attached n noted_history
+  pub is_attached-next : (n : ℕ) → is_attached n (entry_after duties past moment word ev ∷ past) ≡ is_attached n noted_history
   unfolding is_attached
-  is_attached-next n = attached-late in_force past moment word ev n
+  is_attached-next n = attached-late duties past moment word ev n
 
-  pub attached_sessions-next : attached_sessions (entry_after past moment word ev ∷ past) ≡ attached_sessions noted_history
+  pub attached_sessions-next : attached_sessions (entry_after duties past moment word ev ∷ past) ≡ attached_sessions noted_history
   unfolding attached_sessions
   attached_sessions-next =
-      ap (λ k. filter (λ n. is_attached n (entry_after past moment word ev ∷ past)) (count_up 1 k)) opened_count-next
-      ∙ filter-same (λ n. is_attached n (entry_after past moment word ev ∷ past)) (λ n. is_attached n noted_history) (count_up 1 (opened_count noted_history)) (λ n h. is_attached-next n)
+      ap (λ k. filter (λ n. is_attached n (entry_after duties past moment word ev ∷ past)) (count_up 1 k)) opened_count-next
+      ∙ filter-same (λ n. is_attached n (entry_after duties past moment word ev ∷ past)) (λ n. is_attached n noted_history) (count_up 1 (opened_count noted_history)) (λ n h. is_attached-next n)
 
   -- A session is attached if it was just opened, and else if it was before and isn't detached.
   pub is_attached-step : (n : ℕ) → is_attached n noted_history ≡ cond (is_number n (opened early)) true (cond (is_number n (detached ev early)) false (is_attached n past))

@@ -1,5 +1,5 @@
 -- The next moment at which something is due: the first, from now on, at which a held record ends or a question is due.
-use Rattle.std.proofs.Common.{◌≡◌, ℕ, ◌<◌, ◌≤◌, max, Bool, true, false, not, ◌&&◌, ◌||◌, List, [], ◌∷◌, ◌++◌, map, None, refl, ap, ◌∙◌, sym, subst, arith}
+use Rattle.std.proofs.Common.{◌≡◌, ℕ, ◌<◌, ◌≤◌, max, Bool, true, false, not, ◌&&◌, ◌||◌, List, [], ◌∷◌, ◌++◌, map, refl, ap, ◌∙◌, sym, subst, arith}
 use Rattle.std.proofs.lemmas.List.Sorted.{list_any-IsPermutation}
 use Rattle.std.specs.Prelude.{filter, nat_lt}
 use Rattle.std.specs.List.{list_any, list_all}
@@ -11,10 +11,8 @@ use Rattle.mdns_history.specs.declared.entry.Entry.{Entry}
 use Rattle.mdns_history.specs.History.{now}
 use Rattle.mdns_history.specs.Hearings.{hearings}
 use Rattle.mdns_history.specs.Lifetimes.{is_live_at, live_records}
-use Rattle.mdns_history.specs.Groups.{host_of}
 use Rattle.mdns_history.specs.Asking.{tick_askings}
-use Rattle.mdns_history.specs.Fitting.{IsLegal}
-use Rattle.mdns_history.specs.Due.{is_nothing, is_idle, NextDue}
+use Rattle.mdns_history.specs.Due.{is_nothing, ends_none, is_idle, NextDue}
 use Rattle.mdns_history.proofs.LifetimeSteps.{live_of-later}
 use Rattle.mdns_base.proofs.Permutations.{IsPermutation-filter}
 use Rattle.mdns_question.specs.declared.tracked.Tracked.{Tracked}
@@ -24,7 +22,6 @@ use Rattle.mdns_question.specs.Standing as asking
 use Rattle.mdns_question.proofs.Following.{due_follows}
 use Rattle.mdns_core.specs.InForce.{in_force}
 use Rattle.mdns_core.specs.State.{asker_of}
-use Rattle.mdns_core.proofs.Ticks.{is_idle-tick}
 use Rattle.mdns_core.proofs.Waiting.{below_least, quiet_before}
 
 all_any : {X : Type 0} (p : X → Bool) (hs : List X) → list_all p hs ≡ not (list_any (λ h. not (p h)) hs)
@@ -58,7 +55,7 @@ least-due past (n ∷ ns) idle =
     idle_below : (t : ℕ) → now past ≤ t → is_idle in_force past t ≡ nat_lt t m
     idle_below t later = idle t later ∙ below_least t n ns
 
-module _ (past : List Entry) (legal : IsLegal in_force past) (hostless : host_of past ≡ None) (questions : List Tracked) (held : List Held)
+module _ (past : List Entry) (idle : (t : ℕ) → now past ≤ t → is_idle in_force past t ≡ (ends_none past t && is_nothing (tick_askings past t))) (questions : List Tracked) (held : List Held)
     (stands : asking.Stands (asker_of questions held) past) (records : IsPermutation held (live_records past (now past))) where
   live_later : (moment : ℕ) → now past ≤ moment → IsPermutation (filter (is_live_at moment) held) (live_records past moment)
   unfolding live_records
@@ -74,7 +71,7 @@ module _ (past : List Entry) (legal : IsLegal in_force past) (hostless : host_of
   -- A tick is idle where no held record has ended and no question is due.
   pub is_idle-held : (moment : ℕ) → now past ≤ moment → is_idle in_force past moment ≡ (list_all (is_live_at moment) held && is_nothing (due_at (asker_of questions held) moment))
   is_idle-held moment later =
-      is_idle-tick past moment legal hostless later
+      idle moment later
       ∙ ap (λ b. b && is_nothing (tick_askings past moment)) (sym (list_all-IsPermutation (is_live_at moment) held (live_records past (now past)) records))
       ∙ ap (λ b. list_all (is_live_at moment) held && b) (asks_none moment later)
 

@@ -1,10 +1,9 @@
--- A daemon without a host has no registration and no record of its own, and so the answers of its operations are over what it heard.
+-- A daemon without a host has no group, and no operation of its registers anything.
 use Rattle.std.proofs.Common.{◌≡◌, ℕ, ℤ, suc, ◌+◌, ◌==◌, Bool, true, false, cond, not, ◌&&◌, List, [], ◌∷◌, ◌++◌, map, Option, Some, None, refl, ap, subst, ◌∙◌, sym}
 use Rattle.std.specs.Prelude.{filter}
 use Rattle.std.specs.List.{list_all}
 use Rattle.std.specs.Option.{option_or, option_map, option_and_then, option_to_list, is_some}
-use Rattle.std.specs.Ordering.{int_eq, is_lt}
-use Rattle.dns_name.specs.Lists.{insert_by}
+use Rattle.std.specs.Ordering.{int_eq}
 use Rattle.sd_call.specs.declared.request.Request.{Request}
 use Rattle.sd_call.specs.declared.request.Request.TheVariants as request
 use Rattle.sd_call.specs.Requests.{no_error, invalid, bad_param, unsupported, refused, name_conflict, well_formed, is_register, with_txt}
@@ -12,16 +11,16 @@ use Rattle.mdns_history.specs.declared.config.Config.{Config}
 use Rattle.mdns_history.specs.declared.config.HostConfig.{HostConfig}
 use Rattle.mdns_history.specs.declared.event.Event.{Event}
 use Rattle.mdns_history.specs.declared.event.Event.TheVariants as event
-use Rattle.mdns_history.specs.declared.entry.Outcome.{Outcome}
 use Rattle.mdns_history.specs.declared.entry.Outcome.TheVariants as outcome
 use Rattle.mdns_history.specs.declared.entry.Entry.{Entry}
 use Rattle.mdns_history.specs.History.{booted, config_of}
 use Rattle.mdns_core.specs.InForce.{in_force}
 use Rattle.mdns_history.specs.declared.operation.Operation.{Operation}
-use Rattle.mdns_history.specs.Sessions.{Accepted, has_op, by_op, is_number, detached, is_attached, is_cut, accepted_call, accepted_in, after_request, after_call, updated, operations_of, operation_request}
+use Rattle.mdns_history.specs.Sessions.{Accepted, has_op, is_number, detached, is_attached, is_cut, accepted_call, accepted_in, after_request, after_call, updated, operations_of, operation_request}
 use Rattle.mdns_history.specs.Groups.{groups, host_of, host_group, group_of, registration_from, registration_in, registered_count, ends_group, begun_in, names_of}
-use Rattle.mdns_history.specs.Outcomes.{call_code, early_outcome, late_outcome, is_refused, is_name_conflict}
+use Rattle.mdns_history.specs.Outcomes.{call_code, early_outcome, is_refused, is_name_conflict}
 use Rattle.mdns_history.specs.Fitting.{is_boot, boot_entry, next_entry, IsLegalFrom, IsLegal}
+use Rattle.mdns_core.proofs.Operations.{accepted-late, all_insert, all_filter}
 
 -- whether an operation registers nothing
 abbrev pub is_plain : Operation → Bool
@@ -90,36 +89,7 @@ plain_early (event.Hear from bytes) past hostless = refl
 plain_early event.Tick past hostless = refl
 plain_early (event.Take session max) past hostless = refl
 
--- the call that is accepted is known before a take's outcome
-pub accepted-late : (ev : Event) (early : Outcome) (history : List Entry) → accepted_call ev (late_outcome ev early history) ≡ accepted_call ev early
-accepted-late (event.Boot config) early history = refl
-accepted-late event.Attach early history = refl
-accepted-late (event.Detach session) early history = refl
-accepted-late (event.Call session op r) early history = refl
-accepted-late (event.Hear from bytes) early history = refl
-accepted-late event.Tick early history = refl
-accepted-late (event.Take session max) early history = refl
-
 -- operations that register nothing stay so
-pub all_insert : (p : Operation → Bool) (o : Operation) (os : List Operation) → p o ≡ true → list_all p os ≡ true → list_all p (insert_by by_op o os) ≡ true
-all_insert p o [] h g = ap (λ b. b && true) h
-all_insert p o (q ∷ os) h g = placed (is_lt (by_op q o)) (p q) refl g (all_insert p o os h)
-  where
-    placed : (c b : Bool) → p q ≡ b → (b && list_all p os) ≡ true → (list_all p os ≡ true → list_all p (insert_by by_op o os) ≡ true) →
-        list_all p (cond c (q ∷ insert_by by_op o os) (o ∷ q ∷ os)) ≡ true
-    placed true true e f rest = ap (λ b. b && list_all p (insert_by by_op o os)) e ∙ rest f
-    placed false true e f rest = ap (λ b. b && (p q && list_all p os)) h ∙ ap (λ b. b && list_all p os) e ∙ f
-    placed c false e f rest = cc
-
-pub all_filter : (p q : Operation → Bool) (os : List Operation) → list_all p os ≡ true → list_all p (filter q os) ≡ true
-all_filter p q [] h = refl
-all_filter p q (o ∷ os) h = of (q o) (p o) refl h (all_filter p q os)
-  where
-    of : (b c : Bool) → p o ≡ c → (c && list_all p os) ≡ true → (list_all p os ≡ true → list_all p (filter q os) ≡ true) → list_all p (cond b (o ∷ filter q os) (filter q os)) ≡ true
-    of true true e g rest = ap (λ x. x && list_all p (filter q os)) e ∙ rest g
-    of false true e g rest = rest g
-    of b false e g rest = cc
-
 updated_plain : (op : ℕ) (txt : List ℕ) (o : Operation) → is_plain (updated op txt o) ≡ is_plain o
 updated_plain op txt o = of (has_op op o) (with_same o.request)
   where
@@ -149,7 +119,7 @@ plain_request session op (request.Register label regtype port norename txt) befo
 plain_request session op (request.Update txt) before plain h = all_updated op txt before ∙ h
 plain_request session op request.Stop before plain h = all_filter is_plain (λ o. not (has_op op o)) before h
 
-plain_after : (n : ℕ) (call : Option Accepted) (before : List Operation) → accepts_plain call ≡ true → list_all is_plain before ≡ true → list_all is_plain (after_call n call before) ≡ true
+pub plain_after : (n : ℕ) (call : Option Accepted) (before : List Operation) → accepts_plain call ≡ true → list_all is_plain before ≡ true → list_all is_plain (after_call n call before) ≡ true
 plain_after n None before plain h = h
 plain_after n (Some call) before plain h = of (call.session == n)
   where

@@ -1,4 +1,4 @@
--- What brings nothing: an entry that leaves operations and live records brings no changes, and a tick that ends no record does nothing.
+-- What brings nothing: where operations and their answers stay there is no change, and an event that brings no message leaves the live records that haven't ended.
 use Rattle.std.proofs.Common.{◌≡◌, ℕ, ◌≤◌, ◌==◌, Bool, true, false, cond, not, ◌&&◌, ◌||◌, List, [], ◌∷◌, ◌++◌, map, Option, Some, None, refl, ap, ◌∙◌, sym, arith, append_assoc}
 use Rattle.std.specs.Prelude.{filter, nat_lt, reverse}
 use Rattle.std.specs.List.{list_all, list_any, flat_map, find}
@@ -8,7 +8,6 @@ use Rattle.std.specs.Cmp.Lexicographic.{nat_list_cmp_total}
 use Rattle.std.proofs.lemmas.Bool.{or_right}
 use Rattle.std.proofs.lemmas.List.Folds.{list_any-append}
 use Rattle.dns_name.specs.Lists.{without}
-use Rattle.dns_record.specs.declared.record.Rr.{Rr}
 use Rattle.sd_call.specs.declared.answer.Answer.{Answer}
 use Rattle.sd_call.specs.declared.item.Item.TheVariants.{Add, Remove}
 use Rattle.sd_call.specs.Answers.{answer_bytes, answer_cmp, answer_eq}
@@ -19,11 +18,10 @@ use Rattle.mdns_history.specs.Hearings.{brought, counted_records, hearing_of, he
 use Rattle.mdns_history.specs.Lifetimes.{is_too_full, is_live_at, live_of, live_records}
 use Rattle.mdns_history.specs.declared.operation.Operation.{Operation}
 use Rattle.mdns_history.specs.Sessions.{has_op}
-use Rattle.mdns_history.specs.Answers.{answers_over}
 use Rattle.mdns_history.proofs.LifetimeSteps.{live_of-later}
-use Rattle.mdns_core.specs.Changes.{lost, gained, items_between}
-use Rattle.mdns_core.proofs.Stage.{bare, marked}
-use Rattle.mdns_core.proofs.Heard.{heard_now, hearings-marked}
+use Rattle.mdns_core.proofs.ChangesBy.{lost_by, gained_by, items_by}
+use Rattle.mdns_core.proofs.Stage.{bare, entry_after}
+use Rattle.mdns_core.proofs.Heard.{heard_now, hearings-next}
 use Rattle.mdns_core.proofs.Operations.{AreRising}
 
 answer_itself : (answer : Answer) → answer_eq answer answer ≡ true
@@ -69,25 +67,24 @@ are_found (o ∷ os) rising = (ap (λ b. cond b (Some o) (find (has_op o.op) os)
     itself : (o.op == o.op) ≡ true
     itself = grind arith
 
-lost_none : (all : List Operation) (rrs : List Rr) (os : List Operation) → AreFound all os → flat_map (lost all rrs rrs) os ≡ []
-lost_none all rrs [] found = refl
-lost_none all rrs (o ∷ os) found =
-    ap (λ (x : Option Operation). map (λ answer. Remove o.op answer) (without answer_eq (option_map_or (λ operation. answers_over operation.request rrs) x []) (answers_over o.request rrs)) ++ flat_map (lost all rrs rrs) os) found.0
-    ∙ ap (λ us. map (λ answer. Remove o.op answer) us ++ flat_map (lost all rrs rrs) os) (without-self (answers_over o.request rrs))
-    ∙ lost_none all rrs os found.1
+lost_none : (all : List Operation) (f : Operation → List Answer) (os : List Operation) → AreFound all os → flat_map (lost_by f f all) os ≡ []
+lost_none all f [] found = refl
+lost_none all f (o ∷ os) found =
+    ap (λ (x : Option Operation). map (λ answer. Remove o.op answer) (without answer_eq (option_map_or f x []) (f o)) ++ flat_map (lost_by f f all) os) found.0
+    ∙ ap (λ us. map (λ answer. Remove o.op answer) us ++ flat_map (lost_by f f all) os) (without-self (f o))
+    ∙ lost_none all f os found.1
 
-gained_none : (all : List Operation) (rrs : List Rr) (os : List Operation) → AreFound all os → flat_map (gained all rrs rrs) os ≡ []
-gained_none all rrs [] found = refl
-gained_none all rrs (o ∷ os) found =
-    ap (λ (x : Option Operation). map (λ answer. Add o.op answer) (without answer_eq (answers_over o.request rrs) (option_map_or (λ operation. answers_over operation.request rrs) x [])) ++ flat_map (gained all rrs rrs) os) found.0
-    ∙ ap (λ us. map (λ answer. Add o.op answer) us ++ flat_map (gained all rrs rrs) os) (without-self (answers_over o.request rrs))
-    ∙ gained_none all rrs os found.1
+gained_none : (all : List Operation) (f : Operation → List Answer) (os : List Operation) → AreFound all os → flat_map (gained_by f f all) os ≡ []
+gained_none all f [] found = refl
+gained_none all f (o ∷ os) found =
+    ap (λ (x : Option Operation). map (λ answer. Add o.op answer) (without answer_eq (f o) (option_map_or f x [])) ++ flat_map (gained_by f f all) os) found.0
+    ∙ ap (λ us. map (λ answer. Add o.op answer) us ++ flat_map (gained_by f f all) os) (without-self (f o))
+    ∙ gained_none all f os found.1
 
--- With the same operations and the same records there is no change.
-pub items_between-same : (os : List Operation) (rrs : List Rr) → AreRising os → items_between None os os rrs rrs ≡ []
-unfolding items_between
-items_between-same os rrs rising =
-    ap (λ xs. xs ++ flat_map (gained os rrs rrs) os) (lost_none os rrs os (are_found os rising)) ∙ gained_none os rrs os (are_found os rising)
+-- With the same operations and the same answers there is no change.
+pub items_by-same : (os : List Operation) (f : Operation → List Answer) → AreRising os → items_by f f None os os ≡ []
+items_by-same os f rising =
+    ap (λ xs. xs ++ flat_map (gained_by f f os) os) (lost_none os f os (are_found os rising)) ∙ gained_none os f os (are_found os rising)
 
 -- what passes a test all through
 pub filter-all : (p : Held → Bool) (hs : List Held) → list_all p hs ≡ true → filter p hs ≡ hs
@@ -108,8 +105,8 @@ module _ (past : List Entry) (moment word : ℕ) (ev : Event) where
       of false = ap (λ rs. reverse (map (hearing_of (bare past moment word ev)) rs)) quiet
 
   -- so the live records behind it are those before that haven't ended
-  pub live_records-quiet : counted_records (brought ev) ≡ [] → (last : ℕ) → last ≤ moment → live_records (marked past moment word ev ∷ past) moment ≡ filter (is_live_at moment) (live_records past last)
+  pub live_records-quiet : counted_records (brought ev) ≡ [] → (last : ℕ) → last ≤ moment → live_records (entry_after past moment word ev ∷ past) moment ≡ filter (is_live_at moment) (live_records past last)
   unfolding live_records
   live_records-quiet quiet last later =
-      ap (λ hs. live_of hs moment) (hearings-marked past moment word ev ∙ ap (λ hs. hs ++ hearings past) (heard_now-none quiet))
+      ap (λ hs. live_of hs moment) (hearings-next past moment word ev ∙ ap (λ hs. hs ++ hearings past) (heard_now-none quiet))
       ∙ live_of-later (hearings past) last moment later

@@ -333,15 +333,15 @@ uses-next past legal event.Attach entry move q = ap (λ m. m + 0) (of (opened (e
     of None e = uses-kept q entry past (move.opens ∙ e) move.ends move.accepts
     of (Some k) e =
         let itself : (k == k) ≡ true = grind arith in
-        uses-opened q entry past (holds_legal past legal) k (opened_next event.Attach past k (ap (is_number k) e ∙ itself)) (move.opens ∙ e) move.ends move.accepts
+        uses-opened q entry past (holds_legal in_force past legal) k (opened_next event.Attach past k (ap (is_number k) e ∙ itself)) (move.opens ∙ e) move.ends move.accepts
 uses-next past legal (event.Detach session) entry move q = of (is_attached session past) refl move.opens move.ends
   where
     of : (b : Bool) → is_attached session past ≡ b → opened entry.outcome ≡ opened (cond b outcome.Ended outcome.Closed) →
         detached entry.event entry.outcome ≡ detached (event.Detach session) (cond b outcome.Ended outcome.Closed) →
         uses q (entry ∷ past) + asked_by q (ended_with (detached (event.Detach session) (cond b outcome.Ended outcome.Closed)) (sessions_in past)) ≡ uses q past + 0
     of true e o d =
-        ap (λ x. uses q (entry ∷ past) + asked_by q (operations_in x)) (found-session past legal session ∙ ap (λ b. cond b (Some (session_in past session)) None) e)
-        ∙ uses-ended q entry past (holds_legal past legal) session e o d move.accepts
+        ap (λ x. uses q (entry ∷ past) + asked_by q (operations_in x)) (found-session in_force past legal session ∙ ap (λ b. cond b (Some (session_in past session)) None) e)
+        ∙ uses-ended q entry past (holds_legal in_force past legal) session e o d move.accepts
     of false e o d = ap (λ m. m + 0) (uses-kept q entry past o d move.accepts)
 uses-next past legal (event.Call session op r) entry move q =
     of (accepted_call (event.Call session op r) (early_outcome (event.Call session op r) past)) refl
@@ -379,9 +379,9 @@ uses-next past legal (event.Call session op r) entry move q =
         let facts = coded early call refl e in
         let attached : is_attached call.session past ≡ true = ap (λ (c : Accepted). is_attached c.session past) facts.1 ∙ facts.0 in
         ap (λ x. uses q (entry ∷ past) + asked_by q (stopped_by x (sessions_in past) ++ [])) e
-        ∙ ap (λ x. uses q (entry ∷ past) + asked_by q (stopped_in call.request call.op (operations_in x) ++ [])) (found-session past legal call.session ∙ ap (λ b. cond b (Some (session_in past call.session)) None) attached)
+        ∙ ap (λ x. uses q (entry ∷ past) + asked_by q (stopped_in call.request call.op (operations_in x) ++ [])) (found-session in_force past legal call.session ∙ ap (λ b. cond b (Some (session_in past call.session)) None) attached)
         ∙ ap (λ os. uses q (entry ∷ past) + asked_by q os) (append-nil (stopped_in call.request call.op (operations_of call.session past)))
-        ∙ uses-called q entry past (holds_legal past legal) call attached none_opened move.ends (move.accepts ∙ e)
+        ∙ uses-called q entry past (holds_legal in_force past legal) call attached none_opened move.ends (move.accepts ∙ e)
         ∙ sym (ap (λ x. uses q past + times q (begun_keys x)) e)
 uses-next past legal (event.Hear from bytes) entry move q = ap (λ m. m + 0) (uses-kept q entry past move.opens move.ends move.accepts)
 uses-next past legal event.Tick entry move q = ap (λ m. m + 0) (uses-kept q entry past move.opens move.ends move.accepts)

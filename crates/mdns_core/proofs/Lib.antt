@@ -1,4 +1,6 @@
 pub mod OperationPlaces
+pub mod EntryParts
+pub mod EntryMarks
 pub mod Stage
 pub mod Duties
 pub mod Heard
@@ -8,7 +10,9 @@ pub mod AskedAfter
 pub mod NumberLists
 pub mod Attached
 pub mod Hostless
-pub mod Plain
+pub mod WithoutHost
+pub mod CutAnswers
+pub mod ChangesBy
 pub mod Brought
 pub mod Shape
 pub mod Queues

@@ -1,5 +1,5 @@
--- What holds of queues and of sessions that were never opened, in a legal history of a daemon without a host.
-use Rattle.std.proofs.Common.{◌≡◌, ℕ, zero, suc, ◌+◌, ◌<◌, ◌≤◌, Bool, true, false, cond, ◌&&◌, ◌||◌, List, [], ◌∷◌, drop, length, None, refl, ap, subst, ◌∙◌, sym, arith}
+-- What holds of queues and of sessions that were never opened, in every legal history.
+use Rattle.std.proofs.Common.{◌≡◌, ℕ, zero, suc, ◌+◌, ◌<◌, ◌≤◌, Bool, true, false, cond, ◌&&◌, ◌||◌, List, [], ◌∷◌, drop, length, refl, ap, subst, ◌∙◌, sym, arith}
 use Rattle.std.proofs.Math.Bool.{and-false}
 use Rattle.std.specs.Option.{is_some}
 use Rattle.dns_name.specs.Lists.{count_up}
@@ -8,17 +8,15 @@ use Rattle.sd_call.specs.Answers.{frames_len}
 use Rattle.mdns_history.specs.declared.config.Config.{Config}
 use Rattle.mdns_history.specs.declared.event.Event.{Event}
 use Rattle.mdns_history.specs.declared.entry.Entry.{Entry}
-use Rattle.mdns_core.specs.InForce.{in_force}
+use Rattle.mdns_history.specs.InForce.{Duties}
 use Rattle.mdns_history.specs.Sessions.{opened, opened_count, is_attached, attached_sessions, is_cut, operations_of}
-use Rattle.mdns_history.specs.Groups.{host_of}
 use Rattle.mdns_history.specs.Items.{session_items, taken_items, queue}
 use Rattle.mdns_history.specs.Outcomes.{early_outcome}
 use Rattle.mdns_history.specs.Fitting.{boot_entry, IsLegalFrom, IsLegal}
 use Rattle.mdns_history.proofs.LegalReplay.{Holds}
 use Rattle.mdns_core.proofs.NumberLists.{has, has-filter, within-count_up}
-use Rattle.mdns_core.proofs.Stage.{marked, entry_after}
+use Rattle.mdns_core.proofs.EntryParts.{marked, entry_after}
 use Rattle.mdns_core.proofs.Attached.{holds_legal, opened_count-next}
-use Rattle.mdns_core.proofs.Hostless.{host_of-cons, IsPlain-legal}
 use Rattle.mdns_core.proofs.Shape.{attached, passes_now, is_cut-next}
 use Rattle.mdns_core.proofs.Queues.{begins_legal, queue_within}
 
@@ -26,19 +24,17 @@ queue_boot : (n moment word : ℕ) (config : Config) → queue n (boot_entry mom
 unfolding queue is_cut session_items taken_items
 queue_boot n moment word config = refl
 
-queue_from : (entry : Entry) (past : List Entry) → IsLegalFrom in_force entry past → host_of (entry ∷ past) ≡ None → (n : ℕ) → frames_len (queue n (entry ∷ past)) ≤ 16777216
-queue_from entry [] legal hostless n =
+queue_from : (duties : Duties) (entry : Entry) (past : List Entry) → IsLegalFrom duties entry past → (n : ℕ) → frames_len (queue n (entry ∷ past)) ≤ 16777216
+queue_from duties entry [] legal n =
     subst (λ e. frames_len (queue n (e ∷ [])) ≤ 16777216) (sym legal.3) (subst (λ xs. frames_len xs ≤ 16777216) (sym (queue_boot n entry.moment entry.word legal.0)) (omega arith))
-queue_from entry (before ∷ past) legal hostless n =
-    let earlier : host_of (before ∷ past) ≡ None = sym (host_of-cons entry (before ∷ past) (legal.0).no_boot) ∙ hostless in
+queue_from duties entry (before ∷ past) legal n =
     subst (λ e. frames_len (queue n (e ∷ before ∷ past)) ≤ 16777216) (sym (legal.0).determined)
-    (queue_within (before ∷ past) entry.moment entry.word entry.event earlier (IsPlain-legal (before ∷ past) legal.1 earlier) (legal.0).no_boot (begins_legal (before ∷ past) legal.1) n
-    (queue_from before past legal.1 earlier n))
+    (queue_within duties (before ∷ past) entry.moment entry.word entry.event (begins_legal duties (before ∷ past) legal.1) n (queue_from duties before past legal.1 n))
 
 -- No queue passes its limit.
-pub queue-within : (past : List Entry) → IsLegal in_force past → host_of past ≡ None → (n : ℕ) → frames_len (queue n past) ≤ 16777216
-queue-within [] legal hostless n = absurd legal
-queue-within (entry ∷ past) legal hostless n = queue_from entry past legal hostless n
+pub queue-within : (duties : Duties) (past : List Entry) → IsLegal duties past → (n : ℕ) → frames_len (queue n past) ≤ 16777216
+queue-within duties [] legal n = absurd legal
+queue-within duties (entry ∷ past) legal n = queue_from duties entry past legal n
 
 -- a session beyond those that were opened isn't attached behind an entry, nor cut
 not_attached : (n : ℕ) (history : List Entry) → opened_count history < n → has n (attached_sessions history) ≡ false
@@ -53,8 +49,8 @@ not_attached n history l =
         let high : n < 1 + opened_count history = within.1 in let no : ⊥ = omega arith in absurd no
     of false e = refl
 
-count_grows : (past : List Entry) (moment word : ℕ) (ev : Event) → opened_count past ≤ opened_count (marked past moment word ev ∷ past)
-count_grows past moment word ev = of (is_some (opened (early_outcome ev past)))
+count_grows : (duties : Duties) (past : List Entry) (moment word : ℕ) (ev : Event) → opened_count past ≤ opened_count (marked duties past moment word ev ∷ past)
+count_grows duties past moment word ev = of (is_some (opened (early_outcome ev past)))
   where
     of : (b : Bool) → opened_count past ≤ cond b (suc (opened_count past)) (opened_count past)
     of true = omega arith
@@ -64,22 +60,22 @@ uncut_boot : (n moment word : ℕ) (config : Config) → is_cut n (boot_entry mo
 unfolding is_cut
 uncut_boot n moment word config = refl
 
-uncut_from : (entry : Entry) (past : List Entry) → IsLegalFrom in_force entry past → (n : ℕ) → opened_count (entry ∷ past) < n → is_cut n (entry ∷ past) ≡ false
-uncut_from entry [] legal n l = subst (λ e. is_cut n (e ∷ []) ≡ false) (sym legal.3) (uncut_boot n entry.moment entry.word legal.0)
-uncut_from entry (before ∷ past) legal n l =
-    subst (λ e. opened_count (e ∷ before ∷ past) < n → is_cut n (e ∷ before ∷ past) ≡ false) (sym (legal.0).determined) (next (uncut_from before past legal.1 n)) l
+uncut_from : (duties : Duties) (entry : Entry) (past : List Entry) → IsLegalFrom duties entry past → (n : ℕ) → opened_count (entry ∷ past) < n → is_cut n (entry ∷ past) ≡ false
+uncut_from duties entry [] legal n l = subst (λ e. is_cut n (e ∷ []) ≡ false) (sym legal.3) (uncut_boot n entry.moment entry.word legal.0)
+uncut_from duties entry (before ∷ past) legal n l =
+    subst (λ e. opened_count (e ∷ before ∷ past) < n → is_cut n (e ∷ before ∷ past) ≡ false) (sym (legal.0).determined) (next (uncut_from duties before past legal.1 n)) l
   where
     h : List Entry
     h = before ∷ past
 
-    next : (opened_count h < n → is_cut n h ≡ false) → opened_count (entry_after h entry.moment entry.word entry.event ∷ h) < n → is_cut n (entry_after h entry.moment entry.word entry.event ∷ h) ≡ false
+    next : (opened_count h < n → is_cut n h ≡ false) → opened_count (entry_after duties h entry.moment entry.word entry.event ∷ h) < n → is_cut n (entry_after duties h entry.moment entry.word entry.event ∷ h) ≡ false
     next rest high =
-        let count : opened_count (entry_after h entry.moment entry.word entry.event ∷ h) ≡ opened_count (marked h entry.moment entry.word entry.event ∷ h) = opened_count-next h entry.moment entry.word entry.event in
-        let grows : opened_count h ≤ opened_count (marked h entry.moment entry.word entry.event ∷ h) = count_grows h entry.moment entry.word entry.event in
-        let above : opened_count (marked h entry.moment entry.word entry.event ∷ h) < n = subst (λ k. k < n) count high in
-        is_cut-next h entry.moment entry.word entry.event n
-        ∙ ap (λ b. b || (has n (attached h entry.moment entry.word entry.event) && passes_now h entry.moment entry.word entry.event n)) (rest (omega (arith, grows, above)))
-        ∙ ap (λ b. b && passes_now h entry.moment entry.word entry.event n) (not_attached n (marked h entry.moment entry.word entry.event ∷ h) above)
+        let count : opened_count (entry_after duties h entry.moment entry.word entry.event ∷ h) ≡ opened_count (marked duties h entry.moment entry.word entry.event ∷ h) = opened_count-next duties h entry.moment entry.word entry.event in
+        let grows : opened_count h ≤ opened_count (marked duties h entry.moment entry.word entry.event ∷ h) = count_grows duties h entry.moment entry.word entry.event in
+        let above : opened_count (marked duties h entry.moment entry.word entry.event ∷ h) < n = subst (λ k. k < n) count high in
+        is_cut-next duties h entry.moment entry.word entry.event n
+        ∙ ap (λ b. b || (has n (attached duties h entry.moment entry.word entry.event) && passes_now duties h entry.moment entry.word entry.event n)) (rest (omega (arith, grows, above)))
+        ∙ ap (λ b. b && passes_now duties h entry.moment entry.word entry.event n) (not_attached n (marked duties h entry.moment entry.word entry.event ∷ h) above)
 
 -- what holds of a session that was never opened
 pub record IsUnopened (n : ℕ) (history : List Entry) : Type 0 where
@@ -88,15 +84,15 @@ pub record IsUnopened (n : ℕ) (history : List Entry) : Type 0 where
   pub nothing_queued : queue n history ≡ []
   pub unattached : is_attached n history ≡ false
 
-pub unopened : (past : List Entry) → IsLegal in_force past → (n : ℕ) → opened_count past < n → IsUnopened n past
+pub unopened : (duties : Duties) (past : List Entry) → IsLegal duties past → (n : ℕ) → opened_count past < n → IsUnopened n past
 unfolding queue
-unopened [] legal n l = absurd legal
-unopened (entry ∷ past) legal n l =
-    let holds : Holds (entry ∷ past) = holds_legal (entry ∷ past) legal in
+unopened duties [] legal n l = absurd legal
+unopened duties (entry ∷ past) legal n l =
+    let holds : Holds (entry ∷ past) = holds_legal duties (entry ∷ past) legal in
     let idle : (session_items n (entry ∷ past) ≡ []) × (operations_of n (entry ∷ past) ≡ []) = holds.unopened n l in
     record {
       no_operations = idle.1;
-      uncut = uncut_from entry past legal n l;
+      uncut = uncut_from duties entry past legal n l;
       nothing_queued = ap (λ xs. cond (is_cut n (entry ∷ past)) [] (drop (length (taken_items n (entry ∷ past))) xs)) idle.0 ∙ none (is_cut n (entry ∷ past)) (length (taken_items n (entry ∷ past)));
       unattached = of (is_attached n (entry ∷ past)) refl (holds.numbered n);
     }

@@ -15,19 +15,48 @@ use Rattle.mdns_history.specs.declared.event.Event.TheVariants as event
 use Rattle.mdns_history.specs.declared.entry.Outcome.{Outcome}
 use Rattle.mdns_history.specs.declared.entry.Outcome.TheVariants as outcome
 use Rattle.mdns_history.specs.declared.entry.Entry.{Entry}
-use Rattle.mdns_core.specs.InForce.{in_force}
+use Rattle.mdns_history.specs.InForce.{Duties}
 use Rattle.mdns_history.specs.declared.operation.Operation.{Operation}
 use Rattle.mdns_history.specs.Sessions.{has_op, by_op, opened, opened_count, detached, is_number, is_attached, attached_sessions, updated, accepted_call, after_request, after_call, operations_of}
-use Rattle.mdns_history.specs.Outcomes.{early_outcome}
 use Rattle.mdns_history.specs.Fitting.{boot_entry, IsLegalFrom, IsLegal}
 use Rattle.mdns_history.proofs.ReplySteps.{number}
 use Rattle.mdns_history.proofs.EntryReplay.{operations_of-kept}
 use Rattle.mdns_history.proofs.LegalReplay.{operations-late, opened_undetached, new_number}
 use Rattle.mdns_core.proofs.NumberLists.{has, has-filter}
-use Rattle.mdns_core.proofs.Stage.{marked, entry_after}
+use Rattle.mdns_core.proofs.EntryParts.{marked, entry_after}
 use Rattle.mdns_core.proofs.Attached.{holds_legal, is_attached-step}
-use Rattle.mdns_core.proofs.Hostless.{all_insert, all_filter}
+use Rattle.mdns_history.specs.Outcomes.{early_outcome, late_outcome}
 use Rattle.mdns_core.proofs.Shape.{attached}
+
+-- the call that is accepted is known before a take's outcome
+pub accepted-late : (ev : Event) (early : Outcome) (history : List Entry) → accepted_call ev (late_outcome ev early history) ≡ accepted_call ev early
+accepted-late (event.Boot config) early history = refl
+accepted-late event.Attach early history = refl
+accepted-late (event.Detach session) early history = refl
+accepted-late (event.Call session op r) early history = refl
+accepted-late (event.Hear from bytes) early history = refl
+accepted-late event.Tick early history = refl
+accepted-late (event.Take session max) early history = refl
+
+-- operations that all pass a test, with one more or without some
+pub all_insert : (p : Operation → Bool) (o : Operation) (os : List Operation) → p o ≡ true → list_all p os ≡ true → list_all p (insert_by by_op o os) ≡ true
+all_insert p o [] h g = ap (λ b. b && true) h
+all_insert p o (q ∷ os) h g = placed (is_lt (by_op q o)) (p q) refl g (all_insert p o os h)
+  where
+    placed : (c b : Bool) → p q ≡ b → (b && list_all p os) ≡ true → (list_all p os ≡ true → list_all p (insert_by by_op o os) ≡ true) →
+        list_all p (cond c (q ∷ insert_by by_op o os) (o ∷ q ∷ os)) ≡ true
+    placed true true e f rest = ap (λ b. b && list_all p (insert_by by_op o os)) e ∙ rest f
+    placed false true e f rest = ap (λ b. b && (p q && list_all p os)) h ∙ ap (λ b. b && list_all p os) e ∙ f
+    placed c false e f rest = cc
+
+pub all_filter : (p q : Operation → Bool) (os : List Operation) → list_all p os ≡ true → list_all p (filter q os) ≡ true
+all_filter p q [] h = refl
+all_filter p q (o ∷ os) h = of (q o) (p o) refl h (all_filter p q os)
+  where
+    of : (b c : Bool) → p o ≡ c → (c && list_all p os) ≡ true → (list_all p os ≡ true → list_all p (filter q os) ≡ true) → list_all p (cond b (o ∷ filter q os) (filter q os)) ≡ true
+    of true true e g rest = ap (λ x. x && list_all p (filter q os)) e ∙ rest g
+    of false true e g rest = rest g
+    of b false e g rest = cc
 
 -- Each operation's number is less than those behind it.
 abbrev pub AreRising : List Operation → Type 0
@@ -109,21 +138,21 @@ rising_call session (event.Hear from bytes) o before rising new = rising
 rising_call session event.Tick o before rising new = rising
 rising_call session (event.Take s max) o before rising new = rising
 
-module _ (past : List Entry) (moment word : ℕ) (ev : Event) where
+module _ (duties : Duties) (past : List Entry) (moment word : ℕ) (ev : Event) where
   abbrev early : Outcome
   early = early_outcome ev past
 
   -- what the entry gives isn't seen by the operations
-  pub operations_of-next : (n : ℕ) → operations_of n (entry_after past moment word ev ∷ past) ≡ operations_of n (marked past moment word ev ∷ past)
+  pub operations_of-next : (n : ℕ) → operations_of n (entry_after duties past moment word ev ∷ past) ≡ operations_of n (marked duties past moment word ev ∷ past)
   unfolding operations_of
-  operations_of-next n = operations-late in_force past moment word ev n
+  operations_of-next n = operations-late duties past moment word ev n
 
   -- a session that is attached behind the entry isn't detached by it
-  pub undetached : (n : ℕ) → has n (attached past moment word ev) ≡ true → is_number n (detached ev early) ≡ false
+  pub undetached : (n : ℕ) → has n (attached duties past moment word ev) ≡ true → is_number n (detached ev early) ≡ false
   unfolding attached_sessions
   undetached n h = of (is_number n (opened early)) refl (is_number n (detached ev early)) refl
-      (sym (is_attached-step past moment word ev n) ∙ first (is_attached n (marked past moment word ev ∷ past)) (has n (count_up 1 (opened_count (marked past moment word ev ∷ past))))
-      (sym (has-filter n (λ s. is_attached s (marked past moment word ev ∷ past)) (count_up 1 (opened_count (marked past moment word ev ∷ past)))) ∙ h))
+      (sym (is_attached-step duties past moment word ev n) ∙ first (is_attached n (marked duties past moment word ev ∷ past)) (has n (count_up 1 (opened_count (marked duties past moment word ev ∷ past))))
+      (sym (has-filter n (λ s. is_attached s (marked duties past moment word ev ∷ past)) (count_up 1 (opened_count (marked duties past moment word ev ∷ past)))) ∙ h))
     where
       first : (a b : Bool) → (a && b) ≡ true → a ≡ true
       first true b g = refl
@@ -135,34 +164,34 @@ module _ (past : List Entry) (moment word : ℕ) (ev : Event) where
       of false e false f g = refl
 
   -- its operations are those after the call that the entry accepts
-  pub operations_of-attached : (n : ℕ) → has n (attached past moment word ev) ≡ true →
-      operations_of n (marked past moment word ev ∷ past) ≡ after_call n (accepted_call ev early) (operations_of n past)
-  operations_of-attached n h = operations_of-kept n (marked past moment word ev) past (undetached n h)
+  pub operations_of-attached : (n : ℕ) → has n (attached duties past moment word ev) ≡ true →
+      operations_of n (marked duties past moment word ev ∷ past) ≡ after_call n (accepted_call ev early) (operations_of n past)
+  operations_of-attached n h = operations_of-kept n (marked duties past moment word ev) past (undetached n h)
 
-  rising_next : (n : ℕ) → AreRising (operations_of n past) → AreRising (operations_of n (marked past moment word ev ∷ past))
+  rising_next : (n : ℕ) → AreRising (operations_of n past) → AreRising (operations_of n (marked duties past moment word ev ∷ past))
   unfolding operations_of
   rising_next n rising = of (is_number n (detached ev early))
     where
       of : (b : Bool) → AreRising (cond b [] (after_call n (accepted_call ev early) (operations_of n past)))
       of true = tt
-      of false = rising_call n ev early (operations_of n past) rising (new_number in_force past moment word ev n)
+      of false = rising_call n ev early (operations_of n past) rising (new_number duties past moment word ev n)
 
 rising_boot : (n moment word : ℕ) (config : Config) → AreRising (operations_of n (boot_entry moment word config ∷ []))
 unfolding operations_of
 rising_boot n moment word config = tt
 
-rising_from : (entry : Entry) (past : List Entry) → IsLegalFrom in_force entry past → (n : ℕ) → AreRising (operations_of n (entry ∷ past))
-rising_from entry [] legal n = subst (λ e. AreRising (operations_of n (e ∷ []))) (sym legal.3) (rising_boot n entry.moment entry.word legal.0)
-rising_from entry (before ∷ past) legal n =
+rising_from : (duties : Duties) (entry : Entry) (past : List Entry) → IsLegalFrom duties entry past → (n : ℕ) → AreRising (operations_of n (entry ∷ past))
+rising_from duties entry [] legal n = subst (λ e. AreRising (operations_of n (e ∷ []))) (sym legal.3) (rising_boot n entry.moment entry.word legal.0)
+rising_from duties entry (before ∷ past) legal n =
     subst (λ e. AreRising (operations_of n (e ∷ before ∷ past))) (sym (legal.0).determined)
-    (subst (λ os. AreRising os) (sym (operations_of-next (before ∷ past) entry.moment entry.word entry.event n))
-    (rising_next (before ∷ past) entry.moment entry.word entry.event n (rising_from before past legal.1 n)))
+    (subst (λ os. AreRising os) (sym (operations_of-next duties (before ∷ past) entry.moment entry.word entry.event n))
+    (rising_next duties (before ∷ past) entry.moment entry.word entry.event n (rising_from duties before past legal.1 n)))
 
 -- In a legal history the numbers of a session's operations rise strictly.
-pub operations-rising : (past : List Entry) → IsLegal in_force past → (n : ℕ) → AreRising (operations_of n past)
-operations-rising [] legal n = absurd legal
-operations-rising (entry ∷ past) legal n = rising_from entry past legal n
+pub operations-rising : (duties : Duties) (past : List Entry) → IsLegal duties past → (n : ℕ) → AreRising (operations_of n past)
+operations-rising duties [] legal n = absurd legal
+operations-rising duties (entry ∷ past) legal n = rising_from duties entry past legal n
 
 -- They are different.
-pub operations-apart : (past : List Entry) → IsLegal in_force past → (n : ℕ) → AreApart number (operations_of n past)
-operations-apart past legal n = (holds_legal past legal).apart n
+pub operations-apart : (duties : Duties) (past : List Entry) → IsLegal duties past → (n : ℕ) → AreApart number (operations_of n past)
+operations-apart duties past legal n = (holds_legal duties past legal).apart n

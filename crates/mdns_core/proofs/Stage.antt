@@ -11,7 +11,7 @@ use Rattle.mdns_history.specs.History.{now}
 use Rattle.mdns_core.specs.InForce.{in_force}
 use Rattle.mdns_history.specs.Asking.{tick_askings}
 use Rattle.mdns_history.specs.Sending.{sent_queries, tick_sends}
-use Rattle.mdns_history.specs.Fitting.{bare_entry, refusal_marks, asked_marks, event_sends, noted, with_cuts, with_items, with_outcome, next_entry, last_moment, is_boot, Fits, IsLegal}
+use Rattle.mdns_history.specs.Fitting.{bare_entry, refusal_marks, asked_marks, event_marks, event_sends, noted, with_cuts, with_items, with_outcome, next_entry, last_moment, is_boot, Fits, IsLegal}
 use Rattle.mdns_history.proofs.Determined.{next_entry-fits}
 
 -- what an event sends: a tick the queries of the questions that it asks
@@ -57,6 +57,11 @@ module _ (past : List Entry) (moment word : ℕ) (ev : Event) where
   abbrev pub entry_after : Entry
   entry_after = next_entry in_force past moment word ev
 
+  -- the same marks, by the definition for any duties
+  pub marks_are : event_marks in_force bare past ≡ noted_marks
+  unfolding in_force
+  marks_are = ap (λ (m : List Mark). refusal_marks bare past ev ++ m) (append-nil duty_marks)
+
   noted_is : noted in_force bare past ≡ marked
   unfolding in_force
   noted_is =
@@ -67,6 +72,10 @@ module _ (past : List Entry) (moment word : ℕ) (ev : Event) where
   pub entry_is : entry_after ≡ with_outcome giving past
   unfolding next_entry
   entry_is = ap (λ e. with_outcome (with_items (with_cuts e past) past) past) noted_is
+
+  -- what the entry sends
+  pub sent-next : entry_after.sent ≡ sent_by past moment ev
+  sent-next = ap (λ e. e.sent) entry_is
 
   -- the longer history is legal
   pub IsLegal-next : IsLegal in_force past → now past ≤ moment → moment ≤ last_moment → is_boot ev ≡ false → IsLegal in_force (entry_after ∷ past)

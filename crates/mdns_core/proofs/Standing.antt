@@ -13,11 +13,12 @@ use Rattle.mdns_history.specs.Hearings.{Hearing, hearings, heard_in}
 use Rattle.mdns_history.specs.Lifetimes.{is_live_at, live_of, live_records}
 use Rattle.mdns_history.specs.Sessions.{is_attached, attached_sessions, is_cut, operations}
 use Rattle.mdns_history.specs.Questions.{Active, active_questions}
-use Rattle.mdns_history.specs.Items.{session_items}
+use Rattle.mdns_history.specs.Items.{session_items, taken_items, queue}
 use Rattle.mdns_history.specs.Replays.{answer_sets}
 use Rattle.mdns_history.specs.Fitting.{boot_entry, last_moment, is_host_label}
 use Rattle.mdns_history.specs.Due.{is_nothing, is_idle, NextDue}
 use Rattle.mdns_history.proofs.LegalReplay.{is_replayed}
+use Rattle.mdns_history.proofs.LegalQueue.{is_queued}
 use Rattle.mdns_cache.specs.Lifetimes.{Holds}
 use Rattle.mdns_history.specs.declared.event.Event.{Event}
 use Rattle.mdns_history.specs.declared.held.Held.{Held}
@@ -29,6 +30,7 @@ use Rattle.mdns_question.specs.Tracking.{due_at}
 use Rattle.mdns_question.specs.Next.{next_of}
 use Rattle.dns_name.specs.Lists.{least}
 use Rattle.mdns_core.proofs.Due.{is_idle-held, due-held}
+use Rattle.mdns_core.proofs.WithoutHost.{is_idle-hostless}
 use Rattle.mdns_core.proofs.KeptOutcome.{found-session}
 
 -- the state of a daemon that was just booted
@@ -63,7 +65,7 @@ stands-boot moment word config in_time hostless = record {
 -- A session is attached where its number is found among those that are kept.
 pub attached-stands : (state : State) (history : List Entry) → Stands state history → (n : ℕ) → is_some (find (has_number n) state.sessions) ≡ is_attached n history
 attached-stands state history stands n =
-    ap (λ xs. is_some (find (has_number n) xs)) stands.sessions ∙ ap (λ (o : Option Session). is_some o) (found-session history stands.legal n) ∙ of (is_attached n history)
+    ap (λ xs. is_some (find (has_number n) xs)) stands.sessions ∙ ap (λ (o : Option Session). is_some o) (found-session in_force history stands.legal n) ∙ of (is_attached n history)
   where
     of : (b : Bool) → is_some (cond b (Some (session_in history n)) None) ≡ b
     of true = refl
@@ -73,18 +75,22 @@ attached-stands state history stands n =
 pub is_idle-stands : (state : State) (history : List Entry) → Stands state history → (moment : ℕ) → state.last ≤ moment →
     is_idle in_force history moment ≡ (list_all (is_live_at moment) state.held && is_nothing (due_at (asker_of state.questions state.held) moment))
 is_idle-stands state history stands moment later =
-    is_idle-held history stands.legal stands.hostless state.questions state.held stands.asking stands.records moment (subst (λ k. k ≤ moment) stands.last later)
+    is_idle-held history (is_idle-hostless history stands.legal stands.hostless) state.questions state.held stands.asking stands.records moment (subst (λ k. k ≤ moment) stands.last later)
 
 -- The next moment that is due is the first, from the last one on, at which a held record ends or a question is due.
 pub due-stands : (state : State) (history : List Entry) → Stands state history → NextDue in_force history (due_of state)
 due-stands state history stands =
     subst (λ k. NextDue in_force history (option_map (max k) (least (map (λ one. one.end) state.held ++ map (next_of state.held) state.questions)))) (sym stands.last)
-    (due-held history stands.legal stands.hostless state.questions state.held stands.asking stands.records)
+    (due-held history (is_idle-hostless history stands.legal stands.hostless) state.questions state.held stands.asking stands.records)
 
 -- Replaying the items of a session that is attached and not cut gives the answers of its operations.
 pub replayed-stands : (state : State) (history : List Entry) → Stands state history → (n : ℕ) → is_attached n history ≡ true → is_cut n history ≡ false →
     replay (session_items n history) ≡ Some (answer_sets n history)
 replayed-stands state history stands n attached uncut = is_replayed in_force history n stands.legal attached uncut
+
+-- They are those that it took, and then those that are queued for it.
+pub queued-stands : (state : State) (history : List Entry) → Stands state history → (n : ℕ) → is_cut n history ≡ false → session_items n history ≡ taken_items n history ++ queue n history
+queued-stands state history stands n uncut = is_queued in_force history n stands.legal uncut
 
 -- What is held is the live records of what was heard.
 pub holds-stands : (state : State) (history : List Entry) → Stands state history → Holds state.held (hearings history) state.last

@@ -32,17 +32,17 @@ use Rattle.mdns_core.specs.Asked.{asked_for, sent_for, questions_after}
 use Rattle.mdns_core.specs.Codes.{kept_outcome}
 use Rattle.mdns_core.specs.Settling.{change_for, cuts_of, gifts_of, all_settled, remaining, with_opened}
 use Rattle.mdns_core.specs.Next.{rrs_of, changes_for, sessions_then, outcome_then, sessions_after, entry_for, state_after, IsHeard}
-use Rattle.mdns_core.proofs.Stage.{sent_by, bare, duty_marks, marked, entry_after, entry_is, IsLegal-next}
-use Rattle.mdns_core.proofs.Hears.{refusal-is, records-is, records-marked}
+use Rattle.mdns_core.proofs.EntryParts.{marked}
+use Rattle.mdns_core.proofs.Stage.{sent_by, bare, duty_marks, entry_after, entry_is, marks_are, sent-next, IsLegal-next}
+use Rattle.mdns_core.proofs.Hears.{refusal-is, records-is}
 use Rattle.mdns_core.proofs.AskedFor.{marks-asked, sends-asked}
 use Rattle.mdns_core.proofs.AskedAfter.{asking-next}
 use Rattle.mdns_core.proofs.Attached.{opened_count-next, opened_count-opened, opened_count-kept}
-use Rattle.mdns_core.proofs.Hostless.{IsPlain-legal}
-use Rattle.mdns_core.proofs.Plain.{host_of-next}
-use Rattle.mdns_core.proofs.Shape.{sent-next}
+use Rattle.mdns_core.proofs.WithoutHost.{rrs_of as live_rrs, hostless-next, outcome-kept, changes-kept}
+use Rattle.mdns_core.proofs.ChangesBy.{change_by}
+use Rattle.mdns_core.proofs.Brought.{answers_in}
 use Rattle.mdns_core.proofs.Takes.{outcome-early}
-use Rattle.mdns_core.proofs.KeptOutcome.{early_outcome-is}
-use Rattle.mdns_core.proofs.KeptChanges.{earlier_rrs, later_rrs, marks-kept, given-kept}
+use Rattle.mdns_core.proofs.KeptChanges.{marks-kept, given-kept}
 use Rattle.mdns_core.proofs.KeptSessions.{settled_sessions, sessions-untaken}
 use Rattle.mdns_core.proofs.Permuted.{changes-permuted}
 use Rattle.mdns_core.proofs.Taken.{taken-outcome, taken-sessions}
@@ -59,7 +59,7 @@ module _ (history : List Entry) (moment word : ℕ) (ev : Event) where
   early = early_outcome ev history
 
   abbrev changes : List SessionChange
-  changes = map (change_for ev early (earlier_rrs history moment word ev) (later_rrs history moment word ev)) (sessions_in history)
+  changes = map (change_by (answers_in history) (answers_in (entry_after history moment word ev ∷ history)) ev early) (sessions_in history)
 
   abbrev then_sessions : Outcome → List SessionChange → List Session
   then_sessions o cs = with_opened (opened o) (remaining ev o (all_settled (sessions_in history) cs))
@@ -72,14 +72,14 @@ module _ (history : List Entry) (moment word : ℕ) (ev : Event) where
     outcome-is = of ev refl
       where
         of : (e : Event) → ev ≡ e → (entry_after history moment word e).outcome
-            ≡ outcome_then e (early_outcome e history) (with_opened (opened (early_outcome e history)) (remaining e (early_outcome e history) (settled_sessions history moment word e)))
-        of (event.Boot config) h = outcome-early history moment word (event.Boot config) refl
-        of event.Attach h = outcome-early history moment word event.Attach refl
-        of (event.Detach session) h = outcome-early history moment word (event.Detach session) refl
-        of (event.Call session op request) h = outcome-early history moment word (event.Call session op request) refl
-        of (event.Hear from bytes) h = outcome-early history moment word (event.Hear from bytes) refl
-        of event.Tick h = outcome-early history moment word event.Tick refl
-        of (event.Take session max) h = taken-outcome history moment word session max legal hostless
+            ≡ outcome_then e (early_outcome e history) (with_opened (opened (early_outcome e history)) (remaining e (early_outcome e history) (settled_sessions in_force history moment word e)))
+        of (event.Boot config) h = outcome-early in_force history moment word (event.Boot config) refl
+        of event.Attach h = outcome-early in_force history moment word event.Attach refl
+        of (event.Detach session) h = outcome-early in_force history moment word (event.Detach session) refl
+        of (event.Call session op request) h = outcome-early in_force history moment word (event.Call session op request) refl
+        of (event.Hear from bytes) h = outcome-early in_force history moment word (event.Hear from bytes) refl
+        of event.Tick h = outcome-early in_force history moment word event.Tick refl
+        of (event.Take session max) h = taken-outcome in_force history moment word session max legal
 
     -- what is kept makes the entry that follows, with the marks and messages of the duties
     entry-is : entry_after history moment word ev ≡ entry_with early changes (refusal_marks (bare history moment word ev) history ev) (duty_marks history moment word ev) (sent_by history moment ev)
@@ -89,30 +89,30 @@ module _ (history : List Entry) (moment word : ℕ) (ev : Event) where
         ap (λ m. entry_of m e.word e.event e.marks e.sent e.given e.outcome) (ap (λ x. x.moment) (entry_is history moment word ev))
         ∙ ap (λ w. entry_of moment w e.event e.marks e.sent e.given e.outcome) (ap (λ x. x.word) (entry_is history moment word ev))
         ∙ ap (λ v. entry_of moment word v e.marks e.sent e.given e.outcome) (ap (λ x. x.event) (entry_is history moment word ev))
-        ∙ ap (λ marks. entry_of moment word ev marks e.sent e.given e.outcome) (marks-kept history moment word ev legal hostless no_boot)
+        ∙ ap (λ marks. entry_of moment word ev marks e.sent e.given e.outcome) (marks-kept in_force history moment word ev legal ∙ ap (λ ns. ns ++ cuts_of changes) (marks_are history moment word ev))
         ∙ ap (λ ss. entry_of moment word ev ms ss e.given e.outcome) (sent-next history moment word ev)
-        ∙ ap (λ gs. entry_of moment word ev ms (sent_by history moment ev) gs e.outcome) (given-kept history moment word ev legal hostless no_boot)
+        ∙ ap (λ gs. entry_of moment word ev ms (sent_by history moment ev) gs e.outcome) (given-kept in_force history moment word ev legal)
         ∙ ap (λ o. entry_of moment word ev ms (sent_by history moment ev) (gifts_of changes) o) outcome-is
 
     opened-is : opened_count (entry_after history moment word ev ∷ history) ≡ unwrap_or (opened early) (opened_count history)
-    opened-is = opened_count-next history moment word ev ∙ of (opened early) refl
+    opened-is = opened_count-next in_force history moment word ev ∙ of (opened early) refl
       where
-        of : (o : Option ℕ) → opened early ≡ o → opened_count (marked history moment word ev ∷ history) ≡ unwrap_or o (opened_count history)
-        of None e = opened_count-kept history moment word ev e
-        of (Some k) e = opened_count-opened history moment word ev k e
+        of : (o : Option ℕ) → opened early ≡ o → opened_count (marked in_force history moment word ev ∷ history) ≡ unwrap_or o (opened_count history)
+        of None e = opened_count-kept in_force history moment word ev e
+        of (Some k) e = opened_count-opened in_force history moment word ev k e
 
     sessions-is : sessions_in (entry_after history moment word ev ∷ history) ≡ sessions_after ev (then_sessions early changes)
     sessions-is = of ev no_boot
       where
         of : (e : Event) → is_boot e ≡ false → sessions_in (entry_after history moment word e ∷ history)
-            ≡ sessions_after e (with_opened (opened (early_outcome e history)) (remaining e (early_outcome e history) (settled_sessions history moment word e)))
+            ≡ sessions_after e (with_opened (opened (early_outcome e history)) (remaining e (early_outcome e history) (settled_sessions in_force history moment word e)))
         of (event.Boot config) h = cc
-        of event.Attach h = sessions-untaken history moment word event.Attach legal hostless refl refl
-        of (event.Detach session) h = sessions-untaken history moment word (event.Detach session) legal hostless refl refl
-        of (event.Call session op request) h = sessions-untaken history moment word (event.Call session op request) legal hostless refl refl
-        of (event.Hear from bytes) h = sessions-untaken history moment word (event.Hear from bytes) legal hostless refl refl
-        of event.Tick h = sessions-untaken history moment word event.Tick legal hostless refl refl
-        of (event.Take session max) h = taken-sessions history moment word session max legal hostless
+        of event.Attach h = sessions-untaken in_force history moment word event.Attach legal refl
+        of (event.Detach session) h = sessions-untaken in_force history moment word (event.Detach session) legal refl
+        of (event.Call session op request) h = sessions-untaken in_force history moment word (event.Call session op request) legal refl
+        of (event.Hear from bytes) h = sessions-untaken in_force history moment word (event.Hear from bytes) legal refl
+        of event.Tick h = sessions-untaken in_force history moment word event.Tick legal refl
+        of (event.Take session max) h = taken-sessions in_force history moment word session max legal
 
     moment-is : (entry_after history moment word ev).moment ≡ moment
     moment-is = ap (λ x. x.moment) (entry_is history moment word ev)
@@ -125,15 +125,20 @@ module _ (history : List Entry) (moment word : ℕ) (ev : Event) where
       abbrev asked : List (Key × Cause)
       asked = asked_for questions after moment refusal ev
 
+      records-after : IsPermutation after (live_records (entry_after history moment word ev ∷ history) (entry_after history moment word ev).moment)
+      records-after = subst (λ m. IsPermutation after (live_records (entry_after history moment word ev ∷ history) m)) (sym moment-is)
+          (subst (λ live. IsPermutation after live) (records-is history moment word ev) heard.records)
+
       changes-are : map (change_for ev early (rrs_of before) (rrs_of after)) (sessions_in history) ≡ changes
       changes-are =
-          changes-permuted ev early (rrs_of before) (rrs_of after) (earlier_rrs history moment word ev) (later_rrs history moment word ev) data_before data_after
+          changes-permuted ev early (rrs_of before) (rrs_of after) (live_rrs history) (live_rrs (entry_after history moment word ev ∷ history)) data_before data_after
           (IsPermutation-map (λ one. one.rr) before (live_records history (now history)) held)
-          (IsPermutation-map (λ one. one.rr) after (live_records (marked history moment word ev ∷ history) moment) (subst (λ live. IsPermutation after live) (records-marked history moment word ev) heard.records))
+          (IsPermutation-map (λ one. one.rr) after (live_records (entry_after history moment word ev ∷ history) (entry_after history moment word ev).moment) records-after)
           (sessions_in history)
+          ∙ changes-kept history legal hostless moment word ev no_boot
 
       kept-early : kept_outcome (opened_count history) (sessions_in history) ev ≡ early
-      kept-early = sym (early_outcome-is history legal hostless ev)
+      kept-early = sym (outcome-kept history legal hostless moment word ev no_boot)
 
       pub entry_for-is : entry_for state moment word ev refusal after ≡ entry_after history moment word ev
       entry_for-is =
@@ -161,13 +166,12 @@ module _ (history : List Entry) (moment word : ℕ) (ev : Event) where
       pub stands-after : now history ≤ moment → moment ≤ last_moment → Stands (state_after state moment word ev refusal after) (entry_after history moment word ev ∷ history)
       stands-after later in_time = record {
         legal = IsLegal-next history moment word ev legal later in_time no_boot;
-        hostless = host_of-next history moment word ev hostless (IsPlain-legal history legal hostless) no_boot;
+        hostless = hostless-next history legal hostless moment word ev no_boot;
         last = sym moment-is;
         opened = ap (λ o. unwrap_or (opened o) (opened_count history)) kept-early ∙ sym opened-is;
         sessions = sessions-are;
         asking = asking-after;
-        records = subst (λ m. IsPermutation after (live_records (entry_after history moment word ev ∷ history) m)) (sym moment-is)
-            (subst (λ live. IsPermutation after live) (records-is history moment word ev) heard.records);
+        records = records-after;
         typed = data_after;
       }
 

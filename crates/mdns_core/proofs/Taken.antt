@@ -8,9 +8,8 @@ use Rattle.mdns_history.specs.declared.event.Event.TheVariants as event
 use Rattle.mdns_history.specs.declared.entry.Outcome.{Outcome}
 use Rattle.mdns_history.specs.declared.entry.Outcome.TheVariants as outcome
 use Rattle.mdns_history.specs.declared.entry.Entry.{Entry}
-use Rattle.mdns_core.specs.InForce.{in_force}
+use Rattle.mdns_history.specs.InForce.{Duties}
 use Rattle.mdns_history.specs.Sessions.{opened, attached_sessions}
-use Rattle.mdns_history.specs.Groups.{host_of}
 use Rattle.mdns_history.specs.Items.{handed_over}
 use Rattle.mdns_history.specs.Outcomes.{early_outcome, items_or_empty}
 use Rattle.mdns_history.specs.Fitting.{IsLegal}
@@ -19,7 +18,7 @@ use Rattle.mdns_core.specs.Codes.{has_number}
 use Rattle.mdns_core.specs.Settling.{remaining, with_opened}
 use Rattle.mdns_core.specs.Next.{handed_to, outcome_then, taken_from, sessions_after}
 use Rattle.mdns_core.proofs.NumberLists.{has, has-first, has-later, IsRising}
-use Rattle.mdns_core.proofs.Stage.{entry_after}
+use Rattle.mdns_core.proofs.EntryParts.{entry_after}
 use Rattle.mdns_core.proofs.Attached.{attached_sessions-rising}
 use Rattle.mdns_core.proofs.Takes.{handed_over-other, handed_over-own}
 use Rattle.mdns_core.proofs.KeptSessions.{settled_sessions, settled_one, settled_map, found_settled, sessions-kept, take-kept, without_handed, drop-taken, drop-empty}
@@ -67,19 +66,19 @@ module _ (s max : ℕ) (o : Outcome) (f : ℕ → Session) (numbered : (n : ℕ)
           let other : (s == n) ≡ false = grind arith in
           ap (λ x. x ∷ map left (map f ns)) (left_other n other) ∙ ap (λ xs. f n ∷ xs) rest
 
-module _ (history : List Entry) (moment word s max : ℕ) (legal : IsLegal in_force history) (hostless : host_of history ≡ None) where
+module _ (duties : Duties) (history : List Entry) (moment word s max : ℕ) (legal : IsLegal duties history) where
   abbrev taking : Event
   taking = event.Take s max
 
   abbrev settled_now : List Session
-  settled_now = settled_sessions history moment word taking
+  settled_now = settled_sessions duties history moment word taking
 
   -- The outcome of a take is told by the session of its number.
-  pub taken-outcome : (entry_after history moment word taking).outcome
+  pub taken-outcome : (entry_after duties history moment word taking).outcome
       ≡ outcome_then taking (early_outcome taking history) (with_opened (opened (early_outcome taking history)) (remaining taking (early_outcome taking history) settled_now))
   unfolding early_outcome
   taken-outcome =
-      take-kept history moment word s max legal hostless
+      take-kept duties history moment word s max legal
       ∙ ap (λ xs. handed_to max (find (has_number s) xs)) (sym (filter-all_sessions settled_now))
 
   -- what is handed over to the session is the front of its queue
@@ -91,23 +90,23 @@ module _ (history : List Entry) (moment word s max : ℕ) (legal : IsLegal in_fo
       of false e = ap (λ (items : List Item). drop (length items) one.queue) (handed_over-own s max (take max one.queue)) ∙ drop-taken max one.queue
 
   -- The sessions after a take: that of its number is without the front of its queue.
-  pub taken-sessions : sessions_in (entry_after history moment word taking ∷ history)
+  pub taken-sessions : sessions_in (entry_after duties history moment word taking ∷ history)
       ≡ sessions_after taking (with_opened (opened (early_outcome taking history)) (remaining taking (early_outcome taking history) settled_now))
   unfolding early_outcome
   taken-sessions =
-      let o : Outcome = (entry_after history moment word taking).outcome in
+      let o : Outcome = (entry_after duties history moment word taking).outcome in
       let ns : List ℕ = attached_sessions history in
-      let one : ℕ → Session = settled_one history moment word taking in
-      sessions-kept history moment word taking legal hostless refl
-      ∙ ap (map (without_handed taking o)) (filter-all_sessions settled_now ∙ settled_map history moment word taking ns)
+      let one : ℕ → Session = settled_one duties history moment word taking in
+      sessions-kept duties history moment word taking legal
+      ∙ ap (map (without_handed taking o)) (filter-all_sessions settled_now ∙ settled_map duties history moment word taking ns)
       ∙ taken_from-is s max o one (λ n. refl) ns (attached_sessions-rising history) own
-      ∙ ap (taken_from s max) (sym (filter-all_sessions settled_now ∙ settled_map history moment word taking ns))
+      ∙ ap (taken_from s max) (sym (filter-all_sessions settled_now ∙ settled_map duties history moment word taking ns))
     where
       own : has s (attached_sessions history) ≡ true →
-          drop (length (handed_over s taking (entry_after history moment word taking).outcome)) (settled_one history moment word taking s).queue ≡ drop max (settled_one history moment word taking s).queue
+          drop (length (handed_over s taking (entry_after duties history moment word taking).outcome)) (settled_one duties history moment word taking s).queue ≡ drop max (settled_one duties history moment word taking s).queue
       own h =
-          ap (λ o. drop (length (handed_over s taking o)) (settled_one history moment word taking s).queue)
-          (take-kept history moment word s max legal hostless
-          ∙ ap (handed_to max) (ap (find (has_number s)) (settled_map history moment word taking (attached_sessions history)) ∙ found_settled history moment word taking s (attached_sessions history)
-          ∙ ap (λ b. cond b (Some (settled_one history moment word taking s)) None) h))
-          ∙ front (settled_one history moment word taking s) (λ e. rw e refl)
+          ap (λ o. drop (length (handed_over s taking o)) (settled_one duties history moment word taking s).queue)
+          (take-kept duties history moment word s max legal
+          ∙ ap (handed_to max) (ap (find (has_number s)) (settled_map duties history moment word taking (attached_sessions history)) ∙ found_settled duties history moment word taking s (attached_sessions history)
+          ∙ ap (λ b. cond b (Some (settled_one duties history moment word taking s)) None) h))
+          ∙ front (settled_one duties history moment word taking s) (λ e. rw e refl)

@@ -1,8 +1,8 @@
--- When a tick does nothing: where no live record has ended by then, and no question is asked.
+-- When a tick does nothing: where no live record has ended by then and no question is asked, if it settles no group and leaves the answers.
 use Rattle.std.proofs.Common.{◌≡◌, ℕ, ◌≤◌, Bool, true, false, not, ◌&&◌, List, [], ◌∷◌, ◌++◌, map, None, refl, ap, ◌∙◌, arith, append-nil}
 use Rattle.std.proofs.Math.Bool.{and-false}
 use Rattle.std.specs.Prelude.{filter, nat_lt}
-use Rattle.std.specs.List.{list_all, flat_map}
+use Rattle.std.specs.List.{flat_map}
 use Rattle.dns_message.specs.Packing.{pack_query}
 use Rattle.sd_call.specs.Answers.{frames_len}
 use Rattle.mdns_history.specs.declared.event.Event.TheVariants as event
@@ -11,29 +11,25 @@ use Rattle.mdns_history.specs.declared.mark.Mark.TheVariants as mark
 use Rattle.mdns_history.specs.declared.entry.Given.{Given}
 use Rattle.mdns_history.specs.declared.entry.Sent.{Sent}
 use Rattle.mdns_history.specs.declared.entry.Entry.{Entry}
-use Rattle.mdns_history.specs.History.{now}
 use Rattle.mdns_core.specs.InForce.{in_force}
-use Rattle.mdns_history.specs.Lifetimes.{is_live_at, live_records}
 use Rattle.mdns_history.specs.declared.operation.Operation.{Operation}
 use Rattle.mdns_history.specs.Sessions.{is_cut, operations_of}
-use Rattle.mdns_history.specs.Groups.{host_of}
-use Rattle.mdns_history.specs.Sureness.{is_sure}
 use Rattle.mdns_history.specs.Asking.{tick_askings}
 use Rattle.mdns_history.specs.Sending.{sent_queries}
 use Rattle.mdns_history.specs.Items.{given_to, queue}
 use Rattle.mdns_history.specs.Outcomes.{early_outcome}
 use Rattle.mdns_history.specs.Fitting.{IsLegal}
 use Rattle.mdns_history.specs.Due.{is_nothing, settles_none, ends_none, is_idle}
-use Rattle.mdns_core.specs.Changes.{passes, items_between}
+use Rattle.mdns_core.specs.Changes.{passes}
 use Rattle.mdns_core.proofs.NumberLists.{filter-same, flat_map-same}
-use Rattle.mdns_core.proofs.Stage.{marked, entry_after, entry_is}
-use Rattle.mdns_core.proofs.Hostless.{IsPlain, IsPlain-legal}
-use Rattle.mdns_core.proofs.Plain.{rrs_of, sure_groups-none, IsPlain-next}
-use Rattle.mdns_core.proofs.Brought.{change_items-marked}
-use Rattle.mdns_core.proofs.Shape.{attached, brought_to, passes_now, marks-next, sent-next, given-next}
+use Rattle.mdns_core.proofs.EntryParts.{marked}
+use Rattle.mdns_core.proofs.Stage.{entry_after, entry_is, marks_are, sent-next}
+use Rattle.mdns_core.proofs.ChangesBy.{items_by}
+use Rattle.mdns_core.proofs.Brought.{answers_in, change_items-marked}
+use Rattle.mdns_core.proofs.Shape.{attached, brought_to, passes_now, marks-next, given-next}
 use Rattle.mdns_core.proofs.Operations.{operations-rising}
 use Rattle.mdns_core.proofs.Limits.{queue-within}
-use Rattle.mdns_core.proofs.Idle.{items_between-same, filter-all, live_records-quiet}
+use Rattle.mdns_core.proofs.Idle.{items_by-same}
 
 filter-never : (ns : List ℕ) → filter (λ n. false) ns ≡ []
 filter-never [] = refl
@@ -63,38 +59,35 @@ unfolding pack_query
 quiet_askings [] past moment = refl
 quiet_askings (m ∷ ms) past moment = refl
 
-module _ (past : List Entry) (moment word : ℕ) (legal : IsLegal in_force past) (hostless : host_of past ≡ None) (later : now past ≤ moment) where
-  plain : IsPlain past
-  plain = IsPlain-legal past legal hostless
-
-  same_operations : (n : ℕ) → operations_of n (marked past moment word event.Tick ∷ past) ≡ operations_of n past
+module _ (past : List Entry) (moment word : ℕ) (legal : IsLegal in_force past) (settled : settles_none (entry_after past moment word event.Tick) past ≡ true)
+    (kept : ends_none past moment ≡ true → (o : Operation) → answers_in (entry_after past moment word event.Tick ∷ past) o ≡ answers_in past o) where
+  same_operations : (n : ℕ) → operations_of n (marked in_force past moment word event.Tick ∷ past) ≡ operations_of n past
   unfolding operations_of early_outcome
   same_operations n = refl
 
   -- a tick that ends no record brings nothing
-  brought_none : ends_none past moment ≡ true → (n : ℕ) → brought_to past moment word event.Tick n ≡ []
+  brought_none : ends_none past moment ≡ true → (n : ℕ) → brought_to in_force past moment word event.Tick n ≡ []
   unfolding early_outcome
   brought_none none n =
-      let os : List Operation = operations_of n past in
-      let live : live_records (marked past moment word event.Tick ∷ past) moment ≡ live_records past (now past) =
-      live_records-quiet past moment word event.Tick refl (now past) later ∙ filter-all (is_live_at moment) (live_records past (now past)) none in
-      change_items-marked past moment word event.Tick hostless plain refl n
-      ∙ ap (λ after. items_between None os after (rrs_of past) (rrs_of (marked past moment word event.Tick ∷ past))) (same_operations n)
-      ∙ ap (λ hs. items_between None os os (rrs_of past) (map (λ held. held.rr) hs)) live
-      ∙ items_between-same os (rrs_of past) (operations-rising past legal n)
+      change_items-marked in_force past moment word event.Tick n
+      ∙ (λ i. items_by (answers_in past) (λ o. kept none o i) None (operations_of n past) (same_operations n i))
+      ∙ items_by-same (operations_of n past) (answers_in past) (operations-rising in_force past legal n)
 
   -- so its marks are those of the questions that it asks
   marks_asked : ends_none past moment ≡ true → (entry_after past moment word event.Tick).marks ≡ tick_askings past moment
   marks_asked none =
-      marks-next past moment word event.Tick
-      ∙ ap (λ ns. tick_askings past moment ++ map (λ n. mark.Cut n) ns) (
-      filter-same (λ n. not (is_cut n past) && passes_now past moment word event.Tick n) (λ n. false) (attached past moment word event.Tick) (λ n h. fits n)
-      ∙ filter-never (attached past moment word event.Tick))
+      marks-next in_force past moment word event.Tick
+      ∙ ap (λ ms. ms ++ map (λ n. mark.Cut n) (filter cutting (attached in_force past moment word event.Tick))) (marks_are past moment word event.Tick)
+      ∙ ap (λ ns. tick_askings past moment ++ map (λ n. mark.Cut n) ns)
+      (filter-same cutting (λ n. false) (attached in_force past moment word event.Tick) (λ n h. fits n) ∙ filter-never (attached in_force past moment word event.Tick))
       ∙ append-nil (tick_askings past moment)
     where
-      fits : (n : ℕ) → (not (is_cut n past) && passes_now past moment word event.Tick n) ≡ false
+      cutting : ℕ → Bool
+      cutting n = not (is_cut n past) && passes_now in_force past moment word event.Tick n
+
+      fits : (n : ℕ) → (not (is_cut n past) && passes_now in_force past moment word event.Tick n) ≡ false
       fits n =
-          let few : frames_len (queue n past) ≤ 16777216 = queue-within past legal hostless n in
+          let few : frames_len (queue n past) ≤ 16777216 = queue-within in_force past legal n in
           let within : nat_lt 16777216 (frames_len (queue n past)) ≡ false = grind arith in
           ap (λ items. not (is_cut n past) && passes (queue n past) items) (brought_none none n)
           ∙ ap (λ items. not (is_cut n past) && nat_lt 16777216 (frames_len items)) (append-nil (queue n past))
@@ -102,14 +95,10 @@ module _ (past : List Entry) (moment word : ℕ) (legal : IsLegal in_force past)
 
   given_none : ends_none past moment ≡ true → (entry_after past moment word event.Tick).given ≡ []
   given_none none =
-      let ns : List ℕ = filter (λ n. not (is_cut n past) && not (passes_now past moment word event.Tick n)) (attached past moment word event.Tick) in
-      given-next past moment word event.Tick hostless plain refl
-      ∙ flat_map-same (λ n. map (given_to n) (brought_to past moment word event.Tick n)) (λ n. []) ns (λ n h. ap (map (given_to n)) (brought_none none n))
+      let ns : List ℕ = filter (λ n. not (is_cut n past) && not (passes_now in_force past moment word event.Tick n)) (attached in_force past moment word event.Tick) in
+      given-next in_force past moment word event.Tick
+      ∙ flat_map-same (λ n. map (given_to n) (brought_to in_force past moment word event.Tick n)) (λ n. []) ns (λ n h. ap (map (given_to n)) (brought_none none n))
       ∙ flat_map-never ns
-
-  settled : settles_none (entry_after past moment word event.Tick) past ≡ true
-  settled = ap (list_all (λ group. is_sure group past))
-      (sure_groups-none (entry_after past moment word event.Tick ∷ past) (IsPlain-next past moment word event.Tick hostless plain refl).no_groups)
 
   at_moment : (entry_after past moment word event.Tick).moment ≡ moment
   at_moment = ap (λ e. e.moment) (entry_is past moment word event.Tick)
@@ -135,8 +124,9 @@ module _ (past : List Entry) (moment word : ℕ) (legal : IsLegal in_force past)
       ∙ ap (all_quiet e.marks e.sent e.given (settles_none e past)) some
       ∙ never_quiet e.marks e.sent e.given (settles_none e past)
 
--- A tick is idle where it ends no record and asks no question.
-pub is_idle-tick : (past : List Entry) (moment : ℕ) → IsLegal in_force past → host_of past ≡ None → now past ≤ moment →
-    is_idle in_force past moment ≡ (ends_none past moment && is_nothing (tick_askings past moment))
+-- A tick that settles no group is idle where it ends no record and asks no question, where answers stay in an entry that ends no record.
+pub is_idle-tick : (past : List Entry) (moment : ℕ) → IsLegal in_force past → settles_none (entry_after past moment 0 event.Tick) past ≡ true
+    → (ends_none past moment ≡ true → (o : Operation) → answers_in (entry_after past moment 0 event.Tick ∷ past) o ≡ answers_in past o)
+    → is_idle in_force past moment ≡ (ends_none past moment && is_nothing (tick_askings past moment))
 unfolding is_idle
-is_idle-tick past moment legal hostless later = quiet_where past moment 0 legal hostless later (ends_none past moment) refl
+is_idle-tick past moment legal settled kept = quiet_where past moment 0 legal settled kept (ends_none past moment) refl
