@@ -6,7 +6,7 @@ ghost use Rattle.sd_call.specs.Replay.{replay};
 ghost use Rattle.mdns_history.specs.declared.config.HostConfig.{HostConfig};
 ghost use Rattle.mdns_history.specs.declared.entry.Entry.{Entry};
 ghost use Rattle.mdns_history.specs.Sessions.{opened, is_attached, is_cut};
-ghost use Rattle.mdns_history.specs.Items.{session_items};
+ghost use Rattle.mdns_history.specs.Items.{session_items, taken_items, queue};
 ghost use Rattle.mdns_history.specs.Replays.{answer_sets};
 ghost use Rattle.mdns_core.specs.InForce.{in_force};
 ghost use Rattle.mdns_history.specs.Fitting.{Fits, boot_entry, is_boot};
@@ -144,6 +144,10 @@ impl Daemon {
         ensures replayed { IfOk result (λ entry. (history : List Entry) (session : ℕ) → Stands self.old history
             → is_attached session (entry ∷ history) ≡ true → is_cut session (entry ∷ history) ≡ false
             → replay (session_items session (entry ∷ history)) ≡ Some (answer_sets session (entry ∷ history))) }
+        // And they are those that the session took, and then those that are queued for it.
+        ensures queued { IfOk result (λ entry. (history : List Entry) (session : ℕ) → Stands self.old history
+            → is_cut session (entry ∷ history) ≡ false
+            → session_items session (entry ∷ history) ≡ taken_items session (entry ∷ history) ++ queue session (entry ∷ history)) }
         ensures last { OnOk result (self.new.last ≡ now) }
         // After a tick nothing is due by then.
         ensures ticked { OnOk result (event ≡ Event.Tick → IfSome (due_of self.new) (λ due. now < due)) }

@@ -11,7 +11,7 @@ use Rattle.mdns_core.specs.Next.{rrs_of, outcome_then, sessions_after}
 use Rattle.mdns_core.specs.Kept.{sessions_of, AreFit, HaveWellFormed, HaveGaps}
 use Rattle.mdns_core.proofs.Ticked.{gaps_kept, due-ticked}
 use Rattle.mdns_core.proofs.Settled.{planned-fit}
-use Rattle.mdns_core.proofs.Standing.{replayed-stands}
+use Rattle.mdns_core.proofs.Standing.{replayed-stands, queued-stands}
 use Rattle.mdns_core.proofs.Carried.{IsCarriedOut, carried, formed-left, kept}
 use Rattle.mdns_core.proofs.daemon.Daemon.step.Goals as goal
 
@@ -56,6 +56,11 @@ pub returns-clause-replayed : goal.returns-clause-replayed
 returns-clause-replayed g c = λ history session stands attached uncut.
     let fits = returns-clause-fits g c history stands in
     replayed-stands _ _ fits.1 session attached uncut
+
+pub returns-clause-queued : goal.returns-clause-queued
+returns-clause-queued g c = λ history session stands uncut.
+    let fits = returns-clause-fits g c history stands in
+    queued-stands _ _ fits.1 session uncut
 
 pub invariant_of-self-2 : goal.invariant_of-self-2
 invariant_of-self-2 g c =
