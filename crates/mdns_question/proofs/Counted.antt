@@ -1,5 +1,5 @@
 -- How many users questions have, through a loop and through the calls.
-use Rattle.std.proofs.Common.{◌≡◌, ℕ, suc, ◌+◌, ◌-◌, ◌<◌, ◌≤◌, Bool, true, false, cond, List, [], ◌∷◌, ◌++◌, length, get_or, set, take, drop, refl, ap, sym, subst, ◌∙◌, arith, add-one}
+use Rattle.std.proofs.Common.{◌≡◌, ℕ, suc, ◌+◌, ◌-◌, ◌<◌, ◌≤◌, Bool, true, false, cond, List, [], ◌∷◌, ◌++◌, length, get_or, set, take, drop, refl, ap, sym, subst, ◌∙◌, arith, add-one, Option}
 use Rattle.std.specs.Prelude.{filter, map}
 use Rattle.std.specs.List.{list_any}
 use Rattle.std.specs.Ordering.{is_lt}
@@ -10,6 +10,7 @@ use Rattle.dns_record.specs.declared.record.Key.{Key}
 use Rattle.mdns_history.specs.declared.mark.Cause.{Cause}
 use Rattle.mdns_history.specs.Asking.{is_counted}
 use Rattle.mdns_question.specs.declared.tracked.Tracked.{Tracked}
+use Rattle.mdns_question.specs.Refreshing.{with_refresh}
 use Rattle.mdns_question.specs.Tracking.{AreUsedAtMost, is_for, is_used, tracked_cmp, used_more, used_less, noted, begun, with_user, without_user, with_asking}
 
 -- the first of those that are left, and the others
@@ -92,3 +93,12 @@ used_with_asking most moment question cause (one ∷ tracked) h =
 -- what a loop wrote over all
 pub used_written : (most n : ℕ) (new old : List Tracked) → n ≡ length new → AreUsedAtMost most new → AreUsedAtMost most (take n (new ++ old))
 used_written most n new old e h = subst (λ l. AreUsedAtMost most l) (sym (ap (λ m. take m (new ++ old)) e ∙ take-append_seam new old)) h
+
+-- so does a refresh point that is told
+pub used_with_refresh : (most : ℕ) (question : Key) (point : Option ℕ) (tracked : List Tracked) → AreUsedAtMost most tracked → AreUsedAtMost most (with_refresh question point tracked)
+used_with_refresh most question point [] h = tt
+used_with_refresh most question point (one ∷ tracked) h = (of (is_for question one), used_with_refresh most question point tracked h.1)
+  where
+    of : (b : Bool) → (cond b (record one { refresh = point }) one).users ≤ most
+    of true = h.0
+    of false = h.0

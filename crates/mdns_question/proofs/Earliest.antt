@@ -21,11 +21,11 @@ least_of_le n [] = omega arith
 least_of_le n (m ∷ ms) = let rest : least_of n ms ≤ n = least_of_le n ms in omega arith
 
 -- the calls of a question at a moment
-abbrev calls : Tracked → ℕ → ℕ → Bool
+abbrev pub calls : Tracked → ℕ → ℕ → Bool
 calls one moment = calls_at (active_of one) (option_to_list one.last) moment
 
 -- a record calls for an asking of a question at a moment
-abbrev called : Tracked → ℕ → Held → Bool
+abbrev pub called : Tracked → ℕ → Held → Bool
 called one moment told = is_live_at moment told && is_wanted one told && list_any (calls one moment) (refresh_points told)
 
 le_itself : (n : ℕ) → nat_le n n ≡ true
@@ -75,7 +75,7 @@ none_called one moment n (told ∷ held) h =
         inner (is_wanted one told) e (omega (arith, k)) (rest k)
 
 -- before its first moment a question isn't due
-not_due : (held : List Held) (one : Tracked) (moment : ℕ) → moment < next_of held one → due_cause held moment one ≡ None
+pub not_due : (held : List Held) (one : Tracked) (moment : ℕ) → moment < next_of held one → due_cause held moment one ≡ None
 not_due held one moment h =
     let below : next_of held one ≤ one.next = least_of_le one.next (flat_map (open_in one) held) in
     let early : nat_le one.next moment ≡ false = grind arith in

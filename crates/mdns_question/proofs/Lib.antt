@@ -6,3 +6,4 @@ pub mod Loops
 pub mod Told
 pub mod Earliest
 pub mod Following
+pub mod FirstRefresh

@@ -2,3 +2,4 @@ pub mod Contents
 pub mod Tracking
 pub mod Next
 pub mod Standing
+pub mod Refreshing

@@ -32,7 +32,7 @@ tracked_cmp left right = key_cmp left.key right.key
 abbrev pub is_before : Key → Tracked → Bool
 is_before question one = is_lt (key_cmp one.key question)
 
--- a question with its first user, who gives moment, word and spelling; it was never asked
+-- a question with its first user, who gives moment, word and spelling; it was never asked, and no refresh point was told of it
 abbrev pub begun : ℕ → ℕ → Key → Tracked
 begun moment word question = record {
   key = question;
@@ -42,6 +42,7 @@ begun moment word question = record {
   next = next_in_series (record { key = question; start = moment; word = word }) [];
   gap = series_gap 1;
   last = None;
+  refresh = None;
 }
 
 -- a tracked question with one user more, if it is this one

@@ -7,10 +7,12 @@ ghost use Rattle.dns_name.specs.Lists.{least};
 ghost use Rattle.mdns_history.specs.Lifetimes.{is_other};
 ghost use Rattle.mdns_question.specs.Tracking.{is_for, with_user, without_user, with_asking, due_at};
 ghost use Rattle.mdns_question.specs.Next.{next_of};
+ghost use Rattle.mdns_question.specs.Refreshing.{with_refresh, moment_of, due_by_kept};
 
 use crate::Tracked;
 use crate::copies::question_copies;
 use crate::due::due_question;
+use crate::kept::{due_by_kept, first_due, put_refresh};
 use crate::keys::key_eq;
 use crate::next::next_due;
 use crate::users::{add_user, has, note, take_user};
@@ -126,6 +128,33 @@ impl Asker {
         ensures spare { self.new.spare ≡ self.old.spare }
     {
         note(&mut self.questions, now, question, cause);
+    }
+
+    /// Tells of a question the first refresh point, in ms, that calls for an asking of it (`first_refresh`), in place of what was
+    /// told before. It is to be told anew whenever the records that answer the question change, when it begins, and when it
+    /// was asked. (RFC 6762 5.2)
+    pub fn tell(&mut self, question: &Key, point: Option<u64>)
+        ensures questions { self.new.questions ≡ with_refresh question.now point self.old.questions }
+        ensures held { self.new.held ≡ self.old.held }
+        ensures spare { self.new.spare ≡ self.old.spare }
+    {
+        put_refresh(&mut self.questions, question, point);
+    }
+
+    /// The questions that are due at `now`, in ms, by what is kept of them, refresh points too: by folded name and then by
+    /// type, each with its cause. No record is looked at. Refused only for want of memory. (RFC 6762 5.2)
+    pub fn due_by_kept(&self, alloc: Global, now: u64) -> Result<Vec<(Key, Cause)>, AllocError>
+        ensures { IfOk result (λ due. due.items ≡ due_by_kept now self.now.questions) }
+    {
+        due_by_kept(alloc, &self.questions, now)
+    }
+
+    /// The first moment, in ms, at which a question is due by what is kept of them; `None` exactly where there is no
+    /// question. No record is looked at.
+    pub fn first_due(&self) -> Option<u64>
+        ensures { result ≡ least (map moment_of self.now.questions) }
+    {
+        first_due(&self.questions)
     }
 
     /// Tells of a record that is held, in place of what it is the same as: a changed end is told so, too. Refused only for

@@ -4,6 +4,7 @@
 mod asker;
 mod copies;
 mod due;
+mod kept;
 mod keys;
 mod law;
 mod next;
@@ -13,7 +14,8 @@ mod users;
 
 pub use asker::Asker;
 pub use due::due_questions;
-pub use law::askings_follow_the_history;
+pub use kept::first_refresh;
+pub use law::{askings_follow_the_history, kept_points_tell_what_is_due};
 pub use next::next_due;
 pub use tracked::Tracked;
 

@@ -32,8 +32,8 @@ fn next_of(one: &Tracked, held: &[Held]) -> u64
     next
 }
 
-// The least of a moment and of the refresh points of a record that call for an asking.
-fn next_with(one: &Tracked, told: &Held, earliest: u64) -> u64
+/// The least of a moment and of the refresh points of a record that call for an asking.
+pub fn next_with(one: &Tracked, told: &Held, earliest: u64) -> u64
     ensures { result ≡ least_of earliest (open_in one.now told.now) }
 {
     if is_wanted(one, told) {

@@ -26,6 +26,8 @@ pub struct Tracked {
     pub gap: u64,
     /// The moment at which it was last asked, for any cause.
     pub last: Option<u64>,
+    /// The first refresh point of the records that answer it which calls for an asking, as it was told last.
+    pub refresh: Option<u64>,
 }
 
 impl Tracked {
@@ -41,6 +43,7 @@ impl Tracked {
             next: self.next,
             gap: self.gap,
             last: self.last,
+            refresh: self.refresh,
         }
     }
 }
@@ -58,6 +61,7 @@ pub fn begun(now: u64, word: u32, question: &Key) -> Tracked
         next: now + 20 + u64::from(word % 101),
         gap: 1000,
         last: None,
+        refresh: None,
     }
 }
 
