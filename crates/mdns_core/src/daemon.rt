@@ -8,6 +8,7 @@ ghost use Rattle.mdns_history.specs.declared.entry.Entry.{Entry};
 ghost use Rattle.mdns_history.specs.Sessions.{opened, is_attached, is_cut};
 ghost use Rattle.mdns_history.specs.Items.{session_items, taken_items, queue};
 ghost use Rattle.mdns_history.specs.Replays.{answer_sets};
+ghost use Rattle.mdns_asserts.specs.Earned.{IsEarned};
 ghost use Rattle.mdns_core.specs.InForce.{in_force};
 ghost use Rattle.mdns_history.specs.Fitting.{Fits, boot_entry, is_boot};
 ghost use Rattle.mdns_history.specs.Due.{NextDue};
@@ -148,6 +149,8 @@ impl Daemon {
         ensures queued { IfOk result (λ entry. (history : List Entry) (session : ℕ) → Stands self.old history
             → is_cut session (entry ∷ history) ≡ false
             → session_items session (entry ∷ history) ≡ taken_items session (entry ∷ history) ++ queue session (entry ∷ history)) }
+        // Nothing unique is asserted before its probes, and nothing taken back that wasn't own.
+        ensures asserts { IfOk result (λ entry. (history : List Entry) → Stands self.old history → IsEarned entry history) }
         ensures last { OnOk result (self.new.last ≡ now) }
         // After a tick nothing is due by then.
         ensures ticked { OnOk result (event ≡ Event.Tick → IfSome (due_of self.new) (λ due. now < due)) }

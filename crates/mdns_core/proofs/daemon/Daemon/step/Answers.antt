@@ -1,5 +1,7 @@
 use Rattle.std.proofs.Common.{◌≡◌, ◌∙◌, ◌≤◌, ap, subst, sym, map, List}
 use Rattle.mdns_history.specs.declared.event.Event.{Event}
+use Rattle.mdns_asserts.proofs.Earned.{are_earned}
+use Rattle.mdns_core.specs.InForce.{in_force}
 use Rattle.mdns_question.specs.declared.tracked.Tracked.{Tracked}
 use Rattle.mdns_core.specs.declared.session.SessionState.{SessionState}
 use Rattle.mdns_core.specs.declared.change.SessionChange.{SessionChange}
@@ -61,6 +63,9 @@ pub returns-clause-queued : goal.returns-clause-queued
 returns-clause-queued g c = λ history session stands uncut.
     let fits = returns-clause-fits g c history stands in
     queued-stands _ _ fits.1 session uncut
+
+pub returns-clause-asserts : goal.returns-clause-asserts
+returns-clause-asserts g c = λ history stands. are_earned in_force _ history (returns-clause-fits g c history stands).1.legal
 
 pub invariant_of-self-2 : goal.invariant_of-self-2
 invariant_of-self-2 g c =
