@@ -7,18 +7,25 @@ use mdns_base::Failed;
 
 /// What makes the parts of a daemon that is served.
 pub trait Place {
+    /// Where packets come from.
     type Ear: Ear + Send + Drop + 'static;
 
+    /// Where packets go.
     type Air: Air + Send + Drop + 'static;
 
+    /// Where connections come from.
     type Door: Door + Send + Drop + 'static;
 
+    /// What tells the moment.
     type Clock: Clock + Send + Drop + 'static;
 
+    /// What gives random words.
     type Words: Words + Send + Drop + 'static;
 
+    /// What starts threads.
     type Spawner: Spawner + Send + Drop + 'static;
 
+    /// What sessions pass.
     type Gate: Gate + Send + Drop + 'static;
 
     /// Its plan, its counts of faults, how many doors were over, and how many connections its doors gave.
@@ -33,9 +40,11 @@ pub trait Place {
         ensures made { MakesLink (counted self.old) (counted self.new) result }
         ensures fresh { IfOk result (λ ear. Self.Ear.faults ear ≡ 0) };
 
-    /// Makes a door, which has no faults and isn't over.
+    /// Makes a door, which has no faults and isn't over. Where the place tells how many connections its doors gave, the
+    /// door tells it, too, and has given none.
     fn door(&mut self) -> Result<Self::Door, Failed>
         ensures made { MakesDoor (counted self.old) (counted self.new) result }
+        ensures none { IfOk result (λ door. (n : ℕ) → (counted self.new).given ≡ Some n → Self.Door.given door ≡ Some 0) }
         ensures fresh { IfOk result (λ door. (Self.Door.faults door ≡ 0) × (Self.Door.over door ≡ false)) };
 
     /// Makes a spawner, which has no faults.

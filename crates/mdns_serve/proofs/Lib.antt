@@ -1,0 +1,9 @@
+pub mod Turning
+pub mod Handing
+pub mod Calling
+pub mod Putting
+pub mod Heard
+pub mod Tends
+pub mod OnceEach
+pub mod AttachedCount
+pub mod OwedRoom

@@ -1,0 +1,8 @@
+pub mod Turns
+pub mod Shares
+pub mod Packets
+pub mod Reading
+pub mod Writing
+pub mod Ticking
+pub mod Tending
+pub mod Room

@@ -1,0 +1,25 @@
+//! A daemon that threads share by turns, and what takes them: the two halves of a session, the ear and the ticker.
+#![tactic(auto)]
+
+mod air;
+mod bell;
+mod happening;
+mod hearing;
+mod laws;
+mod reading;
+mod shared;
+mod step;
+mod taking;
+mod ticking;
+mod writing;
+
+pub use bell::Bell;
+pub use happening::Happening;
+pub use hearing::{HearEnd, hear_loop};
+pub use laws::owed_ends_have_room;
+pub use reading::{ReadEnd, detach, read_half};
+pub use shared::Shared;
+pub use step::{Miss, Step, Tend};
+pub use taking::take_turn;
+pub use ticking::tick_loop;
+pub use writing::{WriteEnd, write_half};

@@ -1,0 +1,80 @@
+// One event as a turn of a seat, with what comes of it.
+ghost use Rattle.std.specs.Prelude.{◌≡◌, ◌≤◌, ◌++◌, ◌∷◌, [], false};
+ghost use Rattle.mdns_history.specs.Fitting.{is_boot, AreLegal};
+ghost use Rattle.mdns_core.specs.InForce.{in_force};
+ghost use Rattle.mdns_turn.specs.History.{turns, StartsWith};
+ghost use Rattle.mdns_turn.specs.Models.{IsSeatOf, IsSameSeat, HasItsTurns};
+ghost use Rattle.mdns_serve.specs.Turns.{turns_of};
+ghost use Rattle.mdns_serve.specs.Shares.{StandsFor};
+ghost use Rattle.mdns_serve.specs.Packets.{packets_in, HandsSome};
+ghost use Rattle.mdns_serve.specs.Reading.{IsFor};
+
+use crate::air::send_all;
+use crate::bell::Bell;
+use crate::happening::Happening;
+use crate::shared::Shared;
+use crate::step::Step;
+use mdns_history::{Event, Given, Mark};
+use mdns_outside::{Air, Clock, Words};
+use mdns_turn::{Seat, Turn};
+use std::alloc::Global;
+use std::sync::Wait;
+
+/// Does an event in a turn of the seat, hands what it sends to the air, and wakes those that it concerns. A turn that finds
+/// no memory is missed.
+pub fn take_turn<R: Wait, A: Air, C: Clock, W: Words>(
+    rt: &R,
+    alloc: Global,
+    turn: &Turn<Shared>,
+    seat: &mut Seat<Shared>,
+    event: Event,
+    air: &mut A,
+    clock: &mut C,
+    words: &mut W,
+    bell: &Bell,
+) -> Happening
+    requires turn { IsSeatOf turn.now seat.old }
+    requires no_boot { is_boot event ≡ false }
+    ensures same { IsSameSeat seat.old seat.new }
+    ensures its { HasItsTurns seat.new }
+    ensures joined { seat.new.joined ≡ seat.old.joined }
+    ensures seen { StartsWith seat.new.seen seat.old.seen }
+    ensures mine { seat.new.mine ≡ seat.old.mine ++ result ∷ [] }
+    ensures legal { (past : _) → StandsFor past turn.now.opening → AreLegal in_force (turns_of (past ++ turns seat.new.seen)) }
+    ensures is { IsFor event result }
+    ensures air { HandsSome (A.handed air.old) (A.handed air.new) (packets_in result) }
+    ensures later { A.faults air.old ≤ A.faults air.new }
+{
+    let step = Step::new(clock.now(), words.word(), event, bell);
+    let happening = turn.turn(rt, seat, step);
+    if let Happening::Entered { entry } = &happening {
+        ring_for(
+            entry.given.as_slice(),
+            entry.marks.as_slice(),
+            &entry.event,
+            bell,
+        );
+        send_all(alloc, entry.sent.as_slice(), air);
+    }
+    happening
+}
+
+// Wakes the writers of the sessions that were given something, cut or detached. What is given stands by session, so that
+// each of these is rung once.
+pub(crate) fn ring_for(given: &[Given], marks: &[Mark], event: &Event, bell: &Bell) {
+    let mut rung = None;
+    for one in given {
+        if rung != Some(one.session) {
+            bell.ring(one.session);
+            rung = Some(one.session);
+        }
+    }
+    for mark in marks {
+        if let Mark::Cut { session } = mark {
+            bell.ring(*session);
+        }
+    }
+    if let Event::Detach { session } = event {
+        bell.ring(*session);
+    }
+}
