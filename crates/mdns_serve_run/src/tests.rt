@@ -1,0 +1,202 @@
+ghost use Rattle.std.specs.Prelude.{IfOk};
+ghost use Rattle.mdns_turn.specs.Models.{IsSeatOf, IsSameSeat};
+
+use crate::{Board, Left, run_session};
+use bytes::Bytes;
+use dns_name::Name;
+use mdns_base::{Host, MemSink, MemSource};
+use mdns_core::Daemon;
+use mdns_history::{Config, Event};
+use mdns_outside::{Clock, Incoming, MemAir, MemClock, MemEar, MemWords};
+use mdns_serve::{Bell, Happening, HearEnd, ReadEnd, Shared, Step, WriteEnd, hear_loop, tick_loop};
+use mdns_turn::{Seat, Turn};
+use sd_call::Request;
+use std::alloc::{AllocError, Global};
+use std::process::Abort;
+use std::sync::Wait;
+use std::sync::atomic::Ordering;
+use std::test::Fail;
+use std::thread::join;
+
+// A query for the address of `a.local`, as operation `op`.
+const QUERY_1: &[u8] = b"\x00\x00\x00\x10\x01\x00\x00\x00\x01\x00\x01\x01a\x05local\x00";
+
+const QUERY_2: &[u8] = b"\x00\x00\x00\x10\x01\x00\x00\x00\x02\x00\x01\x01a\x05local\x00";
+
+const REPLY_1: &[u8] = b"\x00\x00\x00\x0a\x40\x00\x00\x00\x01\x01\x00\x00\x00\x00";
+
+const REPLY_2: &[u8] = b"\x00\x00\x00\x0a\x40\x00\x00\x00\x02\x01\x00\x00\x00\x00";
+
+fn source(alloc: Global, first: &[u8], second: &[u8]) -> Result<MemSource, AllocError> {
+    let mut bytes = Vec::from_slice(alloc, first)?;
+    bytes.extend_from_slice(second)?;
+    Ok(MemSource::new(bytes, Vec::new(alloc)))
+}
+
+fn expect(rt: &impl Abort, left: &Left, bytes: &[u8]) {
+    assert_eq!(rt; left.read, ReadEnd::Ended);
+    assert_eq!(rt; left.write, WriteEnd::Closed);
+    assert_eq!(rt; left.sink.bytes(), bytes);
+}
+
+// A daemon without a host that threads share, and the first seat.
+fn shared_daemon(alloc: Global) -> Result<(Turn<Shared>, Seat<Shared>), AllocError>
+    ensures { IfOk result (λ made. IsSeatOf made.0 made.1) }
+{
+    let config = Config {
+        address: 0x0a00_0001,
+        host: None,
+    };
+    let (daemon, _) = Daemon::new(alloc, config, 0, 0)?;
+    Turn::new(alloc, Shared::new(alloc, daemon)?)
+}
+
+#[test]
+fn two_sessions_run_beside_each_other(rt: HostRuntime) -> Result<(), Fail> {
+    let alloc = rt.alloc();
+    let (turn, mut seat) = shared_daemon(alloc)?;
+    let bell = Bell::new(alloc)?;
+    turn.turn(&rt, &mut seat, Step::new(0, 0, Event::Attach, &bell));
+    turn.turn(&rt, &mut seat, Step::new(0, 0, Event::Attach, &bell));
+    let a = turn.split(&rt, &mut seat)?;
+    let b = turn.split(&rt, &mut seat)?;
+    let c = turn.split(&rt, &mut seat)?;
+    let d = turn.split(&rt, &mut seat)?;
+    let board = Board::new();
+    let source_1 = source(alloc, QUERY_1, QUERY_2)?;
+    let source_2 = source(alloc, QUERY_1, b"")?;
+    let sink_1 = MemSink::new(alloc, Vec::new(alloc));
+    let sink_2 = MemSink::new(alloc, Vec::new(alloc));
+    let (one, two) = join(
+        &rt,
+        || -> Left
+            requires { IsSeatOf turn a × IsSeatOf turn b }
+        { run_session(&rt, alloc, &turn, a, b, 1, source_1, sink_1, &board, &bell) },
+        || -> Left
+            requires { IsSeatOf turn c × IsSeatOf turn d }
+        { run_session(&rt, alloc, &turn, c, d, 2, source_2, sink_2, &board, &bell) },
+    );
+    let mut both = Vec::from_slice(alloc, REPLY_1)?;
+    both.extend_from_slice(REPLY_2)?;
+    expect(&rt, &one, both.as_slice());
+    expect(&rt, &two, REPLY_1);
+    assert_eq!(rt; board.let_go.load(Ordering::SeqCst), 0);
+    Ok(())
+}
+
+// The moment of a turn's entry.
+fn moment_of(done: &Happening) -> Option<u64> {
+    match done {
+        Happening::Entered { entry } => Some(entry.moment),
+        Happening::Missed { .. } => None,
+    }
+}
+
+#[test]
+fn a_moment_is_the_greatest_that_was_told(rt: HostRuntime) -> Result<(), Fail> {
+    let alloc = rt.alloc();
+    let (turn, mut seat) = shared_daemon(alloc)?;
+    let bell = Bell::new(alloc)?;
+    let mut other = turn.split(&rt, &mut seat)?;
+    turn.turn(&rt, &mut seat, Step::new(5, 0, Event::Tick, &bell));
+    turn.turn(&rt, &mut other, Step::new(3, 0, Event::Tick, &bell));
+    turn.join(&mut seat, other);
+    let done = turn.turn(&rt, &mut seat, Step::new(0, 0, Event::Tick, &bell));
+    assert_eq!(rt; moment_of(&done).ok_or(AllocError)?, 5);
+    Ok(())
+}
+
+// A clock that stands still, and whose nap closes the bell.
+#[derive(Drop)]
+struct LastClock<'a> {
+    bell: &'a Bell,
+}
+
+impl<'a> Clock for LastClock<'a> {
+    fn now(&mut self) -> u64 {
+        1000
+    }
+
+    fn nap(&mut self) {
+        self.bell.close();
+    }
+}
+
+#[test]
+fn the_ticker_asks_what_is_due(rt: HostRuntime) -> Result<(), Fail> {
+    let alloc = rt.alloc();
+    let (turn, mut seat) = shared_daemon(alloc)?;
+    let bell = Bell::new(alloc)?;
+    turn.turn(&rt, &mut seat, Step::new(0, 0, Event::Attach, &bell));
+    let call = Event::Call {
+        session: 1,
+        op: 1,
+        request: Request::Query {
+            kind: 1,
+            name: Name::parse_text("a.local").map_err(|_| AllocError)?,
+        },
+    };
+    turn.turn(&rt, &mut seat, Step::new(0, 0, call, &bell));
+    let mut air = MemAir::new(alloc, Vec::from_slice(alloc, &[1])?);
+    let mut clock = LastClock { bell: &bell };
+    tick_loop(
+        &rt,
+        alloc,
+        &turn,
+        &mut seat,
+        &mut air,
+        &mut clock,
+        &mut MemWords(0),
+        &bell,
+    );
+    assert_eq!(rt; air.packets().ok_or(AllocError)?.len(), 1);
+    Ok(())
+}
+
+// Hears what comes to an ear until it ends or fails.
+fn hear_all<R: Wait>(
+    rt: &R,
+    alloc: Global,
+    turn: &Turn<Shared>,
+    seat: &mut Seat<Shared>,
+    ear: &mut MemEar,
+    bell: &Bell,
+) -> HearEnd
+    requires { IsSeatOf turn.now seat.old }
+    ensures { IsSameSeat seat.old seat.new }
+{
+    let mut air = MemAir::new(alloc, Vec::new(alloc));
+    let mut clock = MemClock::new(Vec::new(alloc), 1);
+    hear_loop(
+        rt,
+        alloc,
+        turn,
+        seat,
+        ear,
+        &mut air,
+        &mut clock,
+        &mut MemWords(0),
+        bell,
+    )
+}
+
+#[test]
+fn the_ear_is_heard_until_it_fails(rt: HostRuntime) -> Result<(), Fail> {
+    let alloc = rt.alloc();
+    let (turn, mut seat) = shared_daemon(alloc)?;
+    let bell = Bell::new(alloc)?;
+    let mut packets = Vec::new(alloc);
+    packets.push(Incoming {
+        from: Host {
+            ip: 0x0a00_0002,
+            port: 5353,
+        },
+        bytes: Bytes::from_vec(Vec::from_slice(alloc, b"no message")?)?,
+    })?;
+    let mut ear = MemEar::new(packets, Vec::from_slice(alloc, &[2])?);
+    let failed = hear_all(&rt, alloc, &turn, &mut seat, &mut ear, &bell);
+    assert_eq!(rt; failed, HearEnd::LinkFault);
+    let ended = hear_all(&rt, alloc, &turn, &mut seat, &mut ear, &bell);
+    assert_eq!(rt; ended, HearEnd::Ended);
+    Ok(())
+}
