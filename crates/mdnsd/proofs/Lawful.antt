@@ -5,7 +5,8 @@ use Rattle.mdns_core.specs.InForce.{in_force}
 use Rattle.mdns_history.specs.Fitting.{IsLegal}
 use Rattle.mdns_history.specs.Replays.{IsReplayed, IsQueued}
 use Rattle.mdns_history.specs.Calls.{GoodCallsSucceed}
-use Rattle.mdnsd.specs.Histories.{AreServedThroughout, CallsSucceedThroughout}
+use Rattle.mdns_asserts.specs.Earned.{AssertionsAreEarned}
+use Rattle.mdnsd.specs.Histories.{AreServedThroughout, CallsSucceedThroughout, AreEarnedThroughout}
 
 pub are_served : IsReplayed → IsQueued → (history : List Entry) → IsLegal in_force history → AreServedThroughout history
 are_served replayed queued [] legal = tt
@@ -28,3 +29,8 @@ pub calls_succeed : GoodCallsSucceed → (history : List Entry) → IsLegal in_f
 calls_succeed law [] legal = tt
 calls_succeed law (entry ∷ []) legal = (λ session op request called good. let booted = sym (ap (λ e. e.event) legal.3) ∙ called in cc, tt)
 calls_succeed law (entry ∷ before ∷ past) legal = (λ session op request called good. law in_force entry (before ∷ past) session op request legal.0 called good, calls_succeed law (before ∷ past) legal.1)
+
+pub are_earned : AssertionsAreEarned → (history : List Entry) → IsLegal in_force history → AreEarnedThroughout history
+are_earned law [] legal = tt
+are_earned law (entry ∷ []) legal = (law in_force entry [] legal, tt)
+are_earned law (entry ∷ before ∷ past) legal = (law in_force entry (before ∷ past) legal, are_earned law (before ∷ past) legal.1)

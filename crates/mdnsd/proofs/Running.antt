@@ -13,6 +13,7 @@ use Rattle.mdns_core.specs.InForce.{in_force}
 use Rattle.mdns_history.specs.Fitting.{IsLegal}
 use Rattle.mdns_history.specs.Replays.{IsReplayed, IsQueued}
 use Rattle.mdns_history.specs.Calls.{GoodCallsSucceed}
+use Rattle.mdns_asserts.specs.Earned.{AssertionsAreEarned}
 use Rattle.mdns_hub.specs.declared.hub.Hub.{Hub}
 use Rattle.mdns_hub.specs.declared.hub.Booted.{Booted}
 use Rattle.mdns_hub.specs.Played.{Played, start, transcript}
@@ -22,9 +23,9 @@ use Rattle.mdnsd.specs.declared.stop.Stop.{Stop}
 use Rattle.mdnsd.specs.declared.stop.Stop.TheVariants as stop
 use Rattle.mdnsd.specs.Stops.{status_of}
 use Rattle.mdnsd.specs.Scripts.{lines_of, PlaysLine, PlaysAll, IsNotYet, note_text}
-use Rattle.mdnsd.specs.Histories.{AreServedThroughout, CallsSucceedThroughout}
+use Rattle.mdnsd.specs.Histories.{AreServedThroughout, CallsSucceedThroughout, AreEarnedThroughout}
 use Rattle.mdnsd.specs.Statuses.{ReadAll, PlaysScript, Stops, PlaysPartOfLine, MayPrint, BreaksOff}
-use Rattle.mdnsd.proofs.Lawful.{are_served, calls_succeed}
+use Rattle.mdnsd.proofs.Lawful.{are_served, calls_succeed, are_earned}
 use Rattle.mdnsd.specs.Lines.{RanLine, StopsAt, BreaksAt, TakesLine}
 
 -- The lines before the rest of a script were played, and their entries were put.
@@ -66,14 +67,15 @@ legal_or_none P hub played stands none holds = at_booted hub.booted stands.boote
     at_booted None h = subst P (sym h.1) none
     at_booted (Some booted) h = holds played.history h.1.legal
 
-pub ran_whole : (script rest : List ℕ) (number : ℕ) (hub : Hub) (old new : Option (List ℕ)) → IsReplayed → IsQueued → GoodCallsSucceed
+pub ran_whole : (script rest : List ℕ) (number : ℕ) (hub : Hub) (old new : Option (List ℕ)) → IsReplayed → IsQueued → GoodCallsSucceed → AssertionsAreEarned
     → Ran script rest number hub old new → lines_of rest ≡ [] → PlaysScript script old new
-ran_whole script rest number hub old new replayed queued succeed ran none = record {
+ran_whole script rest number hub old new replayed queued succeed earned ran none = record {
   played = ran.played;
   plays = subst (λ (l : List (List ℕ)). PlaysAll start l ran.played) (sym (ran.lines ∙ ap (λ (l : List (List ℕ)). ran.done ++ l) none ∙ append-nil ran.done)) ran.plays;
   gains = ran.gains;
   replays = legal_or_none (λ history. AreServedThroughout history) hub ran.played ran.stands tt (are_served replayed queued);
   calls = legal_or_none (λ history. CallsSucceedThroughout history) hub ran.played ran.stands tt (calls_succeed succeed);
+  asserts = legal_or_none (λ history. AreEarnedThroughout history) hub ran.played ran.stands tt (are_earned earned);
 }
 
 pub ran_stops : (script rest line after : List ℕ) (number : ℕ) (hub : Hub) (old mid new : Option (List ℕ)) (words : List ℕ) (is_cause : Played → List ℕ → Type 0)

@@ -1,4 +1,4 @@
--- What holds of a history at each of its moments: of the items of its sessions, and of its calls.
+-- What holds of a history at each of its moments: of the items of its sessions, of its calls, and of what it asserts.
 use Rattle.std.specs.Prelude.{◌≡◌, ℕ, true, false, List, [], ◌∷◌, ◌++◌, Some}
 use Rattle.sd_call.specs.Replay.{replay}
 use Rattle.sd_call.specs.declared.request.Request.{Request}
@@ -8,6 +8,7 @@ use Rattle.mdns_history.specs.Sessions.{is_attached, is_cut}
 use Rattle.mdns_history.specs.Items.{session_items, taken_items, queue}
 use Rattle.mdns_history.specs.Replays.{answer_sets}
 use Rattle.mdns_history.specs.Calls.{is_good_call, good_outcome}
+use Rattle.mdns_asserts.specs.Earned.{IsEarned}
 
 -- A session's items, replayed, give exactly the answers of its operations, and they are those that it took and then those that are queued.
 pub record IsServed (session : ℕ) (history : List Entry) : Type 0 where
@@ -26,3 +27,8 @@ CallsSucceedThroughout [] = Unit {0}
 CallsSucceedThroughout (entry ∷ past) =
     ((session op : ℕ) (request : Request) → entry.event ≡ event.Call session op request → is_good_call session op request past ≡ true → entry.outcome ≡ good_outcome session request past)
     × CallsSucceedThroughout past
+
+-- What each entry asserts is earned: by three spaced, unanswered probes of the name, since it was last contested.
+abbrev pub AreEarnedThroughout : List Entry → Type 0
+AreEarnedThroughout [] = Unit {0}
+AreEarnedThroughout (entry ∷ past) = IsEarned entry past × AreEarnedThroughout past

@@ -6,7 +6,7 @@ use Rattle.mdns_script.specs.declared.command.Line.TheVariants.{Bad, NotYet, Com
 use Rattle.mdns_script.specs.Lines.{line_of}
 use Rattle.mdns_hub.specs.Played.{Played, start, transcript}
 use Rattle.mdns_hub.specs.Output.{PlaysPart}
-use Rattle.mdnsd.specs.Histories.{AreServedThroughout, CallsSucceedThroughout}
+use Rattle.mdnsd.specs.Histories.{AreServedThroughout, CallsSucceedThroughout, AreEarnedThroughout}
 use Rattle.mdnsd.specs.Scripts.{lines_of, PlaysAll, IsNotYet, note_text}
 
 -- the most bytes that a script may have
@@ -29,14 +29,15 @@ IsTooLarge old new = Took old new (λ count. most_bytes < count)
 abbrev pub IsWithin : Option (List ℕ) → Option (List ℕ) → Type 0
 IsWithin old new = Took old new (λ count. count ≤ most_bytes)
 
--- The whole script was played and the sink gained its transcript. At each moment the items replay to the answers, and calls that are as they
--- should be succeed.
+-- The whole script was played and the sink gained its transcript. At each moment the items replay to the answers, calls that are as they
+-- should be succeed, and what is asserted is earned.
 pub record PlaysScript (script : List ℕ) (old new : Option (List ℕ)) : Type 0 where
   pub played : Played
   pub plays : PlaysAll start (lines_of script) played
   pub gains : Appends old new (transcript played)
   pub replays : AreServedThroughout played.history
   pub calls : CallsSucceedThroughout played.history
+  pub asserts : AreEarnedThroughout played.history
 
 -- Where the script stopped: the lines before were played, this one is the cause, and a line that names it was put.
 pub record Stops (script : List ℕ) (words : List ℕ) (IsCause : Played → List ℕ → Type 0) (old new : Option (List ℕ)) : Type 0 where

@@ -12,6 +12,7 @@ ghost use Rattle.mdnsd.specs.Lines.{RanLine, StopsAt, BreaksAt, IsFault};
 use crate::input::{ReadError, read_all};
 use crate::lines::next_line;
 use crate::stop::{NO_MEMORY, READ_FAULT, Stop, TOO_LARGE, status_of};
+use mdns_asserts::assertions_are_earned;
 use mdns_base::{Sink, Source, put_decimal};
 use mdns_history::{good_calls_succeed, items_replay};
 use mdns_hub::Hub;
@@ -80,6 +81,7 @@ fn run_lines<K: Sink>(alloc: Global, script: &[u8], output: &mut K) -> Result<()
     // What was played is legal, and of every legal history these laws hold.
     items_replay();
     good_calls_succeed();
+    assertions_are_earned();
     Ok(())
 }
 
