@@ -26,7 +26,8 @@ use Rattle.mdns_question.specs.Tracking.{due_cause}
 use Rattle.mdns_question.specs.Standing.{Stands, mark_of}
 use Rattle.mdns_core.specs.InForce.{in_force}
 use Rattle.mdns_core.specs.State.{asker_of, sessions_in}
-use Rattle.mdns_core.specs.Asked.{is_asked_by, heard_unless, asked_for, questions_after}
+use Rattle.mdns_core.specs.Asked.{is_asked_by, heard_for, asked_told, asked_for, questions_after}
+use Rattle.mdns_happened.specs.Told.{unless}
 use Rattle.mdns_core.specs.Next.{IsHeard}
 use Rattle.mdns_core.proofs.Stage.{bare, duty_marks, noted_marks, entry_after, entry_is, marks_are}
 use Rattle.mdns_core.proofs.Shape.{attached, passes_now, marks-next}
@@ -108,13 +109,13 @@ module _ (moment : ℕ) (after : List Held) where
   chosen_none : (questions : List Tracked) (ev : Event) (asked : List (Key × Cause)) → asked ≡ [] → IsChosen questions ev asked
   chosen_none questions ev asked none = record { choose = λ one. None; among = none ∙ none_chosen questions; quiet = λ h. none }
 
-  chosen_unless : (questions : List Tracked) (ev : Event) → may_ask ev ≡ true → (refusal : List Mark) (o : Option Heard) → IsChosen questions ev (heard_unless refusal questions after moment o)
+  chosen_unless : (questions : List Tracked) (ev : Event) → may_ask ev ≡ true → (refusal : List Mark) (o : Option Heard) → IsChosen questions ev (heard_for questions after moment (unless refusal o))
   chosen_unless questions ev may [] None = chosen_none questions ev [] refl
   chosen_unless questions ev may [] (Some heard) = record { choose = heard_cause heard; among = heard_among heard questions; quiet = λ h. cc }
   chosen_unless questions ev may (m ∷ refusal) o = chosen_none questions ev [] refl
 
   pub is_chosen : (questions : List Tracked) (refusal : List Mark) (ev : Event) → IsChosen questions ev (asked_for questions after moment refusal ev)
-  unfolding asked_for
+  unfolding asked_told
   is_chosen questions refusal event.Tick = record { choose = due_cause after moment; among = refl; quiet = λ h. cc }
   is_chosen questions refusal (event.Hear from bytes) = chosen_unless questions (event.Hear from bytes) refl refusal (brought (event.Hear from bytes))
   is_chosen questions refusal (event.Boot config) = chosen_none questions (event.Boot config) [] refl

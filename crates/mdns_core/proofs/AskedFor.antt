@@ -29,6 +29,7 @@ use Rattle.mdns_history.specs.Asking.{asks_openly, known_answers, series_due, ti
 use Rattle.mdns_history.specs.Asking as history_asking
 use Rattle.mdns_history.specs.Sending.{to_all, key_in_mark}
 use Rattle.mdns_history.specs.Fitting.{admitted}
+use Rattle.mdns_happened.specs.Told.{unless}
 use Rattle.mdns_known.specs.Known.{known_of}
 use Rattle.mdns_known.proofs.Live.{of_live_records}
 use Rattle.mdns_known.proofs.Union.{are_of_live_records}
@@ -37,7 +38,7 @@ use Rattle.mdns_question.specs.Tracking.{active_of, due_at}
 use Rattle.mdns_question.specs.Standing.{IsTracked, Stands, mark_of}
 use Rattle.mdns_question.proofs.Following.{due_follows}
 use Rattle.mdns_core.specs.State.{asker_of}
-use Rattle.mdns_core.specs.Asked.{is_asked_by, heard_unless, asked_for, sent_for}
+use Rattle.mdns_core.specs.Asked.{is_asked_by, heard_for, asked_told, asked_for, sent_for}
 use Rattle.mdns_core.specs.Next.{refusal_of, heard_with, IsHeard}
 use Rattle.mdns_core.proofs.Stage.{sent_by, bare, duty_marks}
 use Rattle.mdns_core.proofs.Hears.{unheard, full-is}
@@ -127,38 +128,38 @@ module _ (past : List Entry) (moment word : ℕ) (questions : List Tracked) (bef
       of true rest = ap (λ ms. mark.Asked one.key cause.Heard ∷ ms) rest
       of false rest = rest
 
-  unless_none : (ms : List Mark) → heard_unless ms questions after moment None ≡ []
+  unless_none : (ms : List Mark) → heard_for questions after moment (unless ms None) ≡ []
   unless_none [] = refl
   unless_none (m ∷ ms) = refl
 
   -- the marks of questions that a packet asks
   packet_marks : (from : Host) (bytes : List ℕ) → IsHeard moment word (event.Hear from bytes) (hearings past) after refusal →
-      map mark_of (heard_unless refusal questions after moment (brought (event.Hear from bytes))) ≡ duty_marks past moment word (event.Hear from bytes)
+      map mark_of (heard_for questions after moment (unless refusal (brought (event.Hear from bytes)))) ≡ duty_marks past moment word (event.Hear from bytes)
   unfolding heard_askings
   packet_marks from bytes heard = of (brought ev) refl
     where
       ev : Event
       ev = event.Hear from bytes
 
-      of : (o : Option Heard) → brought ev ≡ o → map mark_of (heard_unless refusal questions after moment o) ≡ heard_askings past moment (admitted (bare past moment word ev) past o)
+      of : (o : Option Heard) → brought ev ≡ o → map mark_of (heard_for questions after moment (unless refusal o)) ≡ heard_askings past moment (admitted (bare past moment word ev) past o)
       of None e = ap (map mark_of) (unless_none refusal)
       of (Some message) e =
-          ap (λ ms. map mark_of (heard_unless ms questions after moment (Some message))) (heard.refused ∙ ap (λ b. refusal_of b ev) (full-is past moment word ev))
+          ap (λ ms. map mark_of (heard_for questions after moment (unless ms (Some message)))) (heard.refused ∙ ap (λ b. refusal_of b ev) (full-is past moment word ev))
           ∙ room (is_too_full (bare past moment word ev) past)
         where
           quiet : message.message.response ≡ false → IsPermutation after (live_records past moment)
           quiet query = live ev heard (ap counted_records e ∙ ap (λ b. cond b (message.message.answers ++ message.message.additional) []) query)
 
-          room : (b : Bool) → map mark_of (heard_unless (refusal_of b ev) questions after moment (Some message)) ≡ heard_askings past moment (cond b None (Some message))
+          room : (b : Bool) → map mark_of (heard_for questions after moment (unless (refusal_of b ev) (Some message))) ≡ heard_askings past moment (cond b None (Some message))
           room true = refl
           room false =
-              ap (λ ms. map mark_of (heard_unless ms questions after moment (Some message))) (good from (spelled bytes) message e)
+              ap (λ ms. map mark_of (heard_for questions after moment (unless ms (Some message)))) (good from (spelled bytes) message e)
               ∙ heard_marks message quiet questions asking.each
               ∙ ap (λ actives. map (λ active. mark.Asked active.key cause.Heard) (filter (history_asking.is_asked_by past moment message) actives)) asking.questions
 
   -- The marks of the questions that are asked are those of the history.
   pub marks-asked : (ev : Event) → IsHeard moment word ev (hearings past) after refusal → map mark_of (asked_for questions after moment refusal ev) ≡ duty_marks past moment word ev
-  unfolding asked_for heard_askings
+  unfolding asked_told heard_askings
   marks-asked event.Tick heard = due_marks heard
   marks-asked (event.Hear from bytes) heard = packet_marks from bytes heard
   marks-asked (event.Boot config) heard = refl
@@ -176,7 +177,7 @@ module _ (past : List Entry) (moment word : ℕ) (questions : List Tracked) (bef
 
   -- What is sent is what the history says.
   pub sends-asked : (ev : Event) → IsHeard moment word ev (hearings past) after refusal → sent_for after moment ev (asked_for questions after moment refusal ev) ≡ sent_by past moment ev
-  unfolding asked_for
+  unfolding asked_told
   sends-asked event.Tick heard = tick_sent heard
   sends-asked (event.Hear from bytes) heard = refl
   sends-asked (event.Boot config) heard = refl

@@ -27,7 +27,7 @@ use Rattle.mdns_question.specs.Standing as asking
 use Rattle.mdns_question.proofs.Following.{begun_follows, kept_follows, asked_follows}
 use Rattle.mdns_core.specs.InForce.{in_force}
 use Rattle.mdns_core.specs.State.{Session, asker_of, sessions_in}
-use Rattle.mdns_core.specs.Asked.{begun_keys, ended_keys, all_begun, all_ended, all_asked, questions_after}
+use Rattle.mdns_core.specs.Asked.{begun_keys, ended_keys, all_begun, all_ended, all_asked, questions_told, questions_after}
 use Rattle.mdns_core.proofs.KeyLists.{IsStrict, looked, key_eq-same, looked_found, looked_same, same_looked, all_looked, found_holds, strict_map, strict_unmap, looked_map}
 pub use Rattle.mdns_core.proofs.KeyUses.{IsMove}
 use Rattle.mdns_core.proofs.KeyUses.{times, uses-next}
@@ -376,7 +376,7 @@ silent (event.Take session max) o sessions h = absurd (cc)
 
 questions_after-is : (sessions : List Session) (moment word : ℕ) (ev : Event) (o : Outcome) (asked : List (Key × Cause)) (tracked : List Tracked) →
     questions_after sessions moment word ev o asked tracked ≡ all_asked moment asked (all_ended (ended_keys ev o sessions) (all_begun moment word (begun_keys (accepted_call ev o)) tracked))
-unfolding questions_after
+unfolding questions_told
 questions_after-is sessions moment word ev o asked tracked = refl
 
 askings-at : (past : List Entry) → IsLegal in_force past → (tracked : List Tracked) (held later : List Held) → asking.Stands (asker_of tracked held) past →

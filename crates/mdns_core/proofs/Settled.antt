@@ -2,13 +2,12 @@
 use Rattle.std.proofs.Common.{◌≡◌, ℕ, zero, suc, ◌+◌, ◌<◌, ◌≤◌, Bool, true, false, cond, ◌||◌, List, [], ◌∷◌, ◌++◌, map, take, length, get_or, set, Option, is_none, refl, ap, subst, ◌∙◌, sym, arith, add-one}
 use Rattle.dns_record.specs.declared.record.Rr.{Rr}
 use Rattle.sd_call.specs.declared.item.Item.{Item}
-use Rattle.mdns_history.specs.declared.event.Event.{Event}
-use Rattle.mdns_history.specs.declared.entry.Outcome.{Outcome}
-use Rattle.mdns_history.specs.Sessions.{detached, is_number}
+use Rattle.mdns_history.specs.Sessions.{is_number}
+use Rattle.mdns_happened.specs.Told.{Told}
 use Rattle.mdns_core.specs.declared.session.SessionState.{SessionState}
 use Rattle.mdns_core.specs.declared.change.SessionChange.{SessionChange}
 use Rattle.mdns_core.specs.State.{Session}
-use Rattle.mdns_core.specs.Settling.{settled, all_settled, change_for, brought_to}
+use Rattle.mdns_core.specs.Settling.{settled, all_settled, change_told, brought_told}
 use Rattle.mdns_core.specs.Kept.{queued, session_of, sessions_of, HaveRoom, IsFit, AreFit}
 use Rattle.sd_outbox.specs.Queues.{Queue}
 
@@ -77,25 +76,25 @@ settle-last states before changes change i now d is at within room fit e =
     })
 
 -- The change of a session fits it.
-pub change_for-fits : (event : Event) (outcome : Outcome) (earlier later : List Rr) (session : Session) → IsFit session (change_for event outcome earlier later session)
-change_for-fits event outcome earlier later session = record { cuts = refl; cut = none }
+pub change_told-fits : (told : Told) (earlier later : List Rr) (session : Session) → IsFit session (change_told told earlier later session)
+change_told-fits told earlier later session = record { cuts = refl; cut = none }
   where
     of : (a b : Bool) (items : List Item) → a ≡ true → cond (a || b) [] items ≡ []
     of true b items e = refl
     of false b items e = cc
 
-    none : session.cut ≡ true → brought_to event outcome earlier later session ≡ []
-    none e = of session.cut (is_number session.number (detached event outcome)) _ e
+    none : session.cut ≡ true → brought_told told earlier later session ≡ []
+    none e = of session.cut (is_number session.number told.detached) _ e
 
 -- The changes of sessions fit them.
-pub changes_for-fit : (event : Event) (outcome : Outcome) (earlier later : List Rr) (sessions : List Session) → AreFit sessions (map (change_for event outcome earlier later) sessions)
-changes_for-fit event outcome earlier later [] = tt
-changes_for-fit event outcome earlier later (session ∷ sessions) = (change_for-fits event outcome earlier later session, changes_for-fit event outcome earlier later sessions)
+pub changes_told-fit : (told : Told) (earlier later : List Rr) (sessions : List Session) → AreFit sessions (map (change_told told earlier later) sessions)
+changes_told-fit told earlier later [] = tt
+changes_told-fit told earlier later (session ∷ sessions) = (change_told-fits told earlier later session, changes_told-fit told earlier later sessions)
 
 -- The changes that a plan has fit the sessions that it was made of.
-pub planned-fit : (event : Event) (outcome : Outcome) (earlier later : List Rr) (sessions : List Session) (changes : List SessionChange) →
-    changes ≡ map (change_for event outcome earlier later) sessions → AreFit sessions changes
-planned-fit event outcome earlier later sessions changes e = subst (AreFit sessions) (sym e) (changes_for-fit event outcome earlier later sessions)
+pub planned-fit : (told : Told) (earlier later : List Rr) (sessions : List Session) (changes : List SessionChange) →
+    changes ≡ map (change_told told earlier later) sessions → AreFit sessions changes
+planned-fit told earlier later sessions changes e = subst (AreFit sessions) (sym e) (changes_told-fit told earlier later sessions)
 
 -- a session whose outbox has other room is kept the same
 pub with_room : (state : SessionState) (outbox : Queue) → outbox.items ≡ state.outbox.items → session_of (record state { outbox = outbox }) ≡ session_of state

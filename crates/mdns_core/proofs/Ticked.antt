@@ -1,5 +1,5 @@
 -- After a tick nothing is due by then: each question that was due has been asked, and each held record is live. And each question keeps a gap in its series.
-use Rattle.std.proofs.Common.{◌≡◌, ℕ, ◌+◌, ◌*◌, ◌<◌, ◌==◌, min, max, Bool, true, false, cond, not, ◌&&◌, ◌||◌, ◌⊎◌, inl, inr, List, [], ◌∷◌, ◌++◌, map, nat_le, Some, None, IfSome, refl, ap, ◌∙◌, sym, arith}
+use Rattle.std.proofs.Common.{◌≡◌, ℕ, ◌+◌, ◌*◌, ◌<◌, ◌==◌, min, max, Bool, true, false, cond, not, ◌&&◌, ◌||◌, ◌⊎◌, inl, inr, List, [], ◌∷◌, ◌++◌, map, nat_le, Some, None, IfSome, refl, ap, ◌∙◌, sym, arith, Option}
 use Rattle.std.specs.Prelude.{filter, nat_lt}
 use Rattle.std.specs.List.{list_any, list_all, flat_map, filter_map, cons_option, AllByRecursion}
 use Rattle.std.specs.Ordering.{is_lt}
@@ -18,7 +18,7 @@ use Rattle.mdns_history.specs.declared.held.Held.{Held}
 use Rattle.mdns_history.specs.declared.entry.Outcome.{Outcome}
 use Rattle.mdns_history.specs.Lifetimes.{is_live_at}
 use Rattle.mdns_history.specs.Questions.{Active}
-use Rattle.mdns_history.specs.Sessions.{accepted_call}
+use Rattle.mdns_history.specs.Sessions.{Accepted, accepted_call}
 use Rattle.mdns_history.specs.Asking.{is_counted, series_gap, refresh_points, calls_at}
 use Rattle.mdns_history.specs.Due.{is_nothing}
 use Rattle.mdns_cache.specs.Lifetimes.{AllLive}
@@ -26,7 +26,7 @@ use Rattle.mdns_question.specs.declared.tracked.Tracked.{Tracked}
 use Rattle.mdns_question.specs.Tracking.{active_of, is_for, tracked_cmp, is_used, used_more, used_less, begun, with_user, without_user, longest_gap, asked_at, noted, with_asking, fresh_of, is_refreshed, due_with, due_at}
 use Rattle.mdns_question.specs.Next.{next_of}
 use Rattle.mdns_core.specs.State.{Session, State, asker_of, due_of}
-use Rattle.mdns_core.specs.Asked.{asked_for, begun_keys, ended_keys, all_begun, all_ended, all_asked, questions_after}
+use Rattle.mdns_core.specs.Asked.{asked_told, asked_for, begun_keys, ended_told, all_begun, all_ended, all_asked, questions_told, questions_after}
 use Rattle.mdns_core.specs.Kept.{HaveGaps}
 use Rattle.mdns_core.proofs.Waiting.{below_least, quiet_before}
 
@@ -90,13 +90,13 @@ asked_gaps moment [] questions h = h
 asked_gaps moment (asking ∷ more) questions h =
     asked_gaps moment more (with_asking moment asking.0 asking.1 questions) (map_gaps (noted moment asking.0 asking.1) (noted_gap moment asking.0 asking.1) questions h)
 
--- Each question keeps a gap in its series, whatever an event makes of it.
-pub gaps_kept : (sessions : List Session) (moment word : ℕ) (ev : Event) (outcome : Outcome) (asked : List (Key × Cause)) (questions : List Tracked) → HaveGaps questions →
-    HaveGaps (questions_after sessions moment word ev outcome asked questions)
-unfolding questions_after
-gaps_kept sessions moment word ev outcome asked questions h =
-    asked_gaps moment asked (all_ended (ended_keys ev outcome sessions) (all_begun moment word (begun_keys (accepted_call ev outcome)) questions))
-    (ended_gaps (ended_keys ev outcome sessions) (all_begun moment word (begun_keys (accepted_call ev outcome)) questions) (begun_gaps moment word (begun_keys (accepted_call ev outcome)) questions h))
+-- Each question keeps a gap in its series, whatever is called, ended and asked.
+pub gaps_kept : (call : Option Accepted) (gone : Option ℕ) (sessions : List Session) (moment word : ℕ) (asked : List (Key × Cause)) (questions : List Tracked) → HaveGaps questions →
+    HaveGaps (questions_told call gone sessions moment word asked questions)
+unfolding questions_told
+gaps_kept call gone sessions moment word asked questions h =
+    asked_gaps moment asked (all_ended (ended_told call gone sessions) (all_begun moment word (begun_keys call) questions))
+    (ended_gaps (ended_told call gone sessions) (all_begun moment word (begun_keys call) questions) (begun_gaps moment word (begun_keys call) questions h))
 
 -- a question is this one itself
 is_for_itself : (one : Tracked) → is_for one.key one ≡ true
@@ -241,7 +241,7 @@ due-later questions held t live none =
 pub due-ticked : (state : State) (sessions : List Session) (word : ℕ) (outcome : Outcome) (refusal : List Mark) (questions : List Tracked) → AllLive state.last state.held → HaveGaps questions →
     state.questions ≡ questions_after sessions state.last word event.Tick outcome (asked_for questions state.held state.last refusal event.Tick) questions →
     IfSome (due_of state) (λ due. state.last < due)
-unfolding questions_after asked_for
+unfolding questions_told asked_told
 due-ticked state sessions word outcome refusal questions live gaps after =
     due-later state.questions state.held state.last live
     (ap (λ qs. due_at (asker_of qs state.held) state.last) after ∙ none_due_asked state.held state.last questions gaps)

@@ -1,5 +1,5 @@
 -- Which questions an event asks, which get or lose a user, and what is then kept of them, told of what is kept before it. (RFC 6762 5.2, 7.1 and 7.3)
-use Rattle.std.specs.Prelude.{ℕ, ◌+◌, ◌==◌, nat_le, Bool, not, ◌&&◌, ◌||◌, List, [], ◌∷◌, ◌++◌, map, filter, Option, Some, None}
+use Rattle.std.specs.Prelude.{ℕ, ◌+◌, ◌==◌, nat_le, Bool, not, ◌&&◌, ◌||◌, List, [], ◌∷◌, ◌++◌, map, filter, Option, Some, None, if◌then◌else◌}
 use Rattle.std.specs.List.{list_any, list_all, flat_map, find}
 use Rattle.mdns_base.specs.Hosts.{mdns_port}
 use Rattle.dns_record.specs.declared.record.Key.{Key}
@@ -8,7 +8,6 @@ use Rattle.dns_message.specs.Packing.{pack_query}
 use Rattle.sd_call.specs.declared.request.Request.{Request}
 use Rattle.sd_call.specs.declared.request.Request.TheVariants as request
 use Rattle.mdns_history.specs.declared.event.Event.{Event}
-use Rattle.mdns_history.specs.declared.event.Event.TheVariants as event
 use Rattle.mdns_history.specs.declared.mark.Mark.{Mark}
 use Rattle.mdns_history.specs.declared.mark.Cause.{Cause}
 use Rattle.mdns_history.specs.declared.mark.Cause.TheVariants as cause
@@ -16,11 +15,12 @@ use Rattle.mdns_history.specs.declared.held.Held.{Held}
 use Rattle.mdns_history.specs.declared.operation.Operation.{Operation}
 use Rattle.mdns_history.specs.declared.entry.Sent.{Sent}
 use Rattle.mdns_history.specs.declared.entry.Outcome.{Outcome}
-use Rattle.mdns_history.specs.Hearings.{Heard, brought}
+use Rattle.mdns_history.specs.Hearings.{Heard}
 use Rattle.mdns_history.specs.Sessions.{Accepted, accepted_call, detached, has_op}
 use Rattle.mdns_history.specs.Questions.{keys_of}
 use Rattle.mdns_history.specs.Asking.{asks_openly}
 use Rattle.mdns_history.specs.Sending.{to_all}
+use Rattle.mdns_happened.specs.Told.{is_tick, heard_of}
 use Rattle.mdns_known.specs.Known.{known_of, all_known_of}
 use Rattle.mdns_question.specs.declared.tracked.Tracked.{Tracked}
 use Rattle.mdns_question.specs.Tracking.{with_user, without_user, with_asking, due_at}
@@ -39,25 +39,25 @@ abbrev pub heard_for : List Tracked → List Held → ℕ → Option Heard → L
 heard_for questions held moment None = []
 heard_for questions held moment (Some heard) = map (λ one. (one.key, cause.Heard)) (filter (is_asked_by held moment heard) questions)
 
--- the same, unless the packet was refused
-abbrev pub heard_unless : List Mark → List Tracked → List Held → ℕ → Option Heard → List (Key × Cause)
-heard_unless [] questions held moment heard = heard_for questions held moment heard
-heard_unless (refusal ∷ more) questions held moment heard = []
+-- the questions that are asked, each with its cause, where these records are live: those that are due once time has passed, and those that a message asks
+unfoldable pub asked_told : Bool → Option Heard → List Tracked → List Held → ℕ → List (Key × Cause)
+asked_told ticks heard questions held moment = if ticks then due_at (asker_of questions held) moment else heard_for questions held moment heard
 
--- the questions that an event asks, each with its cause, where these records are live after it and these marks refuse its packet
-unfoldable pub asked_for : List Tracked → List Held → ℕ → List Mark → Event → List (Key × Cause)
-asked_for questions held moment refusal event.Tick = due_at (asker_of questions held) moment
-asked_for questions held moment refusal (event.Hear from bytes) = heard_unless refusal questions held moment (brought (event.Hear from bytes))
-asked_for questions held moment refusal _ = []
+-- the questions that an event asks, where these records are live after it and these marks refuse its packet
+abbrev pub asked_for : List Tracked → List Held → ℕ → List Mark → Event → List (Key × Cause)
+asked_for questions held moment refusal event = asked_told (is_tick event) (heard_of refusal event) questions held moment
 
 -- the queries of questions, with the known answers of all of them
 abbrev pub queries_for : List Held → ℕ → List Key → List Sent
 queries_for held moment keys = map to_all (pack_query keys (all_known_of keys held moment))
 
--- what an event sends: a tick the queries of the questions that it asks
+-- what is sent: once time has passed the queries of the questions that are asked
+abbrev pub sent_told : Bool → List Held → ℕ → List (Key × Cause) → List Sent
+sent_told ticks held moment asked = if ticks then queries_for held moment (map (λ due. due.0) asked) else []
+
+-- what an event sends
 abbrev pub sent_for : List Held → ℕ → Event → List (Key × Cause) → List Sent
-sent_for held moment event.Tick asked = queries_for held moment (map (λ due. due.0) asked)
-sent_for held moment _ asked = []
+sent_for held moment event asked = sent_told (is_tick event) held moment asked
 
 -- the operations of a session that may be there
 abbrev pub operations_in : Option Session → List Operation
@@ -84,10 +84,13 @@ abbrev pub ended_with : Option ℕ → List Session → List Operation
 ended_with None sessions = []
 ended_with (Some number) sessions = operations_in (find (has_number number) sessions)
 
--- the questions that lose a user: those of the operations that an event ends
+-- the questions that lose a user: those of the operations that an accepted call stops, or that end with a session
+abbrev pub ended_told : Option Accepted → Option ℕ → List Session → List Key
+ended_told call gone sessions = flat_map (λ operation. keys_of operation.request) (stopped_by call sessions ++ ended_with gone sessions)
+
+-- the questions that lose a user by an event
 abbrev pub ended_keys : Event → Outcome → List Session → List Key
-ended_keys event outcome sessions =
-    flat_map (λ operation. keys_of operation.request) (stopped_by (accepted_call event outcome) sessions ++ ended_with (detached event outcome) sessions)
+ended_keys event outcome sessions = ended_told (accepted_call event outcome) (detached event outcome) sessions
 
 -- questions with one user more for each of these keys
 abbrev pub all_begun : ℕ → ℕ → List Key → List Tracked → List Tracked
@@ -104,7 +107,12 @@ abbrev pub all_asked : ℕ → List (Key × Cause) → List Tracked → List Tra
 all_asked moment [] questions = questions
 all_asked moment (asking ∷ more) questions = all_asked moment more (with_asking moment asking.0 asking.1 questions)
 
+-- what is kept of questions after a call or the end of a session, where these are asked
+unfoldable pub questions_told : Option Accepted → Option ℕ → List Session → ℕ → ℕ → List (Key × Cause) → List Tracked → List Tracked
+questions_told call gone sessions moment word asked questions =
+    all_asked moment asked (all_ended (ended_told call gone sessions) (all_begun moment word (begun_keys call) questions))
+
 -- what is kept of questions after an event with its outcome, which asks these
-unfoldable pub questions_after : List Session → ℕ → ℕ → Event → Outcome → List (Key × Cause) → List Tracked → List Tracked
+abbrev pub questions_after : List Session → ℕ → ℕ → Event → Outcome → List (Key × Cause) → List Tracked → List Tracked
 questions_after sessions moment word event outcome asked questions =
-    all_asked moment asked (all_ended (ended_keys event outcome sessions) (all_begun moment word (begun_keys (accepted_call event outcome)) questions))
+    questions_told (accepted_call event outcome) (detached event outcome) sessions moment word asked questions

@@ -19,6 +19,7 @@ use Rattle.mdns_history.specs.Lifetimes.{live_of, room_for_records}
 use Rattle.mdns_history.specs.Sessions.{opened}
 use Rattle.mdns_history.specs.Outcomes.{items_or_empty}
 use Rattle.mdns_history.specs.Fitting.{bad_mark}
+use Rattle.mdns_happened.specs.Told.{Taking, taking_of}
 use Rattle.mdns_cache.specs.Lifetimes.{hearings_at}
 use Rattle.mdns_question.specs.Standing.{mark_of}
 use Rattle.mdns_core.specs.declared.change.SessionChange.{SessionChange}
@@ -47,15 +48,19 @@ abbrev pub handed_to : ℕ → Option Session → Outcome
 handed_to max None = outcome.Closed
 handed_to max (Some session) = if session.cut then outcome.Cut else items_or_empty (take max session.queue)
 
--- how many items an event may hand over
-abbrev pub most_taken : Event → ℕ
-most_taken (event.Take session max) = max
-most_taken _ = 0
+-- how many items a take may hand over
+abbrev pub most_taken : Option Taking → ℕ
+most_taken None = 0
+most_taken (Some taking) = taking.max
+
+-- the outcome of a take, where these are the sessions, or else that which is known early
+abbrev pub outcome_told : Option Taking → Outcome → List Session → Outcome
+outcome_told None early sessions = early
+outcome_told (Some taking) early sessions = handed_to taking.max (find (has_number taking.session) sessions)
 
 -- the outcome of an event, where these are the sessions after it
 abbrev pub outcome_then : Event → Outcome → List Session → Outcome
-outcome_then (event.Take session max) early sessions = handed_to max (find (has_number session) sessions)
-outcome_then _ early sessions = early
+outcome_then event early sessions = outcome_told (taking_of event) early sessions
 
 -- the session of a number without the first items of its queue
 abbrev pub taken_from : ℕ → ℕ → List Session → List Session
@@ -63,10 +68,14 @@ taken_from number max [] = []
 taken_from number max (session ∷ sessions) =
     if session.number == number then record session { queue = drop max session.queue } ∷ sessions else session ∷ taken_from number max sessions
 
+-- the sessions when a take has handed over what it hands over
+abbrev pub sessions_told : Option Taking → List Session → List Session
+sessions_told None sessions = sessions
+sessions_told (Some taking) sessions = taken_from taking.session taking.max sessions
+
 -- the sessions when an event has handed over what it hands over
 abbrev pub sessions_after : Event → List Session → List Session
-sessions_after (event.Take session max) sessions = taken_from session max sessions
-sessions_after _ sessions = sessions
+sessions_after event sessions = sessions_told (taking_of event) sessions
 
 -- the questions that an event asks, where these marks refuse its packet and these records are live after it
 abbrev pub asked_then : State → ℕ → Event → List Mark → List Held → List (Key × Cause)
@@ -116,11 +125,6 @@ heard_with moment word event past =
 -- whether too many records would be live with these
 abbrev pub are_too_many : ℕ → ℕ → List Rr → List Hearing → Bool
 are_too_many moment word rrs past = nat_lt room_for_records (length (live_of (hearings_at moment word rrs ++ past) moment))
-
--- What hearing records makes of held ones, and the mark where there would be too many, are what the records heard before say.
-pub record AreHeard (moment word : ℕ) (rrs : List Rr) (past : List Hearing) (later : List Held) (refusal : List Mark) : Type 0 where
-  pub records : IsPermutation later (live_of (if are_too_many moment word rrs past then past else hearings_at moment word rrs ++ past) moment)
-  pub refused : refusal ≡ (if are_too_many moment word rrs past then mark.Full ∷ [] else [])
 
 -- What an event makes of held records and the mark that refuses a packet are what the records heard before it say.
 pub record IsHeard (moment word : ℕ) (event : Event) (past : List Hearing) (later : List Held) (refusal : List Mark) : Type 0 where

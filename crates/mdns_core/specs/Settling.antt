@@ -10,8 +10,9 @@ use Rattle.mdns_history.specs.declared.mark.Mark.{Mark}
 use Rattle.mdns_history.specs.declared.mark.Mark.TheVariants as mark
 use Rattle.mdns_history.specs.declared.entry.Given.{Given}
 use Rattle.mdns_history.specs.declared.entry.Outcome.{Outcome}
-use Rattle.mdns_history.specs.Sessions.{Accepted, accepted_call, after_request, detached, is_number, opened}
-use Rattle.mdns_history.specs.Items.{reply_of, given_to}
+use Rattle.mdns_history.specs.Sessions.{Accepted, after_request, detached, is_number}
+use Rattle.mdns_history.specs.Items.{given_to}
+use Rattle.mdns_happened.specs.Told.{Told, told_of}
 use Rattle.mdns_core.specs.declared.change.SessionChange.{SessionChange}
 use Rattle.mdns_core.specs.State.{Session}
 use Rattle.mdns_core.specs.Changes.{items_between, passes}
@@ -27,22 +28,30 @@ called None number operations = None
 called (Some call) number operations =
     if call.session == number then Some (after_request number call.op call.request operations) else None
 
--- what a session has of an event with its outcome, told of the records before and after it
-abbrev pub brought_to : Event → Outcome → List Rr → List Rr → Session → List Item
-brought_to event outcome earlier later session =
-    if session.cut || is_number session.number (detached event outcome) then []
-    else items_between (reply_of session.number event outcome) session.operations
-    (unwrap_or (called (accepted_call event outcome) session.number session.operations) session.operations) earlier later
+-- what a session has of an event, told of the records before and after it
+abbrev pub brought_told : Told → List Rr → List Rr → Session → List Item
+brought_told told earlier later session =
+    if session.cut || is_number session.number told.detached then []
+    else items_between (told.reply session.number) session.operations
+    (unwrap_or (called told.call session.number session.operations) session.operations) earlier later
 
 -- the change of a session: its new operations, what it is brought, and whether that would pass the limit of its queue
-abbrev pub change_for : Event → Outcome → List Rr → List Rr → Session → SessionChange
-change_for event outcome earlier later session =
+abbrev pub change_told : Told → List Rr → List Rr → Session → SessionChange
+change_told told earlier later session =
     record {
       session = session.number;
-      operations = called (accepted_call event outcome) session.number session.operations;
-      brought = brought_to event outcome earlier later session;
-      cuts = passes session.queue (brought_to event outcome earlier later session);
+      operations = called told.call session.number session.operations;
+      brought = brought_told told earlier later session;
+      cuts = passes session.queue (brought_told told earlier later session);
     }
+
+-- what a session has of an event with its outcome
+abbrev pub brought_to : Event → Outcome → List Rr → List Rr → Session → List Item
+brought_to event outcome earlier later session = brought_told (told_of event outcome []) earlier later session
+
+-- the change of a session by an event with its outcome
+abbrev pub change_for : Event → Outcome → List Rr → List Rr → Session → SessionChange
+change_for event outcome earlier later session = change_told (told_of event outcome []) earlier later session
 
 -- the marks of the sessions that are cut
 abbrev pub cuts_of : List SessionChange → List Mark
@@ -68,9 +77,13 @@ all_settled [] changes = []
 all_settled (session ∷ sessions) [] = session ∷ sessions
 all_settled (session ∷ sessions) (change ∷ changes) = settled session change ∷ all_settled sessions changes
 
+-- the sessions but one that was detached
+abbrev pub remaining_but : Option ℕ → List Session → List Session
+remaining_but gone sessions = filter (λ session. not (is_number session.number gone)) sessions
+
 -- the sessions that an event leaves attached
 abbrev pub remaining : Event → Outcome → List Session → List Session
-remaining event outcome sessions = filter (λ session. not (is_number session.number (detached event outcome))) sessions
+remaining event outcome sessions = remaining_but (detached event outcome) sessions
 
 -- a session that was just opened
 abbrev pub opened_session : ℕ → Session
@@ -81,6 +94,10 @@ abbrev pub with_opened : Option ℕ → List Session → List Session
 with_opened None sessions = sessions
 with_opened (Some number) sessions = sessions ++ opened_session number ∷ []
 
+-- the sessions with their changes, after what is ended and opened
+abbrev pub shifted_told : Told → List Session → List SessionChange → List Session
+shifted_told told sessions changes = with_opened told.opened (remaining_but told.detached (all_settled sessions changes))
+
 -- the sessions with their changes, after what an event ends and opens
 abbrev pub shifted : Event → Outcome → List Session → List SessionChange → List Session
-shifted event outcome sessions changes = with_opened (opened outcome) (remaining event outcome (all_settled sessions changes))
+shifted event outcome sessions changes = shifted_told (told_of event outcome []) sessions changes

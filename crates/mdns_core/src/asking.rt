@@ -1,67 +1,41 @@
 // Which questions an event asks. (RFC 6762 5.2, 7.1 and 7.3)
-ghost use Rattle.std.specs.Prelude.{◌≡◌, ◌==◌, ◌+◌, ◌≤◌, ◌^◌, ◌&&◌, ◌||◌, ◌++◌, map, nat_le, not, IfOk, OnOk, Ok};
+ghost use Rattle.std.specs.Prelude.{◌≡◌, ◌==◌, ◌+◌, ◌&&◌, ◌||◌, ◌++◌, map, nat_le, not, Some, IfOk, OnOk};
 ghost use Rattle.std.specs.List.{list_any, list_all};
 ghost use Rattle.dns_record.specs.Records.{matches, same};
 ghost use Rattle.mdns_base.specs.Hosts.{mdns_port};
-ghost use Rattle.mdns_history.specs.Hearings.{brought, counted};
 ghost use Rattle.mdns_history.specs.Asking.{asks_openly};
+ghost use Rattle.mdns_happened.specs.Told.{told_by};
 ghost use Rattle.mdns_cache.specs.Lifetimes.{AllHeard};
 ghost use Rattle.mdns_question.specs.Standing.{mark_of};
-ghost use Rattle.mdns_core.specs.Asked.{is_asked_by, heard_for, asked_for};
+ghost use Rattle.mdns_core.specs.Asked.{is_asked_by, heard_for, asked_told};
 
-use crate::hear::is_ignored;
-use dns_message::{Message, MessageError, read};
 use dns_record::{Key, Question, Rr, matches};
-use mdns_base::Host;
-use mdns_history::{Cause, Event, Held, Mark, Marks};
+use mdns_happened::{Happened, Heard, When};
+use mdns_history::{Cause, Held, Mark, Marks};
 use mdns_known::known_answers;
 use mdns_question::{Tracked, due_questions};
 use std::alloc::{AllocError, Global};
 
 const MDNS_PORT: u16 = 5353;
 
-/// The questions that an event at `now`, in ms, asks, each with its cause: a tick those that are due, a query of another
-/// host, unless it was refused, those that it asks in the daemon's stead. These questions have users before the event, and
-/// these records are held after it. Refused only for want of memory.
-#[tactic(auto, unfolding(crate::specs::Asked::asked_for))]
+/// The questions that are asked, each with its cause, where these have users before the event and these records are held after
+/// it: once time has passed those that are due; and those that another host's query asks in the daemon's stead. Refused only
+/// for want of memory.
+#[tactic(auto, unfolding(crate::specs::Asked::asked_told))]
 pub fn asked_questions(
     alloc: Global,
     questions: &[Tracked],
     held: &[Held],
-    now: u64,
-    refusal: &[Mark],
-    event: &Event,
+    when: When,
+    happened: &Happened<'_>,
 ) -> Result<Vec<(Key, Cause)>, AllocError>
-    requires bound { now ≤ 2 ^ 53 }
-    requires heard { AllHeard now held.now }
-    ensures { IfOk result (λ asked. asked.items ≡ asked_for questions.now held.now now refusal.now event.now) }
+    requires { AllHeard when.moment held.now }
+    ensures { IfOk result (λ asked. asked.items ≡ asked_told (told_by happened.now).ticks (told_by happened.now).heard questions.now held.now when.moment) }
 {
-    match event {
-        Event::Tick => due_questions(alloc, questions, held, now),
-        Event::Hear { from, bytes } if refusal.is_empty() => {
-            asked_by_packet(alloc, questions, held, now, from, bytes.as_slice())
-        }
+    match happened {
+        Happened::Ticked => due_questions(alloc, questions, held, when.moment),
+        Happened::Heard(heard) => asked_by_message(alloc, questions, held, when, heard),
         _ => Ok(Vec::new(alloc)),
-    }
-}
-
-// The questions that a packet asks in the daemon's stead.
-fn asked_by_packet(
-    alloc: Global,
-    questions: &[Tracked],
-    held: &[Held],
-    now: u64,
-    from: &Host,
-    bytes: &[u8],
-) -> Result<Vec<(Key, Cause)>, AllocError>
-    requires bound { now ≤ 2 ^ 53 }
-    requires heard { AllHeard now held.now }
-    ensures { IfOk result (λ asked. asked.items ≡ heard_for questions.now held.now now (brought (Event.Hear from.now bytes.now))) }
-{
-    match read(alloc, bytes) {
-        Ok(message) => asked_by_message(alloc, questions, held, now, from, &message),
-        Err(MessageError::NoMemory) => Err(AllocError),
-        Err(_) => Ok(Vec::new(alloc)),
     }
 }
 
@@ -70,20 +44,15 @@ fn asked_by_message(
     alloc: Global,
     questions: &[Tracked],
     held: &[Held],
-    now: u64,
-    from: &Host,
-    message: &Message,
+    when: When,
+    heard: &Heard<'_>,
 ) -> Result<Vec<(Key, Cause)>, AllocError>
-    requires bound { now ≤ 2 ^ 53 }
-    requires heard { AllHeard now held.now }
-    ensures { IfOk result (λ asked. asked.items ≡ heard_for questions.now held.now now (counted from.now (Ok message.now))) }
+    requires { AllHeard when.moment held.now }
+    ensures { IfOk result (λ asked. asked.items ≡ heard_for questions.now held.now when.moment (Some (record { from = heard.now.from.now; message = heard.now.message }))) }
 {
     let mut asked = Vec::new(alloc);
-    if is_ignored(from, message) {
-        return Ok(asked);
-    }
     for one in questions {
-        if is_asked_by(alloc, held, now, from, message, one)? {
+        if is_asked_by(alloc, held, when, heard, one)? {
             asked.push((one.key.copy(), Cause::Heard))?;
         }
     }
@@ -95,33 +64,33 @@ fn asked_by_message(
 fn is_asked_by(
     alloc: Global,
     held: &[Held],
-    now: u64,
-    from: &Host,
-    message: &Message,
+    when: When,
+    heard: &Heard<'_>,
     one: &Tracked,
 ) -> Result<bool, AllocError>
-    requires bound { now ≤ 2 ^ 53 }
-    requires heard { AllHeard now held.now }
-    ensures { IfOk result (λ asked. asked ≡ is_asked_by held.now now (record { from = from.now; message = message.now }) one.now) }
+    requires { AllHeard when.moment held.now }
+    ensures { IfOk result (λ asked. asked ≡ is_asked_by held.now when.moment (record { from = heard.now.from.now; message = heard.now.message }) one.now) }
 {
-    if !may_stand_for(now, from, message, one) {
+    if !may_stand_for(when, heard, one) {
         return Ok(false);
     }
-    let known = known_answers(alloc, &one.key, held, now)?;
-    Ok(knows_no_more(&one.key, known.as_slice(), message.answers.as_slice()))
+    let known = known_answers(alloc, &one.key, held, when.moment)?;
+    let answers = heard.message.answers.as_slice();
+    Ok(knows_no_more(&one.key, known.as_slice(), answers))
 }
 
-// Whether a message is a query of a whole that asks the question openly, which is due within a second.
-fn may_stand_for(now: u64, from: &Host, message: &Message, one: &Tracked) -> bool
-    requires { now ≤ 2 ^ 53 }
-    ensures { result ≡ (not message.now.response && (from.now.port == mdns_port) && not message.now.truncated
-        && list_any (asks_openly one.now.key) message.now.questions && nat_le one.now.next (now + 1000)) }
+// Whether the message is a complete query from port 5353 that asks this question for a multicast answer, and ours is due
+// within a second.
+fn may_stand_for(when: When, heard: &Heard<'_>, one: &Tracked) -> bool
+    ensures { result ≡ (not heard.now.message.response && (heard.now.from.now.port == mdns_port) && not heard.now.message.truncated
+        && list_any (asks_openly one.now.key) heard.now.message.questions && nat_le one.now.next (when.moment + 1000)) }
 {
+    let message = &heard.message;
     !message.response
-        && from.port == MDNS_PORT
+        && heard.from.port == MDNS_PORT
         && !message.truncated
         && is_among_questions(&one.key, message.questions.as_slice())
-        && one.next <= now + 1000
+        && one.next <= when.moment + 1000
 }
 
 // Whether the question is asked without a wish for a unicast reply.

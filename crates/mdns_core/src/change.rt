@@ -1,19 +1,18 @@
 // What an event changes in the sessions, computed before anything is changed.
-ghost use Rattle.std.specs.Prelude.{◌≡◌, ◌+◌, ◌++◌, ◌≤◌, ◌||◌, [], nat_lt, map, is_none, IfOk, OnOk, if◌then◌else◌};
-ghost use Rattle.sd_call.specs.Answers.{frames_len};
-ghost use Rattle.mdns_history.specs.Sessions.{accepted_call, detached, is_number};
+ghost use Rattle.std.specs.Prelude.{◌≡◌, ◌+◌, ◌++◌, ◌≤◌, nat_lt, map, IfOk, OnOk};
 ghost use Rattle.std.specs.Option.{unwrap_or};
-ghost use Rattle.mdns_history.specs.Items.{given_to, reply_of};
-ghost use Rattle.mdns_core.specs.Changes.{items_between};
-ghost use Rattle.mdns_core.specs.Settling.{called, brought_to, change_for, cuts_of, gifts_of};
+ghost use Rattle.sd_call.specs.Answers.{frames_len};
+ghost use Rattle.mdns_history.specs.Items.{given_to};
+ghost use Rattle.mdns_happened.specs.Told.{told_by};
+ghost use Rattle.mdns_core.specs.Settling.{called, brought_told, change_told, cuts_of, gifts_of};
 ghost use Rattle.mdns_core.specs.Next.{rrs_of};
 ghost use Rattle.mdns_core.specs.Kept.{session_of, sessions_of, HaveWellFormed, AreWellFormed, IsWellFormedCall};
 
-use crate::items::items_between;
-use crate::outcomes::reply_to;
+use crate::items::{Around, items_between};
 use crate::running::operations_after;
 use crate::session::SessionState;
-use mdns_history::{Event, Gifts, Given, Held, Items, Mark, Marks, Operation, Operations, Outcome};
+use mdns_happened::Happened;
+use mdns_history::{Gifts, Given, Items, Mark, Marks, Operation, Operations};
 use sd_call::{Item, item_len};
 use std::alloc::{AllocError, Global};
 
@@ -33,18 +32,16 @@ pub struct SessionChange {
 pub fn changes(
     alloc: Global,
     sessions: &[SessionState],
-    event: &Event,
-    outcome: &Outcome,
-    earlier: &[Held],
-    later: &[Held],
+    happened: &Happened<'_>,
+    held: Around<'_>,
 ) -> Result<Vec<SessionChange>, AllocError>
     requires operations { HaveWellFormed (sessions_of sessions.now) }
-    requires call { IsWellFormedCall (accepted_call event.now outcome.now) }
-    ensures { IfOk result (λ changes. changes.items ≡ map (change_for event.now outcome.now (rrs_of earlier.now) (rrs_of later.now)) (sessions_of sessions.now)) }
+    requires call { IsWellFormedCall (told_by happened.now).call }
+    ensures { IfOk result (λ changes. changes.items ≡ map (change_told (told_by happened.now) (rrs_of held.entry.earlier.now) (rrs_of held.entry.later.now)) (sessions_of sessions.now)) }
 {
     let mut changes = Vec::new(alloc);
     for session in sessions {
-        changes.push(change(alloc, session, event, outcome, earlier, later)?)?;
+        changes.push(change(alloc, session, happened, held)?)?;
     }
     Ok(changes)
 }
@@ -52,18 +49,16 @@ pub fn changes(
 fn change(
     alloc: Global,
     session: &SessionState,
-    event: &Event,
-    outcome: &Outcome,
-    earlier: &[Held],
-    later: &[Held],
+    happened: &Happened<'_>,
+    held: Around<'_>,
 ) -> Result<SessionChange, AllocError>
     requires operations { AreWellFormed session.now.operations }
-    requires call { IsWellFormedCall (accepted_call event.now outcome.now) }
-    ensures { IfOk result (λ change. change ≡ change_for event.now outcome.now (rrs_of earlier.now) (rrs_of later.now) (session_of session.now)) }
+    requires call { IsWellFormedCall (told_by happened.now).call }
+    ensures { IfOk result (λ change. change ≡ change_told (told_by happened.now) (rrs_of held.entry.earlier.now) (rrs_of held.entry.later.now) (session_of session.now)) }
 {
-    let operations = called(alloc, session, event, outcome)?;
+    let operations = called(alloc, session, happened)?;
     let after = or_own(&operations, &session.operations);
-    let brought = bring(alloc, session, after, event, outcome, earlier, later)?;
+    let brought = bring(alloc, session, after, happened, held)?;
     let cuts = passes(session.outbox.bytes(), brought.as_slice());
     Ok(SessionChange {
         session: session.number,
@@ -88,62 +83,41 @@ fn bring(
     alloc: Global,
     session: &SessionState,
     after: &[Operation],
-    event: &Event,
-    outcome: &Outcome,
-    earlier: &[Held],
-    later: &[Held],
+    happened: &Happened<'_>,
+    held: Around<'_>,
 ) -> Result<Items, AllocError>
     requires before { AreWellFormed session.now.operations }
     requires after { AreWellFormed after.now }
-    ensures { IfOk result (λ items. items ≡ (if is_none session.now.outbox.items || is_number session.now.number (detached event.now outcome.now) then []
-        else items_between (reply_of session.now.number event.now outcome.now) session.now.operations after.now (rrs_of earlier.now) (rrs_of later.now))) }
+    ensures { IfOk result (λ items. after.now ≡ unwrap_or (called (told_by happened.now).call session.now.number session.now.operations) session.now.operations
+        → items ≡ brought_told (told_by happened.now) (rrs_of held.entry.earlier.now) (rrs_of held.entry.later.now) (session_of session.now)) }
 {
-    if session.outbox.is_cut() || is_detached(session.number, event, outcome) {
+    if session.outbox.is_cut() || happened.detaches(session.number) {
         return Ok(Items::new(alloc));
     }
-    items_between(
-        alloc,
-        reply_to(session.number, event, outcome),
-        session.operations.as_slice(),
-        after,
-        earlier,
-        later,
-    )
+    let reply = happened.reply_to(session.number);
+    items_between(alloc, reply, session.operations.as_slice(), after, held)
 }
 
 // The operations that a call leaves to a session, where it is the session's and was accepted.
 fn called(
     alloc: Global,
     session: &SessionState,
-    event: &Event,
-    outcome: &Outcome,
+    happened: &Happened<'_>,
 ) -> Result<Option<Operations>, AllocError>
-    ensures { IfOk result (λ after. after ≡ called (accepted_call event.now outcome.now) session.now.number session.now.operations) }
+    ensures { IfOk result (λ after. after ≡ called (told_by happened.now).call session.now.number session.now.operations) }
 {
-    match (event, outcome) {
-        (
-            Event::Call {
-                session: caller,
-                op,
-                request,
-            },
-            Outcome::Code { code: 0 },
-        ) if *caller == session.number => {
+    match happened {
+        Happened::Called {
+            session: caller,
+            op,
+            request,
+            code: 0,
+        } if *caller == session.number => {
             let operations = session.operations.as_slice();
             let after = operations_after(alloc, operations, *caller, *op, request)?;
             Ok(Some(Operations::from_vec(after)))
         }
         _ => Ok(None),
-    }
-}
-
-/// Whether an event with its outcome detached the session of a number.
-pub fn is_detached(number: u64, event: &Event, outcome: &Outcome) -> bool
-    ensures { result ≡ is_number number (detached event.now outcome.now) }
-{
-    match (event, outcome) {
-        (Event::Detach { session }, Outcome::Ended) => *session == number,
-        _ => false,
     }
 }
 

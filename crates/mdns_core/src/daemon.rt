@@ -1,11 +1,11 @@
 // The daemon: it keeps the records that are live and the sessions that are attached, and gives these what changes.
 ghost use Rattle.std.specs.Prelude.{◌≡◌, ◌<◌, ◌≤◌, ◌^◌, ◌∷◌, ◌++◌, [], ℕ, List, max, length, vec_len, vec_capacity, IfOk, IfSome, OnOk, OnErr, Option, Some, None, true, false};
-ghost use Rattle.std.specs.Option.{is_some, option_map, unwrap_or};
+ghost use Rattle.std.specs.Option.{is_some, option_map};
 ghost use Rattle.std.specs.List.{find};
 ghost use Rattle.sd_call.specs.Replay.{replay};
 ghost use Rattle.mdns_history.specs.declared.config.HostConfig.{HostConfig};
 ghost use Rattle.mdns_history.specs.declared.entry.Entry.{Entry};
-ghost use Rattle.mdns_history.specs.Sessions.{opened, is_attached, is_cut};
+ghost use Rattle.mdns_history.specs.Sessions.{is_attached, is_cut};
 ghost use Rattle.mdns_history.specs.Items.{session_items, taken_items, queue};
 ghost use Rattle.mdns_history.specs.Replays.{answer_sets};
 ghost use Rattle.mdns_asserts.specs.Earned.{IsEarned};
@@ -14,8 +14,9 @@ ghost use Rattle.mdns_history.specs.Fitting.{Fits, boot_entry, is_boot};
 ghost use Rattle.mdns_history.specs.Due.{NextDue};
 ghost use Rattle.dns_name.specs.Lists.{least};
 ghost use Rattle.mdns_core.specs.Codes.{has_number};
-ghost use Rattle.mdns_core.specs.Settling.{shifted};
-ghost use Rattle.mdns_core.specs.Next.{outcome_then, sessions_after, most_taken};
+ghost use Rattle.mdns_happened.specs.Told.{told_by};
+ghost use Rattle.mdns_core.specs.Settling.{shifted_told};
+ghost use Rattle.mdns_core.specs.Next.{outcome_told, sessions_told, most_taken};
 ghost use Rattle.mdns_core.specs.Kept.{sessions_of, HaveRoom, AreFit};
 
 use crate::change::SessionChange;
@@ -24,6 +25,7 @@ use crate::plan::{Kept, Plan, make_plan};
 use crate::session::SessionState;
 use crate::settle::{finish, make_room, settle};
 use mdns_cache::{Cache, Steps};
+use mdns_happened::{Happened, When};
 use mdns_history::{Config, Entry, Event, Gifts, Marks, Outcome, Sends};
 use mdns_question::{Asker, next_due};
 use sd_call::Item;
@@ -157,15 +159,17 @@ impl Daemon {
         ensures err { OnErr result (self.new ≡ self.old) }
     {
         let alloc = self.alloc;
+        let when = When { moment: now, word };
         let kept = Kept {
             opened: self.opened,
             sessions: &self.sessions,
             cache: &self.cache,
             asker: &self.asker,
         };
-        let plan = make_plan(alloc, &kept, now, word, &event, steps)?;
-        prepare(&mut self.sessions, &plan.changes, &plan.outcome)?;
+        let plan = make_plan(alloc, &kept, when, &event, steps)?;
+        prepare(&mut self.sessions, &plan.changes, &plan.happened)?;
         let Plan {
+            happened,
             cache,
             asker,
             marks,
@@ -173,10 +177,10 @@ impl Daemon {
             given,
             changes,
             taken,
-            outcome,
         } = plan;
-        self.opened = opened_then(self.opened, &outcome);
-        let outcome = carry_out(alloc, &mut self.sessions, &event, outcome, changes, taken);
+        self.opened = happened.opened().unwrap_or(self.opened);
+        let outcome = carry_out(alloc, &mut self.sessions, &happened, changes, taken);
+        drop(happened);
         self.last = now;
         self.cache = cache;
         self.asker = asker;
@@ -215,25 +219,24 @@ fn earlier(one: Option<u64>, other: Option<u64>) -> Option<u64>
 fn prepare(
     sessions: &mut Vec<SessionState>,
     changes: &[SessionChange],
-    outcome: &Outcome,
+    happened: &Happened<'_>,
 ) -> Result<(), AllocError>
     requires { vec_len sessions.old ≡ length changes.now }
     ensures same { sessions_of sessions.new.items ≡ sessions_of sessions.old.items }
     ensures len { vec_len sessions.new ≡ vec_len sessions.old }
     ensures room { OnOk result (HaveRoom sessions.new.items changes.now) }
-    ensures place { OnOk result (is_some (opened outcome.now) ≡ true → vec_len sessions.new < vec_capacity sessions.new) }
+    ensures place { OnOk result (is_some (told_by happened.now).opened ≡ true → vec_len sessions.new < vec_capacity sessions.new) }
 {
     make_room(sessions, changes)?;
-    make_place(sessions, outcome)?;
+    make_place(sessions, happened)?;
     Ok(())
 }
 
-// Makes the changes of the sessions, and what the event itself ends, opens or takes. It takes no memory.
+// Makes the changes of the sessions, and ends, opens or takes from one. It takes no memory.
 fn carry_out(
     alloc: Global,
     sessions: &mut Vec<SessionState>,
-    event: &Event,
-    outcome: Outcome,
+    happened: &Happened<'_>,
     changes: Vec<SessionChange>,
     taken: Vec<Item>,
 ) -> Outcome
@@ -241,33 +244,25 @@ fn carry_out(
     requires room { HaveRoom sessions.old.items changes.items }
     requires fit { AreFit (sessions_of sessions.old.items) changes.items }
     requires empty { taken.items ≡ [] }
-    requires taking { most_taken event.now ≤ vec_capacity taken }
-    requires opening { is_some (opened outcome) ≡ true → vec_len sessions.old < vec_capacity sessions.old }
-    ensures outcome { result ≡ outcome_then event.now outcome (shifted event.now outcome (sessions_of sessions.old.items) changes.items) }
-    ensures sessions { sessions_of sessions.new.items ≡ sessions_after event.now (shifted event.now outcome (sessions_of sessions.old.items) changes.items) }
+    requires taking { most_taken (told_by happened.now).taking ≤ vec_capacity taken }
+    requires opening { is_some (told_by happened.now).opened ≡ true → vec_len sessions.old < vec_capacity sessions.old }
+    ensures outcome { result ≡ outcome_told (told_by happened.now).taking (told_by happened.now).outcome
+        (shifted_told (told_by happened.now) (sessions_of sessions.old.items) changes.items) }
+    ensures sessions { sessions_of sessions.new.items ≡ sessions_told (told_by happened.now).taking
+        (shifted_told (told_by happened.now) (sessions_of sessions.old.items) changes.items) }
 {
     settle(sessions, changes);
-    finish(alloc, sessions, event, outcome, taken)
+    finish(alloc, sessions, happened, taken)
 }
 
-// Takes room for the session that an outcome opens. Refused only for want of memory.
-fn make_place(sessions: &mut Vec<SessionState>, outcome: &Outcome) -> Result<(), AllocError>
+// Takes room for the session that was opened. Refused only for want of memory.
+fn make_place(sessions: &mut Vec<SessionState>, happened: &Happened<'_>) -> Result<(), AllocError>
     ensures items { sessions.new.items ≡ sessions.old.items }
     ensures len { vec_len sessions.new ≡ vec_len sessions.old }
-    ensures place { OnOk result (is_some (opened outcome.now) ≡ true → vec_len sessions.new < vec_capacity sessions.new) }
+    ensures place { OnOk result (is_some (told_by happened.now).opened ≡ true → vec_len sessions.new < vec_capacity sessions.new) }
 {
-    if let Outcome::Opened { .. } = outcome {
+    if happened.opened().is_some() {
         sessions.reserve(1)?;
     }
     Ok(())
-}
-
-// How many sessions were opened, with the one that an outcome opens: it has the next number.
-fn opened_then(before: u64, outcome: &Outcome) -> u64
-    ensures { result ≡ unwrap_or (opened outcome.now) before }
-{
-    match outcome {
-        Outcome::Opened { session } => *session,
-        _ => before,
-    }
 }

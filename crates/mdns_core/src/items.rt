@@ -20,20 +20,25 @@ use sd_answer::{Answers, answers_of, questions_of};
 use sd_call::{Answer, Item, Request, answer_cmp};
 use std::alloc::{AllocError, Global};
 
-/// What a session is brought where its operations and the records that are live change from those before to those after.
-/// Refused only for want of memory.
+/// The records that are held before an event and after it.
+#[derive(Clone, Copy, Drop)]
+pub struct Around<'a> {
+    pub earlier: &'a [Held],
+    pub later: &'a [Held],
+}
+
+/// What a session is brought where its operations change from those before to those after. Refused only for want of memory.
 #[tactic(auto, unfolding(crate::specs::Changes::items_between))]
 pub fn items_between(
     alloc: Global,
     reply: Option<Item>,
     before: &[Operation],
     after: &[Operation],
-    earlier: &[Held],
-    later: &[Held],
+    held: Around<'_>,
 ) -> Result<Items, AllocError>
     requires before { AreWellFormed before.now }
     requires after { AreWellFormed after.now }
-    ensures { IfOk result (λ items. items ≡ items_between reply before.now after.now (rrs_of earlier.now) (rrs_of later.now)) }
+    ensures { IfOk result (λ items. items ≡ items_between reply before.now after.now (rrs_of held.entry.earlier.now) (rrs_of held.entry.later.now)) }
 {
     let mut brought = Items::new(alloc);
     if let Some(reply) = reply {
@@ -41,8 +46,8 @@ pub fn items_between(
     }
     let mut adds = Items::new(alloc);
     for operation in after {
-        let had = had_by(alloc, before, operation.op, earlier)?;
-        let has = answers(alloc, &operation.request, later)?;
+        let had = had_by(alloc, before, operation.op, held.earlier)?;
+        let has = answers(alloc, &operation.request, held.later)?;
         put_removes(&mut brought, operation.op, had.as_slice(), has.as_slice())?;
         put_adds(&mut adds, operation.op, has.as_slice(), had.as_slice())?;
     }

@@ -10,6 +10,7 @@ mod items;
 mod outcomes;
 mod plan;
 mod queries;
+mod reading;
 mod running;
 mod session;
 mod settle;

@@ -1,16 +1,16 @@
-// How events go.
-ghost use Rattle.std.specs.Prelude.{◌≡◌, ℕ, ◌+◌, ◌^◌, ◌||◌, nat_le, Some, if◌then◌else◌};
+// What an event that concerns a session amounts to.
+ghost use Rattle.std.specs.Prelude.{◌≡◌, [], ◌+◌, ◌^◌, ◌||◌, nat_le, if◌then◌else◌};
 ghost use Rattle.std.specs.List.{find};
-ghost use Rattle.std.specs.Option.{option_map, option_copied};
-ghost use Rattle.mdns_history.specs.Sessions.{accepted_call};
-ghost use Rattle.mdns_history.specs.Items.{reply_of, verb_of};
-ghost use Rattle.mdns_core.specs.Codes.{kept_outcome, call_outcome_of, has_number};
+ghost use Rattle.std.specs.Option.{is_some, option_map, option_copied};
+ghost use Rattle.mdns_happened.specs.Told.{told_of, told_by};
+ghost use Rattle.mdns_core.specs.Codes.{call_outcome_of, has_number};
 ghost use Rattle.mdns_core.specs.Kept.{session_of, sessions_of, IsWellFormedCall};
 
 use crate::codes::call_code;
 use crate::session::SessionState;
-use mdns_history::{Event, Outcome};
-use sd_call::{Item, Request, Verb};
+use mdns_happened::{Happened, Idle};
+use mdns_history::{Config, Event, Outcome};
+use sd_call::Request;
 
 /// The most sessions at a time.
 const MOST_SESSIONS: usize = 64;
@@ -18,52 +18,79 @@ const MOST_SESSIONS: usize = 64;
 /// The most sessions of a daemon over its life.
 const MOST_OPENED: u64 = 1 << 63;
 
-/// The outcome of an event, but for a take, whose outcome is known last.
-#[tactic(auto, unfolding(crate::specs::Codes::kept_outcome))]
-pub fn early_outcome(opened: u64, sessions: &[SessionState], event: &Event) -> Outcome
-    ensures value { result ≡ kept_outcome opened (sessions_of sessions.now) event.now }
-    ensures well_formed { IsWellFormedCall (accepted_call event.now result) }
-{
-    match event {
-        Event::Attach => attach_outcome(opened, sessions.len()),
-        Event::Detach { session } => match find(sessions, *session) {
-            Some(_) => Outcome::Ended,
-            None => Outcome::Closed,
-        },
-        Event::Call {
-            session,
-            op,
-            request,
-        } => match find(sessions, *session) {
-            Some(state) => call_outcome(state, *op, request),
-            None => Outcome::Closed,
-        },
-        Event::Boot { .. } | Event::Hear { .. } | Event::Tick | Event::Take { .. } => Outcome::Done,
-    }
-}
-
-fn attach_outcome(opened: u64, attached: usize) -> Outcome
-    ensures { result ≡ (if nat_le 64 attached || nat_le (2 ^ 63) opened then Outcome.Full else Outcome.Opened (opened + 1)) }
+/// What an attach amounts to, where so many sessions were opened, and so many are attached.
+pub fn attach<'a>(opened: u64, attached: usize) -> Happened<'a>
+    ensures { told_by result ≡ told_of Event.Attach (if nat_le 64 attached || nat_le (2 ^ 63) opened then Outcome.Full else Outcome.Opened (opened + 1)) [] }
 {
     if attached >= MOST_SESSIONS || opened >= MOST_OPENED {
-        Outcome::Full
+        Happened::Nothing { why: Idle::Full }
     } else {
-        Outcome::Opened {
+        Happened::Opened {
             session: opened + 1,
         }
     }
 }
 
-#[tactic(auto, unfolding(crate::specs::Codes::kept_code))]
-fn call_outcome(session: &SessionState, op: u32, request: &Request) -> Outcome
-    ensures value { result ≡ call_outcome_of (Some (session_of session.now)) op request.now }
-    ensures well_formed { (number : ℕ) → IsWellFormedCall (accepted_call (Event.Call number op request.now) result) }
+/// What a detach amounts to.
+pub fn detach<'a>(sessions: &[SessionState], session: u64) -> Happened<'a>
+    ensures { told_by result ≡ told_of (Event.Detach session) (if is_some (find (has_number session) (sessions_of sessions.now)) then Outcome.Ended else Outcome.Closed) [] }
 {
-    if session.outbox.is_cut() {
-        return Outcome::Cut;
+    match find(sessions, session) {
+        Some(_) => Happened::Detached { session },
+        None => Happened::Nothing { why: Idle::Closed },
     }
-    Outcome::Code {
-        code: call_code(session.operations.as_slice(), op, request),
+}
+
+/// What a call amounts to.
+pub fn call<'a>(
+    sessions: &[SessionState],
+    session: u64,
+    op: u32,
+    request: &'a Request,
+) -> Happened<'a>
+    ensures told { told_by result ≡ told_of (Event.Call session op request.now) (call_outcome_of (find (has_number session) (sessions_of sessions.now)) op request.now) [] }
+    ensures well_formed { IsWellFormedCall (told_by result).call }
+{
+    match find(sessions, session) {
+        Some(state) => call_of(state, session, op, request),
+        None => Happened::Nothing { why: Idle::Closed },
+    }
+}
+
+/// What a tick amounts to.
+pub fn tick<'a>() -> Happened<'a>
+    ensures { told_by result ≡ told_of Event.Tick Outcome.Done [] }
+{
+    Happened::Ticked
+}
+
+/// What a boot amounts to: there is nothing to tell of it.
+pub fn boot<'a>(_config: &Config) -> Happened<'a>
+    ensures { told_by result ≡ told_of (Event.Boot _config.now) Outcome.Done [] }
+{
+    Happened::Nothing { why: Idle::Ignored }
+}
+
+/// What a take amounts to; what it hands over is known last.
+pub fn take<'a>(session: u64, max: u32) -> Happened<'a>
+    ensures { told_by result ≡ told_of (Event.Take session max) Outcome.Done [] }
+{
+    Happened::Took { session, max }
+}
+
+#[tactic(auto, unfolding(crate::specs::Codes::kept_code))]
+fn call_of<'a>(state: &SessionState, session: u64, op: u32, request: &'a Request) -> Happened<'a>
+    ensures told { told_by result ≡ told_of (Event.Call session op request.now) (call_outcome_of (Some (session_of state.now)) op request.now) [] }
+    ensures well_formed { IsWellFormedCall (told_by result).call }
+{
+    if state.outbox.is_cut() {
+        return Happened::Nothing { why: Idle::Cut };
+    }
+    Happened::Called {
+        session,
+        op,
+        request,
+        code: call_code(state.operations.as_slice(), op, request),
     }
 }
 
@@ -77,39 +104,4 @@ pub fn find(sessions: &[SessionState], number: u64) -> Option<&SessionState>
         }
     }
     None
-}
-
-/// The reply to a session's own call.
-pub fn reply_to(number: u64, event: &Event, outcome: &Outcome) -> Option<Item>
-    ensures { result ≡ reply_of number event.now outcome.now }
-{
-    match (event, outcome) {
-        (
-            Event::Call {
-                session,
-                op,
-                request,
-            },
-            Outcome::Code { code },
-        ) if *session == number => Some(Item::Reply {
-            op: *op,
-            verb: verb_of(request),
-            code: *code,
-        }),
-        _ => None,
-    }
-}
-
-fn verb_of(request: &Request) -> Verb
-    ensures { result ≡ verb_of request.now }
-{
-    match request {
-        Request::Update { .. } => Verb::Update,
-        Request::Stop => Verb::Stop,
-        Request::Query { .. }
-        | Request::Browse { .. }
-        | Request::Resolve { .. }
-        | Request::Address { .. }
-        | Request::Register { .. } => Verb::Start,
-    }
 }

@@ -1,18 +1,19 @@
 // The changes of sessions made, once nothing can be refused any more.
-ghost use Rattle.std.specs.Prelude.{◌≡◌, ◌==◌, ◌<◌, ◌≤◌, [], true, false, take, drop, length, position, vec_len, vec_capacity, OnOk};
+ghost use Rattle.std.specs.Prelude.{◌≡◌, ◌==◌, ◌<◌, ◌≤◌, [], true, false, take, drop, length, position, vec_len, vec_capacity, Some, OnOk};
 ghost use Rattle.std.specs.Option.{option_map, is_some, unwrap_or};
 ghost use Rattle.std.specs.List.{find};
-ghost use Rattle.mdns_history.specs.Sessions.{opened};
+ghost use Rattle.mdns_happened.specs.Told.{told_by};
 ghost use Rattle.mdns_core.specs.declared.session.SessionState.{SessionState};
 ghost use Rattle.mdns_core.specs.Changes.{passes};
 ghost use Rattle.mdns_core.specs.Codes.{has_number};
-ghost use Rattle.mdns_core.specs.Settling.{settled, all_settled, with_opened, remaining};
-ghost use Rattle.mdns_core.specs.Next.{handed_to, outcome_then, sessions_after, taken_from, most_taken};
+ghost use Rattle.mdns_core.specs.Settling.{settled, all_settled, with_opened, remaining_but};
+ghost use Rattle.mdns_core.specs.Next.{handed_to, outcome_told, sessions_told, taken_from, most_taken};
 ghost use Rattle.mdns_core.specs.Kept.{session_of, sessions_of, queued, joined, HaveRoom, IsFit, AreFit};
 
-use crate::change::{SessionChange, is_detached};
+use crate::change::SessionChange;
 use crate::session::SessionState;
-use mdns_history::{Event, Items, Operations, Outcome};
+use mdns_happened::Happened;
+use mdns_history::{Items, Operations, Outcome};
 use sd_call::Item;
 use sd_outbox::{Outbox, Taken};
 use std::alloc::{AllocError, Global};
@@ -84,41 +85,42 @@ fn queue(outbox: &mut Outbox, items: Items)
     }
 }
 
-/// Ends, opens or takes from a session, where an event does so, once the changes are made, and answers how the event went.
-/// It takes no memory.
+/// Ends, opens or takes from a session, where that happened, once the changes are made, and answers how the event went. It
+/// takes no memory.
 pub fn finish(
     alloc: Global,
     sessions: &mut Vec<SessionState>,
-    event: &Event,
-    outcome: Outcome,
+    happened: &Happened<'_>,
     taken: Vec<Item>,
 ) -> Outcome
     requires empty { taken.items ≡ [] }
-    requires room { most_taken event.now ≤ vec_capacity taken }
-    requires opening { is_some (opened outcome) ≡ true → vec_len sessions.old < vec_capacity sessions.old }
-    ensures outcome { result ≡ outcome_then event.now outcome (with_opened (opened outcome) (remaining event.now outcome (sessions_of sessions.old.items))) }
-    ensures sessions { sessions_of sessions.new.items ≡ sessions_after event.now (with_opened (opened outcome) (remaining event.now outcome (sessions_of sessions.old.items))) }
+    requires room { most_taken (told_by happened.now).taking ≤ vec_capacity taken }
+    requires opening { is_some (told_by happened.now).opened ≡ true → vec_len sessions.old < vec_capacity sessions.old }
+    ensures outcome { result ≡ outcome_told (told_by happened.now).taking (told_by happened.now).outcome
+        (with_opened (told_by happened.now).opened (remaining_but (told_by happened.now).detached (sessions_of sessions.old.items))) }
+    ensures sessions { sessions_of sessions.new.items ≡ sessions_told (told_by happened.now).taking
+        (with_opened (told_by happened.now).opened (remaining_but (told_by happened.now).detached (sessions_of sessions.old.items))) }
 {
-    end_session(sessions, event, &outcome);
-    open_session(alloc, sessions, &outcome);
-    hand_over(sessions, event, outcome, taken)
+    end_session(sessions, happened);
+    open_session(alloc, sessions, happened);
+    hand_over(sessions, happened, taken)
 }
 
-// Lets the session go that an event detached.
-fn end_session(sessions: &mut Vec<SessionState>, event: &Event, outcome: &Outcome)
-    ensures sessions { sessions_of sessions.new.items ≡ remaining event.now outcome.now (sessions_of sessions.old.items) }
+// Lets go of the session that was ended.
+fn end_session(sessions: &mut Vec<SessionState>, happened: &Happened<'_>)
+    ensures sessions { sessions_of sessions.new.items ≡ remaining_but (told_by happened.now).detached (sessions_of sessions.old.items) }
     ensures len { vec_len sessions.new ≤ vec_len sessions.old }
     ensures capacity { vec_capacity sessions.new ≡ vec_capacity sessions.old }
 {
-    sessions.retain(|session| !is_detached(session.number, event, outcome));
+    sessions.retain(|session| !happened.detaches(session.number));
 }
 
-// Puts the session that an event opened behind the others, for which there is room.
-fn open_session(alloc: Global, sessions: &mut Vec<SessionState>, outcome: &Outcome)
-    requires { is_some (opened outcome.now) ≡ true → vec_len sessions.old < vec_capacity sessions.old }
-    ensures { sessions_of sessions.new.items ≡ with_opened (opened outcome.now) (sessions_of sessions.old.items) }
+// Puts the session that was opened behind the others, for which there is room.
+fn open_session(alloc: Global, sessions: &mut Vec<SessionState>, happened: &Happened<'_>)
+    requires { is_some (told_by happened.now).opened ≡ true → vec_len sessions.old < vec_capacity sessions.old }
+    ensures { sessions_of sessions.new.items ≡ with_opened (told_by happened.now).opened (sessions_of sessions.old.items) }
 {
-    if let Outcome::Opened { session } = outcome {
+    if let Happened::Opened { session } = happened {
         let _ = sessions.push(SessionState {
             number: *session,
             operations: Operations::new(alloc),
@@ -127,21 +129,16 @@ fn open_session(alloc: Global, sessions: &mut Vec<SessionState>, outcome: &Outco
     }
 }
 
-// Hands over what a take asks for.
-fn hand_over(
-    sessions: &mut [SessionState],
-    event: &Event,
-    outcome: Outcome,
-    taken: Vec<Item>,
-) -> Outcome
+// Hands over what a session takes.
+fn hand_over(sessions: &mut [SessionState], happened: &Happened<'_>, taken: Vec<Item>) -> Outcome
     requires empty { taken.items ≡ [] }
-    requires room { most_taken event.now ≤ vec_capacity taken }
-    ensures outcome { result ≡ outcome_then event.now outcome (sessions_of sessions.old) }
-    ensures sessions { sessions_of sessions.new ≡ sessions_after event.now (sessions_of sessions.old) }
+    requires room { most_taken (told_by happened.now).taking ≤ vec_capacity taken }
+    ensures outcome { result ≡ outcome_told (told_by happened.now).taking (told_by happened.now).outcome (sessions_of sessions.old) }
+    ensures sessions { sessions_of sessions.new ≡ sessions_told (told_by happened.now).taking (sessions_of sessions.old) }
 {
-    match event {
-        Event::Take { session, max } => take_from(sessions, *session, *max, taken),
-        _ => outcome,
+    match happened {
+        Happened::Took { session, max } => take_from(sessions, *session, *max, taken),
+        _ => happened.outcome(),
     }
 }
 

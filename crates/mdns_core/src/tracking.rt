@@ -1,96 +1,86 @@
 // What an event makes of the questions that are asked for the sessions. (RFC 6762 5.2)
-ghost use Rattle.std.specs.Prelude.{◌≡◌, ◌≤◌, ◌^◌, filter, IsTrue, OnOk};
+ghost use Rattle.std.specs.Prelude.{◌≡◌, filter, IsTrue, OnOk};
 ghost use Rattle.std.specs.List.{flat_map, find};
 ghost use Rattle.sd_call.specs.Requests.{well_formed};
-ghost use Rattle.mdns_history.specs.Sessions.{accepted_call, has_op};
+ghost use Rattle.mdns_history.specs.Sessions.{has_op};
 ghost use Rattle.mdns_history.specs.Questions.{keys_of};
+ghost use Rattle.mdns_happened.specs.Told.{told_by};
 ghost use Rattle.mdns_core.specs.Codes.{has_number};
-ghost use Rattle.mdns_core.specs.Asked.{operations_in, begun_keys, ended_keys, all_begun, all_ended, all_asked, questions_after};
+ghost use Rattle.mdns_core.specs.Asked.{operations_in, begun_keys, ended_told, all_begun, all_ended, all_asked, questions_told};
 ghost use Rattle.mdns_core.specs.Kept.{sessions_of, HaveWellFormed, AreWellFormed, IsWellFormedCall};
 
 use crate::outcomes::find;
 use crate::session::SessionState;
 use dns_record::Key;
-use mdns_history::{Cause, Event, Operation, Outcome};
+use mdns_happened::{Happened, When};
+use mdns_history::{Cause, Operation};
 use mdns_question::Asker;
 use sd_answer::questions_of;
 use sd_call::Request;
 use std::alloc::{AllocError, Global};
 
-/// Tells an asker of an event at `now`, in ms, with its outcome, which asks these questions: those that a call starts get a
-/// user, those that an event ends lose one, and those that are asked are noted. Refused only for want of memory.
-#[tactic(auto, unfolding(crate::specs::Asked::questions_after))]
+/// Tells an asker what happened, and which questions are asked: those that a call starts get a user, those that a stop or the
+/// end of a session ends lose one, and those that are asked are noted. Refused only for want of memory.
+#[tactic(auto, unfolding(crate::specs::Asked::questions_told))]
 pub fn follow(
     asker: &mut Asker,
     sessions: &[SessionState],
-    now: u64,
-    word: u32,
-    event: &Event,
-    outcome: &Outcome,
+    when: When,
+    happened: &Happened<'_>,
     asked: &[(Key, Cause)],
 ) -> Result<(), AllocError>
-    requires bound { now ≤ 2 ^ 53 }
     requires operations { HaveWellFormed (sessions_of sessions.now) }
-    requires call { IsWellFormedCall (accepted_call event.now outcome.now) }
-    ensures questions { OnOk result (asker.new.questions ≡ questions_after (sessions_of sessions.now) now word event.now outcome.now asked.now asker.old.questions) }
+    requires call { IsWellFormedCall (told_by happened.now).call }
+    ensures questions { OnOk result (asker.new.questions
+        ≡ questions_told (told_by happened.now).call (told_by happened.now).detached (sessions_of sessions.now) when.moment when.word asked.now asker.old.questions) }
     ensures held { asker.new.held ≡ asker.old.held }
 {
-    begin(asker, now, word, event, outcome)?;
-    end(asker, sessions, event, outcome);
-    note(asker, now, asked);
+    begin(asker, when, happened)?;
+    end(asker, sessions, happened);
+    note(asker, when, asked);
     Ok(())
 }
 
 // Gives a user to the questions of what an accepted call starts.
-fn begin(
-    asker: &mut Asker,
-    now: u64,
-    word: u32,
-    event: &Event,
-    outcome: &Outcome,
-) -> Result<(), AllocError>
-    requires bound { now ≤ 2 ^ 53 }
-    requires call { IsWellFormedCall (accepted_call event.now outcome.now) }
-    ensures questions { OnOk result (asker.new.questions ≡ all_begun now word (begun_keys (accepted_call event.now outcome.now)) asker.old.questions) }
+fn begin(asker: &mut Asker, when: When, happened: &Happened<'_>) -> Result<(), AllocError>
+    requires { IsWellFormedCall (told_by happened.now).call }
+    ensures questions { OnOk result (asker.new.questions ≡ all_begun when.moment when.word (begun_keys (told_by happened.now).call) asker.old.questions) }
     ensures held { asker.new.held ≡ asker.old.held }
 {
-    match (event, outcome) {
-        (Event::Call { request, .. }, Outcome::Code { code: 0 }) => {
-            start_all(asker, now, word, questions_of(request).as_slice())
-        }
+    match happened {
+        Happened::Called {
+            request,
+            code: 0,
+            ..
+        } => start_all(asker, when, questions_of(request).as_slice()),
         _ => Ok(()),
     }
 }
 
-fn start_all(asker: &mut Asker, now: u64, word: u32, keys: &[Key]) -> Result<(), AllocError>
-    requires { now ≤ 2 ^ 53 }
-    ensures questions { OnOk result (asker.new.questions ≡ all_begun now word keys.now asker.old.questions) }
+fn start_all(asker: &mut Asker, when: When, keys: &[Key]) -> Result<(), AllocError>
+    ensures questions { OnOk result (asker.new.questions ≡ all_begun when.moment when.word keys.now asker.old.questions) }
     ensures held { asker.new.held ≡ asker.old.held }
 {
     for key in keys {
-        asker.start(now, word, key)?;
+        asker.start(when.moment, when.word, key)?;
     }
     Ok(())
 }
 
-// Takes a user from the questions of the operations that an event ends.
-fn end(asker: &mut Asker, sessions: &[SessionState], event: &Event, outcome: &Outcome)
+// Takes a user from the questions of the operations that end.
+fn end(asker: &mut Asker, sessions: &[SessionState], happened: &Happened<'_>)
     requires { HaveWellFormed (sessions_of sessions.now) }
-    ensures questions { asker.new.questions ≡ all_ended (ended_keys event.now outcome.now (sessions_of sessions.now)) asker.old.questions }
+    ensures questions { asker.new.questions ≡ all_ended (ended_told (told_by happened.now).call (told_by happened.now).detached (sessions_of sessions.now)) asker.old.questions }
     ensures held { asker.new.held ≡ asker.old.held }
 {
-    match (event, outcome) {
-        (
-            Event::Call {
-                session,
-                op,
-                request: Request::Stop,
-            },
-            Outcome::Code { code: 0 },
-        ) => stop_one(asker, operations_of(sessions, *session), *op),
-        (Event::Detach { session }, Outcome::Ended) => {
-            stop_all(asker, operations_of(sessions, *session));
-        }
+    match happened {
+        Happened::Called {
+            session,
+            op,
+            request: Request::Stop,
+            code: 0,
+        } => stop_one(asker, operations_of(sessions, *session), *op),
+        Happened::Detached { session } => stop_all(asker, operations_of(sessions, *session)),
         _ => {}
     }
 }
@@ -143,12 +133,11 @@ fn stop_questions(asker: &mut Asker, request: &Request)
 }
 
 // Notes the questions that are asked.
-fn note(asker: &mut Asker, now: u64, asked: &[(Key, Cause)])
-    requires { now ≤ 2 ^ 53 }
-    ensures questions { asker.new.questions ≡ all_asked now asked.now asker.old.questions }
+fn note(asker: &mut Asker, when: When, asked: &[(Key, Cause)])
+    ensures questions { asker.new.questions ≡ all_asked when.moment asked.now asker.old.questions }
     ensures held { asker.new.held ≡ asker.old.held }
 {
     for one in asked {
-        asker.asked(now, &one.0, one.1);
+        asker.asked(when.moment, &one.0, one.1);
     }
 }

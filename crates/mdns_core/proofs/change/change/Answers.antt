@@ -1,13 +1,10 @@
-use Rattle.std.proofs.Common.{◌≡◌, ◌+◌, ◌||◌, ◌∙◌, List, [], cond, ltb, ap, subst, sym}
-use Rattle.std.specs.Prelude.{is_none}
+use Rattle.std.proofs.Common.{◌≡◌, ◌+◌, ◌∙◌, ltb, ap, subst, sym}
 use Rattle.std.specs.Option.{unwrap_or}
 use Rattle.sd_call.specs.Answers.{frames_len}
-use Rattle.mdns_history.specs.declared.operation.Operation.{Operation}
-use Rattle.mdns_history.specs.Sessions.{accepted_call, detached, is_number}
-use Rattle.mdns_history.specs.Items.{reply_of}
+use Rattle.mdns_happened.specs.Told.{Told, told_by}
 use Rattle.mdns_core.specs.declared.change.SessionChange.{SessionChange}
-use Rattle.mdns_core.specs.Changes.{items_between, passes}
-use Rattle.mdns_core.specs.Settling.{called, brought_to, change_for}
+use Rattle.mdns_core.specs.Changes.{passes}
+use Rattle.mdns_core.specs.Settling.{called, brought_told, change_told}
 use Rattle.mdns_core.specs.Next.{rrs_of}
 use Rattle.mdns_core.specs.Kept.{session_of, queued, AreWellFormed}
 use Rattle.mdns_core.proofs.Formed.{formed-called}
@@ -16,26 +13,26 @@ use Rattle.mdns_core.proofs.change.change.Goals as goal
 
 pub bring-requires-clause-after : goal.bring-requires-clause-after
 bring-requires-clause-after c =
-    let after : c.or_own-after.result.now ≡ unwrap_or (called (accepted_call c.args.event.now c.args.outcome.now) c.args.session.now.number c.args.session.now.operations) c.args.session.now.operations =
+    let told : Told = told_by c.args.happened.now in
+    let after : c.or_own-after.result.now ≡ unwrap_or (called told.call c.args.session.now.number c.args.session.now.operations) c.args.session.now.operations =
     c.or_own-after.ensures ∙ ap (λ o. unwrap_or o c.args.session.now.operations) c.in_ok-operations.ensures in
     subst AreWellFormed (sym after)
-    (formed-called (accepted_call c.args.event.now c.args.outcome.now) c.args.session.now.number c.args.session.now.operations c.requires.call c.requires.operations)
+    (formed-called told.call c.args.session.now.number c.args.session.now.operations c.requires.call c.requires.operations)
 
 pub returns : goal.returns
 returns c =
-    let after : c.or_own-after.result.now ≡ unwrap_or (called (accepted_call c.args.event.now c.args.outcome.now) c.args.session.now.number c.args.session.now.operations) c.args.session.now.operations =
+    let told : Told = told_by c.args.happened.now in
+    let after : c.or_own-after.result.now ≡ unwrap_or (called told.call c.args.session.now.number c.args.session.now.operations) c.args.session.now.operations =
     c.or_own-after.ensures ∙ ap (λ o. unwrap_or o c.args.session.now.operations) c.in_ok-operations.ensures in
-    let brought : c.in_ok-brought.brought ≡ brought_to c.args.event.now c.args.outcome.now (rrs_of c.args.earlier.now) (rrs_of c.args.later.now) (session_of c.args.session.now) =
-    c.in_ok-brought.ensures
-    ∙ ap (λ (os : List Operation). cond (is_none c.args.session.now.outbox.items || is_number c.args.session.now.number (detached c.args.event.now c.args.outcome.now)) []
-    (items_between (reply_of c.args.session.now.number c.args.event.now c.args.outcome.now) c.args.session.now.operations os (rrs_of c.args.earlier.now) (rrs_of c.args.later.now))) after in
-    let items : c.as_slice.result.now ≡ brought_to c.args.event.now c.args.outcome.now (rrs_of c.args.earlier.now) (rrs_of c.args.later.now) (session_of c.args.session.now) =
+    let brought : c.in_ok-brought.brought ≡ brought_told told (rrs_of c.args.held.earlier.now) (rrs_of c.args.held.later.now) (session_of c.args.session.now) =
+    c.in_ok-brought.ensures after in
+    let items : c.as_slice.result.now ≡ brought_told told (rrs_of c.args.held.earlier.now) (rrs_of c.args.held.later.now) (session_of c.args.session.now) =
     c.as_slice.ensures ∙ brought in
-    let cuts : c.passes-cuts.result ≡ passes (queued c.args.session.now.outbox.items) (brought_to c.args.event.now c.args.outcome.now (rrs_of c.args.earlier.now) (rrs_of c.args.later.now) (session_of c.args.session.now)) =
+    let cuts : c.passes-cuts.result ≡ passes (queued c.args.session.now.outbox.items) (brought_told told (rrs_of c.args.held.earlier.now) (rrs_of c.args.held.later.now) (session_of c.args.session.now)) =
     c.passes-cuts.ensures
     ∙ (λ i. ltb 16777216 ((c.bytes.ensures.bytes ∙ bytes_of-queued c.args.session.now.outbox.items) i + frames_len (items i)))
-    ∙ ap (λ n. ltb 16777216 n) (sym (frames_len-append (queued c.args.session.now.outbox.items) (brought_to c.args.event.now c.args.outcome.now (rrs_of c.args.earlier.now) (rrs_of c.args.later.now) (session_of c.args.session.now)))) in
+    ∙ ap (λ n. ltb 16777216 n) (sym (frames_len-append (queued c.args.session.now.outbox.items) (brought_told told (rrs_of c.args.held.earlier.now) (rrs_of c.args.held.later.now) (session_of c.args.session.now)))) in
     let made : SessionChange = record { session = c.args.session.now.number; operations = c.in_ok-operations.operations; brought = c.in_ok-brought.brought; cuts = c.passes-cuts.result } in
-    let same : made ≡ change_for c.args.event.now c.args.outcome.now (rrs_of c.args.earlier.now) (rrs_of c.args.later.now) (session_of c.args.session.now) =
+    let same : made ≡ change_told told (rrs_of c.args.held.earlier.now) (rrs_of c.args.held.later.now) (session_of c.args.session.now) =
     (λ i. record { session = c.args.session.now.number; operations = c.in_ok-operations.ensures i; brought = brought i; cuts = cuts i }) in
     same

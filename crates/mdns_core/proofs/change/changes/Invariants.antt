@@ -1,5 +1,6 @@
 use Rattle.std.proofs.Common.{◌≡◌, take, drop, map}
-use Rattle.mdns_core.specs.Settling.{change_for}
+use Rattle.mdns_happened.specs.Told.{told_by}
+use Rattle.mdns_core.specs.Settling.{change_told}
 use Rattle.mdns_core.specs.Next.{rrs_of}
 use Rattle.mdns_core.specs.Kept.{sessions_of, HaveWellFormed}
 use Rattle.mdns_core.proofs.change.changes.Given as goal
@@ -7,6 +8,6 @@ use Rattle.mdns_core.proofs.change.changes.Given as goal
 abbrev pub invariant-loop-session : goal.invariant-loop-session
 invariant-loop-session l =
     record {
-      made : l.changes.items ≡ map (change_for l.event l.outcome (rrs_of l.earlier) (rrs_of l.later)) (sessions_of (take l.session-index l.sessions));
+      made : l.changes.items ≡ map (change_told (told_by l.happened) (rrs_of l.held.earlier.now) (rrs_of l.held.later.now)) (sessions_of (take l.session-index l.sessions));
       formed : HaveWellFormed (sessions_of (drop l.session-index l.sessions));
     }

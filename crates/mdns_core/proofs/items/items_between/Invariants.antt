@@ -8,7 +8,7 @@ use Rattle.mdns_core.proofs.items.items_between.Given as goal
 abbrev pub invariant-loop-operation : goal.invariant-loop-operation
 invariant-loop-operation l =
     record {
-      removes : l.brought ≡ l.initial.brought ++ flat_map (lost l.before (rrs_of l.earlier) (rrs_of l.later)) (take l.operation-index l.after);
-      adds : l.adds ≡ flat_map (gained l.before (rrs_of l.earlier) (rrs_of l.later)) (take l.operation-index l.after);
+      removes : l.brought ≡ l.initial.brought ++ flat_map (lost l.before (rrs_of l.held.earlier.now) (rrs_of l.held.later.now)) (take l.operation-index l.after);
+      adds : l.adds ≡ flat_map (gained l.before (rrs_of l.held.earlier.now) (rrs_of l.held.later.now)) (take l.operation-index l.after);
       formed : AreWellFormed (drop l.operation-index l.after);
     }

@@ -1,37 +1,48 @@
-use Rattle.std.proofs.Common.{◌≡◌, ◌∙◌, ◌++◌, List, map, ap}
+use Rattle.std.proofs.Common.{◌≡◌, ◌∙◌, ◌++◌, ◌≤◌, ℕ, List, map, length, ap, subst, sym}
 use Rattle.dns_record.specs.declared.record.Key.{Key}
+use Rattle.dns_record.specs.declared.record.Rr.{Rr}
+use Rattle.mdns_history.specs.declared.held.Held.{Held}
 use Rattle.mdns_history.specs.declared.mark.Cause.{Cause}
+use Rattle.mdns_history.specs.Hearings.{counted_records}
+use Rattle.mdns_question.specs.declared.tracked.Tracked.{Tracked}
+use Rattle.mdns_core.specs.State.{Session}
+use Rattle.mdns_happened.specs.Told.{Told, told_by}
 use Rattle.mdns_question.specs.Standing.{mark_of}
-use Rattle.mdns_core.specs.Asked.{asked_for, sent_for, questions_after}
-use Rattle.mdns_core.specs.Settling.{change_for, cuts_of, gifts_of}
+use Rattle.mdns_core.specs.Asked.{sent_told, questions_told}
+use Rattle.mdns_core.specs.Settling.{change_told, cuts_of, gifts_of}
 use Rattle.mdns_core.specs.Next.{rrs_of}
+use Rattle.mdns_core.specs.Planned.{chosen_for}
 use Rattle.mdns_core.specs.Kept.{sessions_of}
+use Rattle.mdns_core.proofs.HeardPackets.{heard-read}
 use Rattle.mdns_core.proofs.plan.make_plan.Goals as goal
 
 pub returns : goal.returns
 returns g c =
-    let held : c.held.result.now ≡ c.in_ok-live.field-0.cache.held = c.held.ensures in
-    let earlier : c.held-2.result.now ≡ c.args.kept.now.cache.now.held = c.held-2.ensures in
-    let later : c.held-3.result.now ≡ c.in_ok-live.field-0.cache.held = c.held-3.ensures in
-    let refusal : c.as_slice-refusal.result.now ≡ c.in_ok-live.field-0.marks = c.as_slice-refusal.ensures in
-    let asked : c.in_ok-asking.asking.asked.items ≡ asked_for c.args.kept.now.asker.now.questions c.in_ok-live.field-0.cache.held c.args.now c.in_ok-live.field-0.marks c.args.event.now =
-    c.in_ok-asking.ensures.asked ∙ (λ i. asked_for c.args.kept.now.asker.now.questions (held i) c.args.now (refusal i) c.args.event.now) in
+    let told : Told = told_by c.in_ok-happened.field-0.happened in
+    let sessions : List Session = sessions_of c.args.kept.now.sessions.now in
+    let questions : List Tracked = c.args.kept.now.asker.now.questions in
+    let now : ℕ = c.args.when.moment in
+    let earlier : c.held.result.now ≡ c.args.kept.now.cache.now.held = c.held.ensures in
+    let later : c.held-2.result.now ≡ c.in_ok-cache.cache.held = c.held-2.ensures in
+    let asked : c.in_ok-asking.asking.asked.items ≡ chosen_for told questions c.in_ok-cache.cache.held now =
+    c.in_ok-asking.ensures.asked ∙ ap (λ (held : List Held). chosen_for told questions held now) later in
     record {
-      refusal = c.in_ok-live.field-0.marks;
-      heard = c.in_ok-live.ensures.heard;
-      limit = c.in_ok-live.ensures.limit;
-      within = c.in_ok-live.ensures.within;
-      live = c.in_ok-live.ensures.live;
-      past = c.in_ok-live.ensures.past;
-      «data» = c.in_ok-live.ensures.parts;
-      outcome = c.early_outcome-outcome.ensures.value;
-      well_formed = c.early_outcome-outcome.ensures.well_formed;
-      changes = c.in_ok-changes.ensures ∙ (λ i. map (change_for c.args.event.now c.early_outcome-outcome.result (rrs_of (earlier i)) (rrs_of (later i))) (sessions_of c.args.kept.now.sessions.now));
+      told = c.in_ok-happened.ensures.told;
+      heard = λ past before since holds.
+          heard-read now c.args.when.word before c.args.event.now past c.args.kept.now.cache.now.held c.in_ok-cache.cache.held c.in_ok-happened.field-0.records told.refusal since holds c.requires.within
+          (c.in_ok-happened.ensures.records ∙ ap (λ (t : Told). counted_records t.heard) c.in_ok-happened.ensures.told)
+          (c.in_ok-happened.ensures.refused past before since holds) (c.in_ok-cache.ensures.holds past before since holds);
+      limit = c.in_ok-cache.ensures.limit;
+      within = c.in_ok-cache.ensures.within;
+      live = c.in_ok-cache.ensures.live;
+      past = c.in_ok-cache.ensures.past;
+      «data» = c.in_ok-happened.ensures.parts;
+      well_formed = c.in_ok-happened.ensures.well_formed;
+      changes = c.in_ok-changes.ensures ∙ (λ i. map (change_told told (rrs_of (earlier i)) (rrs_of (later i))) sessions);
       tracked = c.in_ok-asking.ensures.questions
-          ∙ ap (λ (chosen : List (Key × Cause)). questions_after (sessions_of c.args.kept.now.sessions.now) c.args.now c.args.word c.args.event.now c.early_outcome-outcome.result chosen c.args.kept.now.asker.now.questions) asked;
-      marks = c.in_ok-put_cuts.ensures
-          ∙ (λ i. (c.in_ok-put_askings.ensures ∙ ap (λ (chosen : List (Key × Cause)). c.in_ok-live.field-0.marks ++ map mark_of chosen) (c.deref.ensures.value ∙ asked)) i ++ cuts_of (c.deref-2.ensures.value i));
-      sent = c.in_ok-asking.ensures.sent ∙ (λ i. sent_for (held i) c.args.now c.args.event.now (asked i));
+          ∙ ap (λ (chosen : List (Key × Cause)). questions_told told.call told.detached sessions now c.args.when.word chosen questions) asked;
+      marks = c.in_ok-marks.ensures ∙ (λ i. told.refusal ++ map mark_of ((c.deref.ensures.value ∙ asked) i) ++ cuts_of (c.deref-2.ensures.value i));
+      sent = c.in_ok-asking.ensures.sent ∙ (λ i. sent_told told.ticks (later i) now (asked i));
       given = c.in_ok-given.ensures ∙ ap gifts_of c.deref-3.ensures.value;
       empty = c.in_ok-taken.ensures.items;
       room = c.in_ok-taken.ensures.room;

@@ -1,6 +1,7 @@
 use Rattle.std.proofs.Common.{◌∙◌, Bool, not, ap, sym, rules}
 use Rattle.std.proofs.lemmas.Fn.{filter_same}
-use Rattle.mdns_history.specs.Sessions.{detached, is_number}
+use Rattle.mdns_history.specs.Sessions.{is_number}
+use Rattle.mdns_happened.specs.Told.{told_by}
 use Rattle.mdns_core.specs.declared.session.SessionState.{SessionState}
 use Rattle.mdns_core.specs.State.{Session}
 use Rattle.mdns_core.specs.Kept.{session_of, sessions_of}
@@ -9,6 +10,6 @@ use Rattle.mdns_core.proofs.settle.end_session.Goals as goal
 
 pub returns-clause-sessions : goal.returns-clause-sessions
 returns-clause-sessions c =
-    let stays : Session → Bool = λ session. not (is_number session.number (detached c.args.event.now c.args.outcome.now)) in
+    let stays : Session → Bool = λ session. not (is_number session.number (told_by c.args.happened.now).detached) in
     ap sessions_of (filter_same _ (λ (state : SessionState). stays (session_of state)) _ (λ x b f k. search rules) _ _ c.retain.ensures.filtered)
     ∙ sym (filter_map_swap stays session_of c.args.sessions.now.items)

@@ -1,15 +1,20 @@
-use Rattle.std.proofs.Common.{◌≡◌, ◌∙◌, ◌≤◌, ap, subst, sym, map, List}
+use Rattle.std.proofs.Common.{◌≡◌, ◌∙◌, ◌≤◌, ℕ, ap, subst, sym, map, List, Option}
+use Rattle.std.specs.Option.{unwrap_or}
 use Rattle.mdns_history.specs.declared.event.Event.{Event}
 use Rattle.mdns_asserts.proofs.Earned.{are_earned}
 use Rattle.mdns_core.specs.InForce.{in_force}
+use Rattle.mdns_history.specs.declared.event.Event.TheVariants as event
+use Rattle.mdns_history.specs.declared.entry.Outcome.{Outcome}
 use Rattle.mdns_question.specs.declared.tracked.Tracked.{Tracked}
+use Rattle.mdns_happened.specs.Told.{Told, told_by, told_of}
 use Rattle.mdns_core.specs.declared.session.SessionState.{SessionState}
 use Rattle.mdns_core.specs.declared.change.SessionChange.{SessionChange}
 use Rattle.mdns_core.specs.State.{Session, State, Stands}
 use Rattle.mdns_core.specs.Codes.{kept_outcome}
-use Rattle.mdns_core.specs.Asked.{asked_for, questions_after}
-use Rattle.mdns_core.specs.Settling.{change_for, shifted}
-use Rattle.mdns_core.specs.Next.{rrs_of, outcome_then, sessions_after}
+use Rattle.mdns_core.specs.Asked.{questions_told}
+use Rattle.mdns_core.specs.Settling.{change_told, shifted_told}
+use Rattle.mdns_core.specs.Next.{rrs_of, outcome_told, sessions_told}
+use Rattle.mdns_core.specs.Planned.{chosen_for}
 use Rattle.mdns_core.specs.Kept.{sessions_of, AreFit, HaveWellFormed, HaveGaps}
 use Rattle.mdns_core.proofs.Ticked.{gaps_kept, due-ticked}
 use Rattle.mdns_core.proofs.Settled.{planned-fit}
@@ -19,39 +24,40 @@ use Rattle.mdns_core.proofs.daemon.Daemon.step.Goals as goal
 
 pub carry_out-outcome-requires-clause-fit : goal.carry_out-outcome-requires-clause-fit
 carry_out-outcome-requires-clause-fit g c =
-    let changed : c.in_ok-plan.plan.changes.items ≡ map (change_for c.args.event c.in_ok-plan.plan.outcome (rrs_of c.self.inside.cache.held) (rrs_of c.in_ok-plan.plan.cache.held)) (sessions_of c.self.inside.sessions.items) =
+    let told : Told = told_by c.in_ok-plan.plan.happened in
+    let changed : c.in_ok-plan.plan.changes.items ≡ map (change_told told (rrs_of c.self.inside.cache.held) (rrs_of c.in_ok-plan.plan.cache.held)) (sessions_of c.self.inside.sessions.items) =
     c.in_ok-plan.ensures.changes
-    ∙ ap (λ (ss : List SessionState). map (change_for c.args.event c.in_ok-plan.plan.outcome (rrs_of c.self.inside.cache.held) (rrs_of c.in_ok-plan.plan.cache.held)) (sessions_of ss)) c.deref.ensures.value in
+    ∙ ap (λ (ss : List SessionState). map (change_told told (rrs_of c.self.inside.cache.held) (rrs_of c.in_ok-plan.plan.cache.held)) (sessions_of ss)) c.deref.ensures.value in
     subst (λ (ss : List Session). AreFit ss c.in_ok-plan.plan.changes.items) (sym c.prepare.ensures.same)
-    (planned-fit c.args.event c.in_ok-plan.plan.outcome (rrs_of c.self.inside.cache.held) (rrs_of c.in_ok-plan.plan.cache.held) (sessions_of c.self.inside.sessions.items) c.in_ok-plan.plan.changes.items changed)
+    (planned-fit told (rrs_of c.self.inside.cache.held) (rrs_of c.in_ok-plan.plan.cache.held) (sessions_of c.self.inside.sessions.items) c.in_ok-plan.plan.changes.items changed)
 
 pub returns-clause-fits : goal.returns-clause-fits
 returns-clause-fits g c = λ history stands.
     let ss : List Session = sessions_of c.self.inside.sessions.items in
+    let told : Told = told_by c.in_ok-plan.plan.happened in
     let state : State = kept c.self.inside.last c.self.inside.opened ss c.self.inside.cache.held c.self.inside.asker.questions in
-    let out : IsCarriedOut state c.args.now c.args.word c.args.event c.in_ok-plan.plan.cache.held c.in_ok-plan.plan.marks c.in_ok-plan.plan.sent c.in_ok-plan.plan.given c.carry_out-outcome.result c.opened_then-self-inside.result (sessions_of c.carry_out-outcome.new.sessions.items) c.in_ok-plan.plan.asker.questions =
+    let out : IsCarriedOut state c.args.now c.args.word c.args.event c.in_ok-plan.plan.cache.held c.in_ok-plan.plan.marks c.in_ok-plan.plan.sent c.in_ok-plan.plan.given c.carry_out-outcome.result c.unwrap_or-self-inside.result (sessions_of c.carry_out-outcome.new.sessions.items) c.in_ok-plan.plan.asker.questions =
     record {
-      refusal = c.in_ok-plan.ensures.refusal;
-      outcome = c.in_ok-plan.plan.outcome;
+      told = told;
       changes = c.in_ok-plan.plan.changes.items;
+      reads = c.in_ok-plan.ensures.told ∙ ap (λ (xs : List SessionState). told_of c.args.event (kept_outcome c.self.inside.opened (sessions_of xs) c.args.event) told.refusal) c.deref.ensures.value;
       heard = c.in_ok-plan.ensures.heard;
       parts = c.in_ok-plan.ensures.data;
-      early = c.in_ok-plan.ensures.outcome ∙ ap (λ (xs : List SessionState). kept_outcome c.self.inside.opened (sessions_of xs) c.args.event) c.deref.ensures.value;
       changed = c.in_ok-plan.ensures.changes
-          ∙ ap (λ (xs : List SessionState). map (change_for c.args.event c.in_ok-plan.plan.outcome (rrs_of c.self.inside.cache.held) (rrs_of c.in_ok-plan.plan.cache.held)) (sessions_of xs)) c.deref.ensures.value;
+          ∙ ap (λ (xs : List SessionState). map (change_told told (rrs_of c.self.inside.cache.held) (rrs_of c.in_ok-plan.plan.cache.held)) (sessions_of xs)) c.deref.ensures.value;
       marked = c.in_ok-plan.ensures.marks;
       sends = c.in_ok-plan.ensures.sent;
       gifts = c.in_ok-plan.ensures.given;
       late = c.carry_out-outcome.ensures.outcome
-          ∙ ap (λ (xs : List Session). outcome_then c.args.event c.in_ok-plan.plan.outcome (shifted c.args.event c.in_ok-plan.plan.outcome xs c.in_ok-plan.plan.changes.items)) c.prepare.ensures.same;
+          ∙ ap (λ (xs : List Session). outcome_told told.taking told.outcome (shifted_told told xs c.in_ok-plan.plan.changes.items)) c.prepare.ensures.same;
       remains = c.carry_out-outcome.ensures.sessions
-          ∙ ap (λ (xs : List Session). sessions_after c.args.event (shifted c.args.event c.in_ok-plan.plan.outcome xs c.in_ok-plan.plan.changes.items)) c.prepare.ensures.same;
-      counted = c.opened_then-self-inside.ensures;
+          ∙ ap (λ (xs : List Session). sessions_told told.taking (shifted_told told xs c.in_ok-plan.plan.changes.items)) c.prepare.ensures.same;
+      counted = c.unwrap_or-self-inside.ensures ∙ ap (λ (o : Option ℕ). unwrap_or o c.self.inside.opened) c.opened.ensures;
       follows = c.in_ok-plan.ensures.tracked
-          ∙ ap (λ (xs : List SessionState). questions_after (sessions_of xs) c.args.now c.args.word c.args.event c.in_ok-plan.plan.outcome
-          (asked_for c.self.inside.asker.questions c.in_ok-plan.plan.cache.held c.args.now c.in_ok-plan.ensures.refusal c.args.event) c.self.inside.asker.questions) c.deref.ensures.value;
+          ∙ ap (λ (xs : List SessionState). questions_told told.call told.detached (sessions_of xs) c.args.now c.args.word
+          (chosen_for told c.self.inside.asker.questions c.in_ok-plan.plan.cache.held c.args.now) c.self.inside.asker.questions) c.deref.ensures.value;
     } in
-    carried state c.args.now c.args.word c.args.event c.in_ok-plan.plan.cache.held c.in_ok-plan.plan.marks c.in_ok-plan.plan.sent c.in_ok-plan.plan.given c.carry_out-outcome.result c.opened_then-self-inside.result (sessions_of c.carry_out-outcome.new.sessions.items) c.in_ok-plan.plan.asker.questions
+    carried state c.args.now c.args.word c.args.event c.in_ok-plan.plan.cache.held c.in_ok-plan.plan.marks c.in_ok-plan.plan.sent c.in_ok-plan.plan.given c.carry_out-outcome.result c.unwrap_or-self-inside.result (sessions_of c.carry_out-outcome.new.sessions.items) c.in_ok-plan.plan.asker.questions
     out (subst (λ (s : State). s.last ≤ c.args.now) (sym c.self.view_is) c.requires.later) c.requires.bound c.requires.no_boot history (subst (λ (s : State). Stands s history) (sym c.self.view_is) stands)
 
 pub returns-clause-replayed : goal.returns-clause-replayed
@@ -70,25 +76,30 @@ returns-clause-asserts g c = λ history stands. are_earned in_force _ history (r
 pub invariant_of-self-2 : goal.invariant_of-self-2
 invariant_of-self-2 g c =
     let ss : List Session = sessions_of c.self.inside.sessions.items in
-    let changed : c.in_ok-plan.plan.changes.items ≡ map (change_for c.args.event c.in_ok-plan.plan.outcome (rrs_of c.self.inside.cache.held) (rrs_of c.in_ok-plan.plan.cache.held)) ss =
+    let told : Told = told_by c.in_ok-plan.plan.happened in
+    let changed : c.in_ok-plan.plan.changes.items ≡ map (change_told told (rrs_of c.self.inside.cache.held) (rrs_of c.in_ok-plan.plan.cache.held)) ss =
     c.in_ok-plan.ensures.changes
-    ∙ ap (λ (xs : List SessionState). map (change_for c.args.event c.in_ok-plan.plan.outcome (rrs_of c.self.inside.cache.held) (rrs_of c.in_ok-plan.plan.cache.held)) (sessions_of xs)) c.deref.ensures.value in
-    let left : sessions_of c.carry_out-outcome.new.sessions.items ≡ sessions_after c.args.event (shifted c.args.event c.in_ok-plan.plan.outcome ss (map (change_for c.args.event c.in_ok-plan.plan.outcome (rrs_of c.self.inside.cache.held) (rrs_of c.in_ok-plan.plan.cache.held)) ss)) =
+    ∙ ap (λ (xs : List SessionState). map (change_told told (rrs_of c.self.inside.cache.held) (rrs_of c.in_ok-plan.plan.cache.held)) (sessions_of xs)) c.deref.ensures.value in
+    let left : sessions_of c.carry_out-outcome.new.sessions.items ≡ sessions_told told.taking (shifted_told told ss (map (change_told told (rrs_of c.self.inside.cache.held) (rrs_of c.in_ok-plan.plan.cache.held)) ss)) =
     c.carry_out-outcome.ensures.sessions
-    ∙ ap (λ (xs : List Session). sessions_after c.args.event (shifted c.args.event c.in_ok-plan.plan.outcome xs c.in_ok-plan.plan.changes.items)) c.prepare.ensures.same
-    ∙ ap (λ (cs : List SessionChange). sessions_after c.args.event (shifted c.args.event c.in_ok-plan.plan.outcome ss cs)) changed in (
-      subst HaveWellFormed (sym left) (formed-left c.args.event c.in_ok-plan.plan.outcome (rrs_of c.self.inside.cache.held) (rrs_of c.in_ok-plan.plan.cache.held) ss c.in_ok-plan.ensures.well_formed c.self.invariant.0),
+    ∙ ap (λ (xs : List Session). sessions_told told.taking (shifted_told told xs c.in_ok-plan.plan.changes.items)) c.prepare.ensures.same
+    ∙ ap (λ (cs : List SessionChange). sessions_told told.taking (shifted_told told ss cs)) changed in (
+      subst HaveWellFormed (sym left) (formed-left told (rrs_of c.self.inside.cache.held) (rrs_of c.in_ok-plan.plan.cache.held) ss c.in_ok-plan.ensures.well_formed c.self.invariant.0),
       c.in_ok-plan.ensures.limit,
       c.in_ok-plan.ensures.within,
       c.in_ok-plan.ensures.live,
       c.in_ok-plan.ensures.past,
-      subst HaveGaps (sym c.in_ok-plan.ensures.tracked) (gaps_kept _ c.args.now c.args.word c.args.event c.in_ok-plan.plan.outcome _ c.self.inside.asker.questions c.self.invariant.5),
+      subst HaveGaps (sym c.in_ok-plan.ensures.tracked) (gaps_kept told.call told.detached _ c.args.now c.args.word _ c.self.inside.asker.questions c.self.invariant.5),
     )
 
 pub returns-clause-ticked : goal.returns-clause-ticked
 returns-clause-ticked g c = λ tick.
-    let state : State = kept c.args.now c.opened_then-self-inside.result (sessions_of c.carry_out-outcome.new.sessions.items) c.in_ok-plan.plan.cache.held c.in_ok-plan.plan.asker.questions in
-    let followed : Event → List Tracked = λ ev. questions_after (sessions_of c.deref.result.now) c.args.now c.args.word ev c.in_ok-plan.plan.outcome
-    (asked_for c.self.inside.asker.questions c.in_ok-plan.plan.cache.held c.args.now c.in_ok-plan.ensures.refusal ev) c.self.inside.asker.questions in
-    due-ticked state (sessions_of c.deref.result.now) c.args.word c.in_ok-plan.plan.outcome c.in_ok-plan.ensures.refusal c.self.inside.asker.questions c.in_ok-plan.ensures.live c.self.invariant.5
-    (c.in_ok-plan.ensures.tracked ∙ ap followed tick)
+    let told : Told = told_by c.in_ok-plan.plan.happened in
+    let ss : List Session = sessions_of c.deref.result.now in
+    let state : State = kept c.args.now c.unwrap_or-self-inside.result (sessions_of c.carry_out-outcome.new.sessions.items) c.in_ok-plan.plan.cache.held c.in_ok-plan.plan.asker.questions in
+    let outcome : Outcome = kept_outcome c.self.inside.opened ss c.args.event in
+    let reads : told ≡ told_of event.Tick outcome told.refusal = c.in_ok-plan.ensures.told ∙ ap (λ (ev : Event). told_of ev outcome told.refusal) tick in
+    let followed : Told → List Tracked = λ t. questions_told t.call t.detached ss c.args.now c.args.word
+    (chosen_for t c.self.inside.asker.questions c.in_ok-plan.plan.cache.held c.args.now) c.self.inside.asker.questions in
+    due-ticked state ss c.args.word outcome told.refusal c.self.inside.asker.questions c.in_ok-plan.ensures.live c.self.invariant.5
+    (c.in_ok-plan.ensures.tracked ∙ ap followed reads)
