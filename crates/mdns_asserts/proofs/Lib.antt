@@ -18,3 +18,4 @@ pub mod Distinct
 pub mod NamesApart
 pub mod Sure
 pub mod Earned
+mod EarnedRows
