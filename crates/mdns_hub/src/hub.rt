@@ -56,7 +56,7 @@ impl Hub {
         }
     }
 
-    /// Does a command, and puts the print of each entry as one piece. After `NotYet` the hub and the output are as
+    /// Does a command, and puts the print of each entry. After `NotYet` the hub and the output are as
     /// before; after another error a beginning of what was to be put was put, and the hub isn't used again. `WriteFault`
     /// exactly where the sink failed.
     pub fn run<K: Sink>(&mut self, command: Command, output: &mut K) -> Result<(), HubError>

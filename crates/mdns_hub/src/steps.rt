@@ -18,7 +18,7 @@ use std::alloc::{AllocError, Global};
 use std::marker::Brand;
 use std::sync::ledger::{Blank, Ledger};
 
-/// Puts the print of an entry as one piece.
+/// Puts the print of an entry.
 pub fn put_entry<K: Sink>(
     alloc: Global,
     number: u32,

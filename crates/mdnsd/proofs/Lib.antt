@@ -1,4 +1,5 @@
 mod Taking
 mod Lawful
 mod Running
-mod Words
+mod CommandLine
+mod Writing

@@ -3,3 +3,4 @@ pub mod Scripts
 pub mod Histories
 pub mod Statuses
 pub mod Lines
+pub mod Words

@@ -3,54 +3,34 @@
 
 mod input;
 mod lines;
+mod notes;
 mod outside;
 mod script;
 mod stop;
 mod top;
 
+use crate::notes::{USAGE_TEXT, note_on};
 use crate::outside::{Input, NoPlace, Output};
-use crate::stop::{NO_MEMORY, USAGE};
+use crate::stop::USAGE;
 use crate::top::mdnsd;
 use std::process::ExitCode;
 use std::{env, io};
 
 fn main(rt: HostRuntime) -> ExitCode {
     let alloc = rt.alloc();
-    let mut words = Vec::new(alloc);
-    let args = match env::args(&rt) {
-        Ok(args) => args,
-        Err(error) => return ExitCode::from(unread_status(&error)),
-    };
-    for word in args.skip(1) {
-        if words.push(word).is_err() {
-            return ExitCode::from(NO_MEMORY);
+    let mut input = Input::new(alloc, rt.reader());
+    let mut output = Output::new(io::writer(&rt));
+    let args = env::args(&rt);
+    let status = mdnsd(&rt, alloc, args, &mut input, &mut output, &mut NoPlace);
+    if status == USAGE {
+        let _ = rt.eprintln(USAGE_TEXT);
+    }
+    if let Some(number) = output.stopped_at() {
+        if let Ok(note) = note_on(alloc, input.kept(), number) {
+            let _ = eprintln!(rt; "mdnsd: {note}");
         }
     }
-    let mut input = Input {
-        inner: rt.reader(),
-        faults: 0,
-    };
-    let mut output = Output {
-        inner: io::writer(&rt),
-        faults: 0,
-    };
-    ExitCode::from(mdnsd(
-        &rt,
-        alloc,
-        words.as_slice(),
-        &mut input,
-        &mut output,
-        &mut NoPlace,
-    ))
-}
-
-// The status where the words can't be read: memory was refused, or a word is no text.
-fn unread_status(error: &io::Error) -> u8 {
-    if error.kind() == io::ErrorKind::OutOfMemory {
-        NO_MEMORY
-    } else {
-        USAGE
-    }
+    ExitCode::from(status)
 }
 
 #[cfg(test)]

@@ -1,30 +1,35 @@
 // The call that the program makes.
-ghost use Rattle.std.specs.Prelude.{◌≡◌, ◌⊎◌, ◌≢◌, ◌↔◌, [], ◌∷◌, codes, map, true};
-ghost use Rattle.std.specs.String.{string_bytes};
+ghost use Rattle.std.specs.Prelude.{◌≡◌, ◌⊎◌, ◌≢◌, ◌↔◌, codes, true};
+ghost use Rattle.std.specs.IoError.{error_kind};
 ghost use Rattle.mdns_base.specs.Outside.{Rose};
 ghost use Rattle.mdnsd.specs.Statuses.{Stops, IsBadLine, IsNotYetLine, PlaysScript, BreaksOff, ReadAll, IsTooLarge, IsWithin, IsScriptStatus};
+ghost use Rattle.mdnsd.specs.Words.{AreNoCommand, LackMemory, words_of, script_words};
 
 use crate::script::run_script;
-use crate::stop::USAGE;
+use crate::stop::{NO_MEMORY, USAGE};
 use mdns_base::{Place, Sink, Source};
 use std::alloc::Global;
+use std::env::Args;
+use std::io;
+use std::io::ErrorKind;
 use std::sync::Wait;
 
-/// All that the program does with the words of its command line, which leave out its own name. The answer is its
-/// status.
+/// All that the program does with its command line as it was read: the program's own name, and then the words. The
+/// answer is its status.
 ///
-/// The one command so far is `script`, with the statuses of `run_script`. Other words give 2, and then nothing is read
-/// or written.
+/// The one command so far is `script`, with the statuses of `run_script`. Other words, and a word that is no text, give
+/// 2; want of memory for the words gives 6. Then nothing is read or written.
 pub fn mdnsd<R: Wait + Copy + Send + 'static, S: Source, K: Sink, P: Place>(
     _rt: &R,
     alloc: Global,
-    words: &[String],
+    args: io::Result<Args>,
     input: &mut S,
     output: &mut K,
     _place: &mut P,
 ) -> u8
-    ensures usage { (result ≡ 2) ↔ (map (λ w. string_bytes w) words.now ≢ codes "script" ∷ []) }
+    ensures usage { (result ≡ 2) ↔ AreNoCommand args }
     ensures unread { result ≡ 2 → (input.new ≡ input.old) × (output.new ≡ output.old) }
+    ensures lacking { LackMemory args → (result ≡ 6) × (input.new ≡ input.old) × (output.new ≡ output.old) }
 
     ensures done { result ≡ 0 → ReadAll (S.left input.old) (S.left input.new)
         (λ script. PlaysScript script (K.held output.old) (K.held output.new)) }
@@ -48,16 +53,39 @@ pub fn mdnsd<R: Wait + Copy + Send + 'static, S: Source, K: Sink, P: Place>(
 
     ensures others { (result ≡ 2) ⊎ IsScriptStatus result }
 {
-    if is_script(words) {
-        run_script(alloc, input, output)
-    } else {
-        USAGE
+    match args {
+        Ok(words) => {
+            if is_script(words) {
+                run_script(alloc, input, output)
+            } else {
+                USAGE
+            }
+        }
+        Err(error) => unread_status(&error),
     }
 }
 
-// Whether the one word is `script`.
-fn is_script(words: &[String]) -> bool
-    ensures { (result ≡ true) ↔ (map (λ w. string_bytes w) words.now ≡ codes "script" ∷ []) }
+// Whether the one word behind the program's own name is `script`.
+fn is_script(mut args: Args) -> bool
+    ensures { (result ≡ true) ↔ (words_of args ≡ script_words) }
 {
-    words.len() == 1 && words[0].as_str() == "script"
+    let _program = args.next();
+    let word = args.next();
+    let further = args.next();
+    match (word, further) {
+        (Some(word), None) => word.as_str() == "script",
+        _ => false,
+    }
+}
+
+// The status where the words can't be read: memory was refused, or a word is no text.
+fn unread_status(error: &io::Error) -> u8
+    ensures memory { error_kind error.now ≡ ErrorKind.OutOfMemory → result ≡ 6 }
+    ensures usage { error_kind error.now ≢ ErrorKind.OutOfMemory → result ≡ 2 }
+{
+    if matches!(error.kind(), ErrorKind::OutOfMemory) {
+        NO_MEMORY
+    } else {
+        USAGE
+    }
 }

@@ -1,0 +1,195 @@
+// What is said on standard error: what can be typed, and which word of a line was wanted. No clause speaks of it.
+use crate::lines::next_line;
+use mdns_base::{cut_at, is_same};
+use mdns_script::{Line, read_line};
+use std::alloc::{AllocError, Global};
+
+/// What can be typed.
+pub const USAGE_TEXT: &str = "usage: mdnsd script < SCRIPT > TRANSCRIPT
+
+Plays a script for one daemon, and prints what the daemon does. The lines of a script:
+
+  daemon K              boots daemon K (1 to 16)
+  at T                  runs all that is due up to T milliseconds
+  word W                gives every later event the random word W
+  open K                attaches a session
+  close K S             detaches session S
+  take K S N            takes at most N items of session S
+  hear K IPV4 PORT HEX  lets the daemon hear a packet
+  call K S OP REQUEST   a call of session S
+
+REQUEST is query KIND NAME, browse TYPE, resolve LABEL TYPE, address v4|v6|both NAME,
+register LABEL TYPE PORT auto|norename TXT, update TXT, or stop.";
+
+/// The words of a form in order: how each is called, and one that may stand there. Where both are the same, it is that very word.
+type Form = &'static [(&'static str, &'static str)];
+
+const FORMS: [Form; 15] = [
+    &[("daemon", "daemon"), ("K", "1")],
+    &[("at", "at"), ("T", "0")],
+    &[("word", "word"), ("W", "0")],
+    &[("open", "open"), ("K", "1")],
+    &[("close", "close"), ("K", "1"), ("S", "1")],
+    &[("take", "take"), ("K", "1"), ("S", "1"), ("N", "1")],
+    &[
+        ("hear", "hear"),
+        ("K", "1"),
+        ("IPV4", "10.0.0.9"),
+        ("PORT", "5353"),
+        ("HEX", "-"),
+    ],
+    &[
+        ("call", "call"),
+        ("K", "1"),
+        ("S", "1"),
+        ("OP", "1"),
+        ("query", "query"),
+        ("KIND", "A"),
+        ("NAME", "a.local"),
+    ],
+    &[
+        ("call", "call"),
+        ("K", "1"),
+        ("S", "1"),
+        ("OP", "1"),
+        ("browse", "browse"),
+        ("TYPE", "_ipp._tcp"),
+    ],
+    &[
+        ("call", "call"),
+        ("K", "1"),
+        ("S", "1"),
+        ("OP", "1"),
+        ("resolve", "resolve"),
+        ("LABEL", "a"),
+        ("TYPE", "_ipp._tcp"),
+    ],
+    &[
+        ("call", "call"),
+        ("K", "1"),
+        ("S", "1"),
+        ("OP", "1"),
+        ("address", "address"),
+        ("v4|v6|both", "v4"),
+        ("NAME", "a.local"),
+    ],
+    &[
+        ("call", "call"),
+        ("K", "1"),
+        ("S", "1"),
+        ("OP", "1"),
+        ("register", "register"),
+        ("LABEL", "a"),
+        ("TYPE", "_ipp._tcp"),
+        ("PORT", "631"),
+        ("auto|norename", "auto"),
+        ("TXT", "-"),
+    ],
+    &[
+        ("call", "call"),
+        ("K", "1"),
+        ("S", "1"),
+        ("OP", "1"),
+        ("update", "update"),
+        ("TXT", "-"),
+    ],
+    &[
+        ("call", "call"),
+        ("K", "1"),
+        ("S", "1"),
+        ("OP", "1"),
+        ("stop", "stop"),
+    ],
+    &[
+        ("call", "call"),
+        ("K", "1"),
+        ("S", "1"),
+        ("OP", "1"),
+        ("REQUEST", "stop"),
+    ],
+];
+
+/// What is said of the line with this number, the first being 1; nothing where the bytes end before it.
+pub fn note_on(alloc: Global, script: &[u8], number: u64) -> Result<String, AllocError> {
+    let mut rest = script;
+    let mut left = number;
+    'lines: while let Some((line, after)) = next_line(rest) {
+        left = left.saturating_sub(1);
+        if left == 0 {
+            let wanted = wanted(alloc, line)?;
+            return format!(in alloc; "line {number}: {wanted}");
+        }
+        rest = after;
+    }
+    format!(in alloc; "line {number} is bad or not built yet")
+}
+
+// What was wanted in a line.
+fn wanted(alloc: Global, line: &[u8]) -> Result<String, AllocError> {
+    for form in FORMS {
+        let words = words_of(alloc, line, form.len())?;
+        if begins_as(form, &words) {
+            return wanted_of(alloc, form, &words);
+        }
+    }
+    String::from_str(
+        alloc,
+        "daemon, at, word, open, close, take, hear or call is wanted as word 1",
+    )
+}
+
+// The words of a line, at most so many; the last has all that is left.
+fn words_of(alloc: Global, line: &[u8], most: usize) -> Result<Vec<&[u8]>, AllocError> {
+    let mut words = Vec::new(alloc);
+    let mut rest = line;
+    for _ in 1..most {
+        let Some((word, after)) = cut_at(rest, b' ') else {
+            break;
+        };
+        words.push(word)?;
+        rest = after;
+    }
+    words.push(rest)?;
+    Ok(words)
+}
+
+// Whether the line has each word of the form that stands for itself.
+fn begins_as(form: Form, words: &[&[u8]]) -> bool {
+    form.iter().enumerate().all(|(place, (name, sample))| {
+        name != sample
+            || words
+                .get(place)
+                .is_some_and(|word| is_same(word, sample.as_bytes()))
+    })
+}
+
+// Which word of the form was wanted.
+fn wanted_of(alloc: Global, form: Form, words: &[&[u8]]) -> Result<String, AllocError> {
+    let mut shown = String::new(alloc);
+    for (name, _) in form {
+        if !shown.is_empty() {
+            shown.push(' ')?;
+        }
+        shown.push_str(name)?;
+    }
+    for place in 0..form.len() {
+        if place >= words.len() || !may_stand(alloc, form, place, words[place])? {
+            let name = form[place].0;
+            let number = place + 1;
+            return format!(in alloc; "{name} is wanted as word {number} of `{shown}`");
+        }
+    }
+    format!(in alloc; "`{shown}` isn't in place here")
+}
+
+// Whether the word may stand at its place in the form: whether a line of the form with it is read.
+fn may_stand(alloc: Global, form: Form, place: usize, word: &[u8]) -> Result<bool, AllocError> {
+    let mut line = Vec::new(alloc);
+    for (at, (_, sample)) in form.iter().enumerate() {
+        if at > 0 {
+            line.extend_from_slice(b" ")?;
+        }
+        line.extend_from_slice(if at == place { word } else { sample.as_bytes() })?;
+    }
+    Ok(matches!(read_line(alloc, &line)?, Line::Command(_)))
+}

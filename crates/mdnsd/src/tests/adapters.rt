@@ -1,0 +1,145 @@
+// The adapters of standard input and output, with pieces of 100,000 bytes, over readers and writers of std that are made to
+// move a part at a time.
+use crate::input::read_all;
+use crate::notes::note_on;
+use crate::outside::{Input, Output};
+use mdns_base::{Failed, Sink};
+use std::alloc::{AllocError, Global};
+use std::io;
+use std::io::{ErrorKind, Read, Write};
+use std::test::Fail;
+
+// Moves at most so many bytes at a time, and every other call is interrupted by a signal.
+#[derive(Drop)]
+struct Slow<T> {
+    inner: T,
+    most: usize,
+    is_interrupted: bool,
+}
+
+impl<T> Slow<T> {
+    fn new(inner: T, most: usize) -> Slow<T> {
+        Slow {
+            inner,
+            most,
+            is_interrupted: false,
+        }
+    }
+
+    // Fails at every other call.
+    fn wait(&mut self) -> io::Result<()> {
+        self.is_interrupted = !self.is_interrupted;
+        if self.is_interrupted {
+            return Err(io::Error::from(ErrorKind::Interrupted));
+        }
+        Ok(())
+    }
+}
+
+impl<R: Read> Read for Slow<R> {
+    fn read(&mut self, into: &mut [u8]) -> io::Result<usize> {
+        self.wait()?;
+        let count = into.len().min(self.most);
+        self.inner.read(&mut into[..count])
+    }
+}
+
+impl<W: Write> Write for Slow<W> {
+    fn write(&mut self, piece: &[u8]) -> io::Result<usize> {
+        self.wait()?;
+        let count = piece.len().min(self.most);
+        self.inner.write(&piece[..count])
+    }
+
+    fn flush(&mut self) -> io::Result<()> {
+        self.inner.flush()
+    }
+}
+
+// How many bytes are moved at a time.
+const MOST: [usize; 4] = [1, 1000, 65_536, 1_000_000];
+
+// Bytes that don't repeat after a power of two.
+fn long_piece(alloc: Global) -> Result<Vec<u8>, AllocError> {
+    let mut piece = Vec::new(alloc);
+    for place in 0..100_000u32 {
+        piece.push((place % 251) as u8)?;
+    }
+    Ok(piece)
+}
+
+#[test]
+fn pieces_are_put_whole(rt: HostRuntime) -> Result<(), Fail> {
+    let alloc = rt.alloc();
+    let piece = long_piece(alloc)?;
+    let mut whole = long_piece(alloc)?;
+    whole.extend_from_slice(b"end")?;
+    for most in MOST {
+        let mut output = Output::new(Slow::new(Vec::new(alloc), most));
+        for part in [piece.as_slice(), b"".as_slice(), b"end".as_slice()] {
+            output.put(part).map_err(|_| AllocError)?;
+        }
+        let (faults, Slow { inner: held, .. }) = output.into_parts();
+        assert_eq!(rt; faults, 0);
+        assert!(rt; held[..] == whole[..], "{most}");
+    }
+    Ok(())
+}
+
+#[test]
+fn a_full_writer_has_the_front(rt: HostRuntime) -> Result<(), Fail> {
+    let alloc = rt.alloc();
+    let piece = long_piece(alloc)?;
+    let mut room = vec![in alloc; 0u8; 60_000]?;
+    let mut output = Output::new(Slow::new(room.as_mut_slice(), 1000));
+    assert_eq!(rt; output.put(&piece), Err(Failed));
+    assert_eq!(rt; output.into_parts().0, 1);
+    assert!(rt; piece.starts_with(&room));
+    Ok(())
+}
+
+#[test]
+fn input_is_read_whole(rt: HostRuntime) -> Result<(), Fail> {
+    let alloc = rt.alloc();
+    let piece = long_piece(alloc)?;
+    for most in MOST {
+        let mut input = Input::new(alloc, Slow::new(piece.as_slice(), most));
+        let all = read_all(alloc, &mut input).map_err(|_| AllocError)?;
+        assert_eq!(rt; input.faults(), 0);
+        assert!(rt; all[..] == piece[..], "{most}");
+    }
+    Ok(())
+}
+
+// Lines that stop a script, and what is said of them.
+const NOTES: [(&str, &str); 8] = [
+    ("", "line 1 is bad or not built yet"),
+    (
+        "fly 1",
+        "line 1: daemon, at, word, open, close, take, hear or call is wanted as word 1",
+    ),
+    ("daemon 17", "line 1: K is wanted as word 2 of `daemon K`"),
+    (
+        "hear 1 10.0.0.9 70000 -",
+        "line 1: PORT is wanted as word 4 of `hear K IPV4 PORT HEX`",
+    ),
+    ("take 1 1", "line 1: N is wanted as word 4 of `take K S N`"),
+    (
+        "call 1 1 1 query A",
+        "line 1: NAME is wanted as word 7 of `call K S OP query KIND NAME`",
+    ),
+    (
+        "call 1 1 1 ask",
+        "line 1: REQUEST is wanted as word 5 of `call K S OP REQUEST`",
+    ),
+    ("open 2", "line 1: `open K` isn't in place here"),
+];
+
+#[test]
+fn notes(rt: HostRuntime) -> Result<(), Fail> {
+    for (line, note) in NOTES {
+        let found = note_on(rt.alloc(), line.as_bytes(), 1)?;
+        assert_eq!(rt; found.as_str(), note, "{line}");
+    }
+    Ok(())
+}

@@ -1,0 +1,121 @@
+// Scripts that reach what small ones don't, made here line by line. What they must tell was written by a model of the program
+// that shares no code with it.
+use crate::tests::{expect, expect_lines};
+use std::alloc::{AllocError, Global};
+use std::test::Fail;
+
+// The owner of records: the root, or `a.local`.
+const ROOT: &str = "00";
+
+const A_LOCAL: &str = "0161056c6f63616c00";
+
+// A line in which a response of so many address records of one owner is heard, from an address on.
+fn addresses(alloc: Global, owner: &str, first: u32, count: u32) -> Result<String, AllocError> {
+    let mut line = format!(in alloc; "hear 1 10.0.0.9 5353 000084000000{count:04x}00000000")?;
+    for place in 0..count {
+        line.push_str(if place == 0 { owner } else { "c00c" })?;
+        let address = first.wrapping_add(place);
+        let rest = format!(in alloc; "00010001000000780004{address:08x}")?;
+        line.push_str(&rest)?;
+    }
+    line.push('\n')?;
+    Ok(line)
+}
+
+// So many zero bytes in hexadecimal.
+fn zeros(alloc: Global, count: usize) -> Result<String, AllocError> {
+    "00".repeat(alloc, count)
+}
+
+// Two dozen questions, which no single message holds, are asked in two.
+#[test]
+fn many_questions(rt: HostRuntime) -> Result<(), Fail> {
+    let alloc = rt.alloc();
+    let mut script = String::from_str(alloc, "daemon 1\nopen 1\nopen 1\n")?;
+    for op in 0..24u32 {
+        let session = 1 + op % 2;
+        let call = format!(in alloc;
+            "call 1 {session} {op} query A one-of-so-many-names-that-no-single-message-can-hold-them-{op:02}.local\n"
+        )?;
+        script.push_str(&call)?;
+    }
+    script.push_str("at 1500\n")?;
+    let sent = "20 > all query 0\n20 > all query 0\n1020 > all query 0\n1020 > all query 0\n";
+    expect_lines(&rt, alloc, &script, &[" >"], sent)
+}
+
+// A hundred known answers need two messages, and the first says that more come.
+#[test]
+fn many_known_answers(rt: HostRuntime) -> Result<(), Fail> {
+    let alloc = rt.alloc();
+    let mut script = String::from_str(
+        alloc,
+        "daemon 1\nopen 1\ncall 1 1 1 query A a.local\nat 1000\n",
+    )?;
+    let heard = addresses(alloc, A_LOCAL, 0xc000_0200, 100)?;
+    script.push_str(&heard)?;
+    script.push_str("at 1500\n")?;
+    let sent = "20 > all query 0\n1020 > all query 0 tc\n1020 > all query 0\n";
+    expect_lines(&rt, alloc, &script, &[" >"], sent)
+}
+
+// 32,768 records are held, and no packet that would leave more is heard; one that renews some is.
+#[test]
+fn a_full_table(rt: HostRuntime) -> Result<(), Fail> {
+    let alloc = rt.alloc();
+    let mut script = String::from_str(alloc, "daemon 1\n")?;
+    for packet in 0..64u32 {
+        let heard = addresses(alloc, ROOT, 512 * packet, 512)?;
+        script.push_str(&heard)?;
+    }
+    let more = addresses(alloc, ROOT, 512 * 64, 1)?;
+    let renewed = addresses(alloc, ROOT, 512 * 63, 512)?;
+    script.push_str(&more)?;
+    script.push_str(&renewed)?;
+    expect_lines(&rt, alloc, &script, &[" !"], "0 ! full\n")
+}
+
+// A session of 64 operations is cut by the thirtieth answer of 8,900 bytes to each. Another goes on, and so does the daemon.
+#[test]
+fn a_cut_session(rt: HostRuntime) -> Result<(), Fail> {
+    let alloc = rt.alloc();
+    let mut script = String::from_str(alloc, "daemon 1\nopen 1\nopen 1\n")?;
+    for op in 0..64u32 {
+        let call = format!(in alloc; "call 1 1 {op} query TXT a.local\n")?;
+        script.push_str(&call)?;
+    }
+    script.push_str("call 1 2 1 query TXT a.local\n")?;
+    let rest = zeros(alloc, 8899)?;
+    for packet in 0..30u32 {
+        let heard = format!(in alloc;
+            "hear 1 10.0.0.9 5353 000084000000000100000000{A_LOCAL}001000010000007822c4{packet:02x}{rest}\n"
+        )?;
+        script.push_str(&heard)?;
+    }
+    script.push_str("call 1 1 65 query TXT a.local\ntake 1 1 1\nclose 1 1\ntake 1 1 1\nopen 1\n")?;
+    let told = "0 = opened 1
+0 = opened 2
+0 ! cut 1
+0 = cut
+0 = cut
+0 = ended
+0 = closed
+0 = opened 3
+";
+    let beginnings = [" !", " = o", " = cut", " = e", " = cl"];
+    expect_lines(&rt, alloc, &script, &beginnings, told)
+}
+
+// Lines of more than 100,000 bytes: a comment, and a packet that is too long to be read.
+#[test]
+fn long_lines(rt: HostRuntime) -> Result<(), Fail> {
+    let alloc = rt.alloc();
+    let packet = zeros(alloc, 60_000)?;
+    let script = format!(in alloc;
+        "daemon 1\n# {packet}\nhear 1 10.0.0.9 5353 {packet}\nopen 1\n"
+    )?;
+    let told = format!(in alloc;
+        "@0 d1 w0 boot 10.0.0.1\n@0 d1 w0 hear 10.0.0.9 5353 {packet}\n ! bad 6\n@0 d1 w0 open\n = opened 1\n"
+    )?;
+    expect(&rt, alloc, &script, &told, 0)
+}

@@ -1,0 +1,177 @@
+// Statuses, limits and faults.
+ghost use Rattle.std.specs.Prelude.{None};
+
+use crate::outside::NoPlace;
+use crate::script::run_script;
+use crate::stop::NO_MEMORY;
+use crate::tests::{expect, status_of};
+use crate::top::mdnsd;
+use mdns_base::{Failed, MemSink, MemSource, Source};
+use std::alloc::{AllocError, Global};
+use std::env::Args;
+use std::io;
+use std::io::ErrorKind;
+use std::test::Fail;
+
+const ASKED: &str = "daemon 1\nopen 1\ncall 1 1 1 query A a.local\n";
+
+#[test]
+fn scripts(rt: HostRuntime) -> Result<(), Fail> {
+    for (script, output, status) in [
+        ("", "", 0),
+        ("# daemon 1\n\nat 5\r\n", "", 0),
+        (
+            "daemon 1\nhear 2 10.0.0.9 5353 -\n",
+            "@0 d1 w0 boot 10.0.0.1\nnot yet line 2\n",
+            7,
+        ),
+        ("daemon 1\nfly", "@0 d1 w0 boot 10.0.0.1\nbad line 2\n", 3),
+    ] {
+        expect(&rt, rt.alloc(), script, output, status)?;
+    }
+    Ok(())
+}
+
+// Sixty-four sessions, and sixty-four questions of one, are the most at a time.
+#[test]
+fn limits(rt: HostRuntime) -> Result<(), Fail> {
+    let alloc = rt.alloc();
+    let mut script = String::from_str(alloc, "daemon 1\n")?;
+    let mut output = String::from_str(alloc, "@0 d1 w0 boot 10.0.0.1\n")?;
+    for session in 1..=64u32 {
+        script.push_str("open 1\n")?;
+        let opened = format!(in alloc; "@0 d1 w0 open\n = opened {session}\n")?;
+        output.push_str(&opened)?;
+    }
+    script.push_str("open 1\n")?;
+    output.push_str("@0 d1 w0 open\n = full\n")?;
+    for op in 1..=65u32 {
+        let code = if op <= 64 { 0 } else { -65553 };
+        let call = format!(in alloc; "call 1 1 {op} query A a.local\n")?;
+        script.push_str(&call)?;
+        let called = format!(in alloc;
+            "@0 d1 w0 call 1 {op} query A a.local.\n < 1 reply {op} start {code}\n = code {code}\n"
+        )?;
+        output.push_str(&called)?;
+    }
+    expect(&rt, alloc, &script, &output, 0)
+}
+
+#[test]
+fn prefixes_are_bad(rt: HostRuntime) -> Result<(), Fail> {
+    let alloc = rt.alloc();
+    let whole = "0000840000000001000000000161056c6f63616c0000018001000000780004c0000201";
+    for length in 0..35usize {
+        let mut packet = String::new(alloc);
+        for digit in whole.chars().take(2 * length) {
+            packet.push(digit)?;
+        }
+        if packet.is_empty() {
+            packet.push('-')?;
+        }
+        let script = format!(in alloc; "daemon 1\nhear 1 10.0.0.9 5353 {packet}\n")?;
+        let output = format!(in alloc;
+            "@0 d1 w0 boot 10.0.0.1\n@0 d1 w0 hear 10.0.0.9 5353 {packet}\n ! bad 1\n"
+        )?;
+        expect(&rt, alloc, &script, &output, 0)?;
+    }
+    Ok(())
+}
+
+// The words behind the program's name, and the status of the empty script then.
+const WORDS: [(&[&str], u8); 8] = [
+    (&[], 2),
+    (&["scripts"], 2),
+    (&["Script"], 2),
+    (&["script"], 0),
+    (&["script", "script"], 2),
+    (&["", "script"], 2),
+    (&["script", ""], 2),
+    (&[""], 2),
+];
+
+// The command line of these words, as it is read, and the status wanted.
+fn command_lines(alloc: Global) -> Result<Vec<(io::Result<Args>, u8)>, AllocError> {
+    let mut cases = Vec::new(alloc);
+    for (words, status) in WORDS {
+        let mut list = Vec::new(alloc);
+        list.push(String::from_str(alloc, "mdnsd")?)?;
+        for word in words {
+            list.push(String::from_str(alloc, word)?)?;
+        }
+        cases.push((Ok(list.into_iter()), status))?;
+    }
+    // Not even the program's name; then a word that is no text, and want of memory for the words.
+    cases.push((Ok(Vec::new(alloc).into_iter()), 2))?;
+    cases.push((Err(io::Error::from(ErrorKind::InvalidData)), 2))?;
+    cases.push((Err(io::Error::from(ErrorKind::OutOfMemory)), 6))?;
+    Ok(cases)
+}
+
+#[test]
+fn words(rt: HostRuntime) -> Result<(), Fail> {
+    let alloc = rt.alloc();
+    for (args, status) in command_lines(alloc)? {
+        let are_read = args.is_ok();
+        let mut source = MemSource::new(Vec::new(alloc), Vec::new(alloc));
+        let mut sink = MemSink::new(alloc, Vec::new(alloc));
+        let found = mdnsd(&rt, alloc, args, &mut source, &mut sink, &mut NoPlace);
+        if found == NO_MEMORY && are_read {
+            Err(AllocError)?;
+        }
+        assert_eq!(rt; found, status);
+        assert_eq!(rt; sink.bytes(), b"".as_slice());
+    }
+    Ok(())
+}
+
+#[test]
+fn faults_come_from_outside(rt: HostRuntime) -> Result<(), Fail> {
+    let alloc = rt.alloc();
+    let mut source = MemSource::new(Vec::new(alloc), Vec::from_slice(alloc, &[1])?);
+    let mut sink = MemSink::new(alloc, Vec::new(alloc));
+    let status = status_of(alloc, &mut source, &mut sink)?;
+    assert_eq!(rt; status, 4);
+    assert_eq!(rt; sink.bytes(), b"".as_slice());
+    let mut source = MemSource::new(Vec::from_slice(alloc, ASKED.as_bytes())?, Vec::new(alloc));
+    let mut sink = MemSink::new(alloc, Vec::from_slice(alloc, &[2])?);
+    let status = run_script(alloc, &mut source, &mut sink);
+    // The first put fails for want of memory alone.
+    if status == NO_MEMORY || sink.bytes().is_empty() {
+        Err(AllocError)?;
+    }
+    assert_eq!(rt; status, 5);
+    assert_eq!(rt; sink.bytes(), b"@0 d1 w0 boot 10.0.0.1\n".as_slice());
+    Ok(())
+}
+
+// So many bytes `#`, which aren't held.
+#[derive(Drop)]
+struct Signs {
+    left: usize,
+}
+
+impl Source for Signs {
+    ghost left = { λ s. None };
+
+    ghost faults = { λ s. 0 };
+
+    fn read(&mut self, into: &mut [u8]) -> Result<usize, Failed> {
+        let count = into.len().min(self.left);
+        into[..count].fill(b'#');
+        self.left -= count;
+        Ok(count)
+    }
+}
+
+#[test]
+fn a_script_may_be_too_large(rt: HostRuntime) -> Result<(), Fail> {
+    let alloc = rt.alloc();
+    for (bytes, status) in [(67_108_864, 0), (67_108_865, 8)] {
+        let mut source = Signs { left: bytes };
+        let mut sink = MemSink::new(alloc, Vec::new(alloc));
+        let found = status_of(alloc, &mut source, &mut sink)?;
+        assert_eq!(rt; found, status, "{bytes}");
+    }
+    Ok(())
+}
