@@ -10,10 +10,19 @@ pub record Queue : Type 0 where
   pub items : Option (List Item)
   pub spare : ℕ
 
+-- the items of a queue, none of a cut one
+abbrev pub queued : Option (List Item) → List Item
+queued None = []
+queued (Some items) = items
+
 -- whether an item can't be queued: its frame and those that are queued would pass the limit, or the queue was cut
 abbrev pub would_pass : Item → Option (List Item) → Bool
 would_pass item None = true
 would_pass item (Some items) = nat_lt queue_limit (frames_len items + frame_len item)
+
+-- whether items would pass the limit behind those that are queued
+abbrev pub passes : List Item → Option (List Item) → Bool
+passes items queue = nat_lt queue_limit (frames_len (queued queue ++ items))
 
 -- the items with one more behind them
 abbrev pub with_item : Item → Option (List Item) → Option (List Item)

@@ -1,6 +1,6 @@
 ghost use Rattle.std.specs.Prelude.{◌≡◌, ◌≢◌, ◌+◌, ◌≤◌, ◌↔◌, ◌==◌, [], Some, None, IsTrue, OnOk, is_none};
 ghost use Rattle.sd_call.specs.Answers.{queue_limit};
-ghost use Rattle.sd_outbox.specs.Queues.{would_pass, with_item, first_of, rest_of, bytes_of, count_of};
+ghost use Rattle.sd_outbox.specs.Queues.{would_pass, passes, with_item, first_of, rest_of, bytes_of, count_of};
 
 use sd_call::{Item, item_len};
 use std::alloc::{AllocError, Global};
@@ -95,6 +95,22 @@ impl Outbox {
         }
         self.bytes += len;
         Ok(())
+    }
+
+    /// Whether the frames of what is queued and of these items would pass 16,777,216 bytes. Of a cut queue it tells whether
+    /// these alone would.
+    pub fn passes(&self, items: &[Item]) -> bool
+        ensures { result ≡ passes items.now self.now.items }
+    {
+        let mut room = LIMIT - self.bytes();
+        for item in items {
+            let len = item_len(item);
+            if len > room {
+                return true;
+            }
+            room -= len;
+        }
+        false
     }
 
     /// Takes out the item that was appended first: `Empty` exactly where nothing is queued, `Cut` exactly where the queue
