@@ -19,9 +19,9 @@ use Rattle.mdns_history.proofs.CallFacts.{opened-late}
 use Rattle.mdns_history.proofs.LegalReplay.{detached-late}
 use Rattle.mdns_question.specs.Standing.{uses}
 use Rattle.mdns_core.specs.InForce.{in_force}
-use Rattle.mdns_core.specs.State.{sessions_in}
+use Rattle.sd_sessions.specs.Sessions.{sessions_in}
 use Rattle.mdns_core.specs.Asked.{begun_keys, ended_keys}
-use Rattle.mdns_core.proofs.Operations.{accepted-late}
+use Rattle.sd_sessions.proofs.Operations.{accepted-late}
 use Rattle.mdns_core.proofs.KeyLists.{IsStrict, looked, key_eq-same, has_ordered, strict_ordered, strict_given, looked_given}
 use Rattle.mdns_core.proofs.KeyUses.{IsMove, times, uses-next}
 

@@ -25,12 +25,13 @@ use Rattle.mdns_question.specs.declared.tracked.Tracked.{Tracked}
 use Rattle.mdns_question.specs.Tracking.{due_cause}
 use Rattle.mdns_question.specs.Standing.{Stands, mark_of}
 use Rattle.mdns_core.specs.InForce.{in_force}
-use Rattle.mdns_core.specs.State.{asker_of, sessions_in}
+use Rattle.mdns_core.specs.State.{asker_of}
+use Rattle.sd_sessions.specs.Sessions.{sessions_in}
 use Rattle.mdns_core.specs.Asked.{is_asked_by, heard_for, asked_told, asked_for, questions_after}
 use Rattle.mdns_happened.specs.Told.{unless}
 use Rattle.mdns_core.specs.Next.{IsHeard}
 use Rattle.mdns_core.proofs.Stage.{bare, duty_marks, noted_marks, entry_after, entry_is, marks_are}
-use Rattle.mdns_core.proofs.Shape.{attached, passes_now, marks-next}
+use Rattle.sd_sessions.proofs.Shape.{attached, passes_now, marks-next}
 use Rattle.mdns_core.proofs.AskedFor.{marks-asked}
 use Rattle.mdns_core.proofs.ActiveKeys.{move-next}
 use Rattle.mdns_core.proofs.Askings.{may_ask, Asks, chosen, IsChosen, askings-next}

@@ -26,7 +26,8 @@ use Rattle.mdns_question.specs.Standing.{uses, IsTracked}
 use Rattle.mdns_question.specs.Standing as asking
 use Rattle.mdns_question.proofs.Following.{begun_follows, kept_follows, asked_follows}
 use Rattle.mdns_core.specs.InForce.{in_force}
-use Rattle.mdns_core.specs.State.{Session, asker_of, sessions_in}
+use Rattle.mdns_core.specs.State.{asker_of}
+use Rattle.sd_sessions.specs.Sessions.{Session, sessions_in}
 use Rattle.mdns_core.specs.Asked.{begun_keys, ended_keys, all_begun, all_ended, all_asked, questions_told, questions_after}
 use Rattle.mdns_core.proofs.KeyLists.{IsStrict, looked, key_eq-same, looked_found, looked_same, same_looked, all_looked, found_holds, strict_map, strict_unmap, looked_map}
 pub use Rattle.mdns_core.proofs.KeyUses.{IsMove}

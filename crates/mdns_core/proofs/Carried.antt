@@ -21,16 +21,17 @@ use Rattle.mdns_cache.specs.Lifetimes.{Holds}
 use Rattle.mdns_question.specs.declared.tracked.Tracked.{Tracked}
 use Rattle.mdns_question.specs.Standing.{mark_of}
 use Rattle.sd_answer.specs.Laws.{have_data}
-use Rattle.mdns_core.specs.declared.change.SessionChange.{SessionChange}
+use Rattle.sd_sessions.specs.declared.change.SessionChange.{SessionChange}
 use Rattle.mdns_happened.specs.Told.{Told, Taking, told_of}
-use Rattle.mdns_core.specs.State.{Session, State, Stands}
-use Rattle.mdns_core.specs.Codes.{kept_outcome}
+use Rattle.mdns_core.specs.State.{State, Stands}
+use Rattle.sd_sessions.specs.Sessions.{Session}
+use Rattle.sd_sessions.specs.Codes.{kept_outcome}
 use Rattle.mdns_core.specs.Asked.{sent_told, questions_told}
-use Rattle.mdns_core.specs.Settling.{change_told, cuts_of, gifts_of, all_settled, remaining_but, opened_session, with_opened, shifted_told}
-use Rattle.mdns_core.specs.Next.{rrs_of, outcome_told, taken_from, sessions_told, entry_for, state_after, IsHeard}
+use Rattle.sd_sessions.specs.Settling.{change_told, cuts_of, gifts_of, all_settled, remaining_but, opened_session, with_opened, shifted_told, rrs_of, outcome_told, taken_from, sessions_told}
+use Rattle.mdns_core.specs.Next.{entry_for, state_after, IsHeard}
 use Rattle.mdns_core.specs.Planned.{chosen_for}
-use Rattle.mdns_core.specs.Kept.{HaveWellFormed, IsWellFormedCall}
-use Rattle.mdns_core.proofs.Formed.{formed-called}
+use Rattle.sd_sessions.specs.Kept.{HaveWellFormed, IsWellFormedCall}
+use Rattle.sd_sessions.proofs.Formed.{formed-called}
 use Rattle.mdns_core.proofs.Stepped.{stepped}
 use Rattle.mdns_core.proofs.Standing.{heard-stands}
 use Rattle.mdns_core.proofs.HeldData.{data-kept}
@@ -97,44 +98,3 @@ carried state moment word ev after marks sent given done count left tracked out 
         (λ i. kept moment (out.counted i) (out.remains i) after (out.follows i))
         ∙ ap (state_by state moment word ev after out.told) out.changed
         ∙ ap (λ (told : Told). state_by state moment word ev after told (changes_by state moment word ev after told)) out.reads
-
-module _ (told : Told) (earlier later : List Rr) (call : IsWellFormedCall told.call) where
-  formed-settled : (sessions : List Session) → HaveWellFormed sessions → HaveWellFormed (all_settled sessions (map (change_told told earlier later) sessions))
-  formed-settled [] all = tt
-  formed-settled (session ∷ sessions) all = (formed-called told.call session.number session.operations call all.0, formed-settled sessions all.1)
-
-formed-kept : (test : Session → Bool) (sessions : List Session) → HaveWellFormed sessions → HaveWellFormed (filter test sessions)
-formed-kept test [] all = tt
-formed-kept test (session ∷ sessions) all = at (test session) (formed-kept test sessions all.1)
-  where
-    at : (b : Bool) → HaveWellFormed (filter test sessions) → HaveWellFormed (cond b (session ∷ filter test sessions) (filter test sessions))
-    at true rest = (all.0, rest)
-    at false rest = rest
-
-formed-opened : (o : Option ℕ) (sessions : List Session) → HaveWellFormed sessions → HaveWellFormed (with_opened o sessions)
-formed-opened None sessions all = all
-formed-opened (Some n) sessions all = behind sessions all
-  where
-    behind : (ss : List Session) → HaveWellFormed ss → HaveWellFormed (ss ++ opened_session n ∷ [])
-    behind [] h = (tt, tt)
-    behind (s ∷ ss) h = (h.0, behind ss h.1)
-
-formed-taken : (number max : ℕ) (sessions : List Session) → HaveWellFormed sessions → HaveWellFormed (taken_from number max sessions)
-formed-taken number max [] all = tt
-formed-taken number max (session ∷ sessions) all = at (session.number == number) (formed-taken number max sessions all.1)
-  where
-    at : (b : Bool) → HaveWellFormed (taken_from number max sessions) → HaveWellFormed (cond b (record session { queue = drop max session.queue } ∷ sessions) (session ∷ taken_from number max sessions))
-    at true rest = (all.0, all.1)
-    at false rest = (all.0, rest)
-
-formed-handed : (taking : Option Taking) (sessions : List Session) → HaveWellFormed sessions → HaveWellFormed (sessions_told taking sessions)
-formed-handed None sessions all = all
-formed-handed (Some taking) sessions all = formed-taken taking.session taking.max sessions all
-
--- the operations of the sessions that are left ask for something well formed
-pub formed-left : (told : Told) (earlier later : List Rr) (sessions : List Session) → IsWellFormedCall told.call → HaveWellFormed sessions
-    → HaveWellFormed (sessions_told told.taking (shifted_told told sessions (map (change_told told earlier later) sessions)))
-formed-left told earlier later sessions call all =
-    formed-handed told.taking (shifted_told told sessions (map (change_told told earlier later) sessions))
-    (formed-opened told.opened (remaining_but told.detached (all_settled sessions (map (change_told told earlier later) sessions)))
-    (formed-kept _ (all_settled sessions (map (change_told told earlier later) sessions)) (formed-settled told earlier later call sessions all)))

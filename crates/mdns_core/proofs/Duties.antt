@@ -4,7 +4,7 @@ use Rattle.std.specs.List.{list_any}
 use Rattle.mdns_history.specs.declared.event.Event.{Event}
 use Rattle.mdns_history.specs.declared.entry.Entry.{Entry}
 use Rattle.mdns_history.specs.Hearings.{is_refusal}
-use Rattle.mdns_core.proofs.EntryMarks.{no_duty, refuses_not, askings_pass}
+use Rattle.sd_sessions.proofs.EntryMarks.{no_duty, refuses_not, askings_pass}
 use Rattle.mdns_core.proofs.Stage.{duty_marks}
 
 -- The marks of duties refuse nothing.

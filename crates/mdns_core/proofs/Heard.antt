@@ -21,7 +21,7 @@ use Rattle.mdns_core.specs.InForce.{in_force}
 use Rattle.mdns_history.specs.Items.{cut_marks, served_sessions, would_pass}
 use Rattle.mdns_history.specs.Fitting.{refusal_marks, with_outcome, boot_entry, IsLegalFrom, IsLegal}
 use Rattle.mdns_history.proofs.LifetimeSteps.{live_of-later}
-use Rattle.mdns_core.specs.Changes.{admitted_records}
+use Rattle.mdns_core.specs.Next.{admitted_records}
 use Rattle.mdns_core.proofs.Stage.{bare, duty_marks, marked, cutting, giving, entry_after, entry_is}
 use Rattle.mdns_core.proofs.Duties.{duties_refuse_none}
 

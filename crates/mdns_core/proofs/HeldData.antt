@@ -19,7 +19,8 @@ use Rattle.mdns_history.specs.Lifetimes.{is_live_at, is_other, live_of, live_rec
 use Rattle.mdns_history.proofs.LifetimeSteps.{live_of-renewal, live_of-goodbye, live_of-later}
 use Rattle.mdns_cache.specs.Lifetimes.{hearing_at, hearings_at, renewed, shortened}
 use Rattle.mdns_core.specs.State.{State, Stands}
-use Rattle.mdns_core.specs.Next.{rrs_of, is_full, heard_with, IsHeard}
+use Rattle.mdns_core.specs.Next.{is_full, heard_with, IsHeard}
+use Rattle.sd_sessions.specs.Settling.{rrs_of}
 use Rattle.mdns_core.proofs.Due.{list_all-IsPermutation}
 
 -- whether the data of a held record have their form

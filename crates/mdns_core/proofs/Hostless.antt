@@ -20,7 +20,7 @@ use Rattle.mdns_history.specs.Sessions.{Accepted, has_op, is_number, detached, i
 use Rattle.mdns_history.specs.Groups.{groups, host_of, host_group, group_of, registration_from, registration_in, registered_count, ends_group, begun_in, names_of}
 use Rattle.mdns_history.specs.Outcomes.{call_code, early_outcome, is_refused, is_name_conflict}
 use Rattle.mdns_history.specs.Fitting.{is_boot, boot_entry, next_entry, IsLegalFrom, IsLegal}
-use Rattle.mdns_core.proofs.Operations.{accepted-late, all_insert, all_filter}
+use Rattle.sd_sessions.proofs.Operations.{accepted-late, all_insert, all_filter}
 
 -- whether an operation registers nothing
 abbrev pub is_plain : Operation → Bool

@@ -26,10 +26,11 @@ use Rattle.mdns_history.proofs.CallFacts.{opened_next, opened-call, coded_attach
 use Rattle.mdns_history.proofs.LegalReplay.{Holds}
 use Rattle.mdns_question.specs.Standing.{uses}
 use Rattle.mdns_core.specs.InForce.{in_force}
-use Rattle.mdns_core.specs.State.{session_in, sessions_in}
-use Rattle.mdns_core.specs.Asked.{begun_keys, stopped_in, stopped_by, ended_with, ended_keys, operations_in}
-use Rattle.mdns_core.proofs.Attached.{holds_legal}
-use Rattle.mdns_core.proofs.KeptOutcome.{found-session}
+use Rattle.sd_sessions.specs.Sessions.{session_in, sessions_in}
+use Rattle.mdns_core.specs.Asked.{begun_keys, stopped_in, stopped_by, ended_with, ended_keys}
+use Rattle.sd_sessions.specs.Kept.{operations_in}
+use Rattle.sd_sessions.proofs.Attached.{holds_legal}
+use Rattle.sd_sessions.proofs.KeptOutcome.{found-session}
 
 -- An entry is of an event with the outcome that the history decides, as far as sessions and calls see it.
 pub record IsMove (past : List Entry) (ev : Event) (entry : Entry) : Type 0 where

@@ -24,14 +24,15 @@ use Rattle.mdns_history.specs.declared.event.Event.{Event}
 use Rattle.mdns_history.specs.declared.held.Held.{Held}
 use Rattle.mdns_history.specs.declared.mark.Mark.{Mark}
 use Rattle.mdns_core.specs.Next.{IsHeard}
-use Rattle.mdns_core.specs.State.{Session, State, Stands, session_in, asker_of, due_of}
-use Rattle.mdns_core.specs.Codes.{has_number}
+use Rattle.mdns_core.specs.State.{State, Stands, asker_of, due_of}
+use Rattle.sd_sessions.specs.Sessions.{Session, session_in}
+use Rattle.sd_sessions.specs.Codes.{has_number}
 use Rattle.mdns_question.specs.Tracking.{due_at}
 use Rattle.mdns_question.specs.Next.{next_of}
 use Rattle.dns_name.specs.Lists.{least}
 use Rattle.mdns_core.proofs.Due.{is_idle-held, due-held}
 use Rattle.mdns_core.proofs.WithoutHost.{is_idle-hostless}
-use Rattle.mdns_core.proofs.KeptOutcome.{found-session}
+use Rattle.sd_sessions.proofs.KeptOutcome.{found-session}
 
 -- the state of a daemon that was just booted
 abbrev pub booted_state : ℕ → State

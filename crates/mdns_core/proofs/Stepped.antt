@@ -26,26 +26,27 @@ use Rattle.mdns_history.proofs.Determined.{next_entry-fits}
 use Rattle.mdns_question.specs.declared.tracked.Tracked.{Tracked}
 use Rattle.mdns_question.specs.Standing as asking
 use Rattle.mdns_question.specs.Standing.{mark_of}
-use Rattle.mdns_core.specs.declared.change.SessionChange.{SessionChange}
-use Rattle.mdns_core.specs.State.{Session, State, Stands, asker_of, sessions_in}
+use Rattle.sd_sessions.specs.declared.change.SessionChange.{SessionChange}
+use Rattle.mdns_core.specs.State.{State, Stands, asker_of}
+use Rattle.sd_sessions.specs.Sessions.{Session, sessions_in}
 use Rattle.mdns_core.specs.Asked.{asked_for, sent_for, questions_after}
-use Rattle.mdns_core.specs.Codes.{kept_outcome}
-use Rattle.mdns_core.specs.Settling.{change_for, cuts_of, gifts_of, all_settled, remaining, with_opened}
-use Rattle.mdns_core.specs.Next.{rrs_of, changes_for, sessions_then, outcome_then, sessions_after, entry_for, state_after, IsHeard}
-use Rattle.mdns_core.proofs.EntryParts.{marked}
+use Rattle.sd_sessions.specs.Codes.{kept_outcome}
+use Rattle.sd_sessions.specs.Settling.{change_for, cuts_of, gifts_of, all_settled, remaining, with_opened, rrs_of, outcome_then, sessions_after}
+use Rattle.mdns_core.specs.Next.{changes_for, sessions_then, entry_for, state_after, IsHeard}
+use Rattle.sd_sessions.proofs.EntryParts.{marked}
 use Rattle.mdns_core.proofs.Stage.{sent_by, bare, duty_marks, entry_after, entry_is, marks_are, sent-next, IsLegal-next}
 use Rattle.mdns_core.proofs.Hears.{refusal-is, records-is}
 use Rattle.mdns_core.proofs.AskedFor.{marks-asked, sends-asked}
 use Rattle.mdns_core.proofs.AskedAfter.{asking-next}
-use Rattle.mdns_core.proofs.Attached.{opened_count-next, opened_count-opened, opened_count-kept}
+use Rattle.sd_sessions.proofs.Attached.{opened_count-next, opened_count-opened, opened_count-kept}
 use Rattle.mdns_core.proofs.WithoutHost.{rrs_of as live_rrs, hostless-next, outcome-kept, changes-kept}
-use Rattle.mdns_core.proofs.ChangesBy.{change_by}
-use Rattle.mdns_core.proofs.Brought.{answers_in}
-use Rattle.mdns_core.proofs.Takes.{outcome-early}
-use Rattle.mdns_core.proofs.KeptChanges.{marks-kept, given-kept}
-use Rattle.mdns_core.proofs.KeptSessions.{settled_sessions, sessions-untaken}
-use Rattle.mdns_core.proofs.Permuted.{changes-permuted}
-use Rattle.mdns_core.proofs.Taken.{taken-outcome, taken-sessions}
+use Rattle.sd_sessions.proofs.ChangesBy.{change_by}
+use Rattle.sd_sessions.proofs.Brought.{answers_in}
+use Rattle.sd_sessions.proofs.Takes.{outcome-early}
+use Rattle.sd_sessions.proofs.KeptChanges.{marks-kept, given-kept}
+use Rattle.sd_sessions.proofs.KeptSessions.{settled_sessions, sessions-untaken}
+use Rattle.sd_sessions.proofs.Permuted.{changes-permuted}
+use Rattle.sd_sessions.proofs.Taken.{taken-outcome, taken-sessions}
 
 -- an entry of its parts
 abbrev entry_of : ℕ → ℕ → Event → List Mark → List Sent → List Given → Outcome → Entry

@@ -25,7 +25,8 @@ use Rattle.mdns_cache.specs.Lifetimes.{AllLive}
 use Rattle.mdns_question.specs.declared.tracked.Tracked.{Tracked}
 use Rattle.mdns_question.specs.Tracking.{active_of, is_for, tracked_cmp, is_used, used_more, used_less, begun, with_user, without_user, longest_gap, asked_at, noted, with_asking, fresh_of, is_refreshed, due_with, due_at}
 use Rattle.mdns_question.specs.Next.{next_of}
-use Rattle.mdns_core.specs.State.{Session, State, asker_of, due_of}
+use Rattle.mdns_core.specs.State.{State, asker_of, due_of}
+use Rattle.sd_sessions.specs.Sessions.{Session}
 use Rattle.mdns_core.specs.Asked.{asked_told, asked_for, begun_keys, ended_told, all_begun, all_ended, all_asked, questions_told, questions_after}
 use Rattle.mdns_core.specs.Kept.{HaveGaps}
 use Rattle.mdns_core.proofs.Waiting.{below_least, quiet_before}

@@ -20,16 +20,16 @@ use Rattle.mdns_history.specs.Items.{given_to, queue}
 use Rattle.mdns_history.specs.Outcomes.{early_outcome}
 use Rattle.mdns_history.specs.Fitting.{IsLegal}
 use Rattle.mdns_history.specs.Due.{is_nothing, settles_none, ends_none, is_idle}
-use Rattle.mdns_core.specs.Changes.{passes}
-use Rattle.mdns_core.proofs.NumberLists.{filter-same, flat_map-same}
-use Rattle.mdns_core.proofs.EntryParts.{marked}
+use Rattle.sd_sessions.specs.Changes.{passes}
+use Rattle.sd_sessions.proofs.NumberLists.{filter-same, flat_map-same}
+use Rattle.sd_sessions.proofs.EntryParts.{marked}
 use Rattle.mdns_core.proofs.Stage.{entry_after, entry_is, marks_are, sent-next}
-use Rattle.mdns_core.proofs.ChangesBy.{items_by}
-use Rattle.mdns_core.proofs.Brought.{answers_in, change_items-marked}
-use Rattle.mdns_core.proofs.Shape.{attached, brought_to, passes_now, marks-next, given-next}
-use Rattle.mdns_core.proofs.Operations.{operations-rising}
-use Rattle.mdns_core.proofs.Limits.{queue-within}
-use Rattle.mdns_core.proofs.Idle.{items_by-same}
+use Rattle.sd_sessions.proofs.ChangesBy.{items_by}
+use Rattle.sd_sessions.proofs.Brought.{answers_in, change_items-marked}
+use Rattle.sd_sessions.proofs.Shape.{attached, brought_to, passes_now, marks-next, given-next}
+use Rattle.sd_sessions.proofs.Operations.{operations-rising}
+use Rattle.sd_sessions.proofs.Limits.{queue-within}
+use Rattle.sd_sessions.proofs.Idle.{items_by-same}
 
 filter-never : (ns : List ℕ) → filter (λ n. false) ns ≡ []
 filter-never [] = refl

@@ -8,10 +8,10 @@ use Rattle.mdns_history.specs.Sessions.{has_op}
 use Rattle.mdns_history.specs.Questions.{keys_of}
 use Rattle.mdns_question.specs.declared.tracked.Tracked.{Tracked}
 use Rattle.mdns_question.specs.Tracking.{without_user}
-use Rattle.mdns_core.specs.State.{Session}
-use Rattle.mdns_core.specs.Asked.{operations_in, all_ended}
-use Rattle.mdns_core.specs.Kept.{HaveWellFormed, AreWellFormed}
-use Rattle.mdns_core.proofs.Nexts.{drop-next}
+use Rattle.sd_sessions.specs.Sessions.{Session}
+use Rattle.mdns_core.specs.Asked.{all_ended}
+use Rattle.sd_sessions.specs.Kept.{operations_in, HaveWellFormed, AreWellFormed}
+use Rattle.sd_sessions.proofs.Nexts.{drop-next}
 
 all_ended-append : (keys more : List Key) (questions : List Tracked) → all_ended (keys ++ more) questions ≡ all_ended more (all_ended keys questions)
 all_ended-append [] more questions = refl
@@ -41,12 +41,3 @@ module _ (op : ℕ) (operations : List Operation) (i : ℕ) (operation : Operati
 
   pub passed-next : has_op op operation ≡ false → all_ended (keys_in (filter (has_op op) (drop (i + 1) operations))) questions ≡ all
   passed-next is = split false is
-
--- what a session asks for is well formed
-pub formed-found : (test : Session → Bool) (sessions : List Session) → HaveWellFormed sessions → AreWellFormed (operations_in (find test sessions))
-formed-found test [] formed = tt
-formed-found test (session ∷ sessions) formed = of (test session) (formed-found test sessions formed.1)
-  where
-    of : (b : Bool) → AreWellFormed (operations_in (find test sessions)) → AreWellFormed (operations_in (cond b (Some session) (find test sessions)))
-    of true others = formed.0
-    of false others = others

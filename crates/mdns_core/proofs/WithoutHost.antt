@@ -28,16 +28,16 @@ use Rattle.mdns_history.specs.Asking.{tick_askings}
 use Rattle.mdns_history.specs.Fitting.{is_boot, next_entry, IsLegal}
 use Rattle.mdns_history.specs.Due.{is_nothing, settles_none, ends_none, is_idle}
 use Rattle.mdns_core.specs.InForce.{in_force}
-use Rattle.mdns_core.specs.State.{session_in, sessions_in}
-use Rattle.mdns_core.specs.Codes.{is_running, refers_to_none, is_foreign, kept_code, kept_outcome}
-use Rattle.mdns_core.specs.Settling.{change_for}
+use Rattle.sd_sessions.specs.Sessions.{session_in, sessions_in}
+use Rattle.sd_sessions.specs.Codes.{is_running, refers_to_none, is_foreign, kept_code, kept_outcome}
+use Rattle.sd_sessions.specs.Settling.{change_for}
 use Rattle.mdns_core.proofs.Stage.{entry_after, entry_is}
 use Rattle.mdns_core.proofs.Hostless.{is_plain, IsPlain, IsPlain-cons, plain_after, plain_early, plain_next, host_of-cons, IsPlain-legal}
-use Rattle.mdns_core.proofs.ChangesBy.{over, change_by, changes_for-are, AllThen, changes-same}
-use Rattle.mdns_core.proofs.Brought.{answers_in}
-use Rattle.mdns_core.proofs.KeptChanges.{called-is}
-use Rattle.mdns_core.proofs.KeptOutcome.{early_outcome-is}
-use Rattle.mdns_core.proofs.Idle.{filter-all, live_records-quiet}
+use Rattle.sd_sessions.proofs.ChangesBy.{over, change_by, changes_for-are, AllThen, changes-same}
+use Rattle.sd_sessions.proofs.Brought.{answers_in}
+use Rattle.sd_sessions.proofs.KeptChanges.{called-is}
+use Rattle.sd_sessions.proofs.KeptOutcome.{early_outcome-is}
+use Rattle.mdns_core.proofs.QuietRecords.{filter-all, live_records-quiet}
 use Rattle.mdns_core.proofs.Ticks.{is_idle-tick}
 
 -- the records of a history that are live now, as they were last heard

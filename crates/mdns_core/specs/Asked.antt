@@ -24,8 +24,10 @@ use Rattle.mdns_happened.specs.Told.{is_tick, heard_of}
 use Rattle.mdns_known.specs.Known.{known_of, all_known_of}
 use Rattle.mdns_question.specs.declared.tracked.Tracked.{Tracked}
 use Rattle.mdns_question.specs.Tracking.{with_user, without_user, with_asking, due_at}
-use Rattle.mdns_core.specs.State.{Session, asker_of}
-use Rattle.mdns_core.specs.Codes.{has_number}
+use Rattle.mdns_core.specs.State.{asker_of}
+use Rattle.sd_sessions.specs.Sessions.{Session}
+use Rattle.sd_sessions.specs.Codes.{has_number}
+use Rattle.sd_sessions.specs.Kept.{operations_in}
 
 -- Another's query asks a question in the daemon's stead where it is due within a second, and the query lists no answer that the daemon wouldn't.
 abbrev pub is_asked_by : List Held → ℕ → Heard → Tracked → Bool
@@ -58,11 +60,6 @@ sent_told ticks held moment asked = if ticks then queries_for held moment (map (
 -- what an event sends
 abbrev pub sent_for : List Held → ℕ → Event → List (Key × Cause) → List Sent
 sent_for held moment event asked = sent_told (is_tick event) held moment asked
-
--- the operations of a session that may be there
-abbrev pub operations_in : Option Session → List Operation
-operations_in None = []
-operations_in (Some session) = session.operations
 
 -- the questions that get a user: those of the operation that an accepted call starts
 abbrev pub begun_keys : Option Accepted → List Key

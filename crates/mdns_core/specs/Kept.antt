@@ -1,64 +1,8 @@
 -- What the daemon's own types mean.
-use Rattle.std.specs.Prelude.{◌≡◌, ◌≤◌, ◌<◌, true, IsTrue, List, [], ◌∷◌, ◌++◌, map, length, Option, Some, None, is_none}
+use Rattle.std.specs.Prelude.{◌<◌, List}
 use Rattle.std.specs.List.{AllByRecursion}
-use Rattle.sd_call.specs.declared.item.Item.{Item}
-use Rattle.sd_call.specs.Requests.{well_formed}
-use Rattle.mdns_history.specs.declared.operation.Operation.{Operation}
-use Rattle.mdns_history.specs.Sessions.{Accepted}
 use Rattle.mdns_question.specs.declared.tracked.Tracked.{Tracked}
-use Rattle.mdns_core.specs.declared.session.SessionState.{SessionState}
-use Rattle.mdns_core.specs.declared.change.SessionChange.{SessionChange}
-use Rattle.mdns_core.specs.State.{Session}
-use Rattle.mdns_core.specs.Changes.{passes}
-
--- each operation asks for something well formed
-abbrev pub AreWellFormed : List Operation → Type 0
-AreWellFormed operations = AllByRecursion (λ (operation : Operation). IsTrue (well_formed operation.request)) operations
-
--- each session's operations ask for something well formed
-abbrev pub HaveWellFormed : List Session → Type 0
-HaveWellFormed sessions = AllByRecursion (λ (session : Session). AreWellFormed session.operations) sessions
 
 -- each question has a gap in its series
 abbrev pub HaveGaps : List Tracked → Type 0
 HaveGaps questions = AllByRecursion (λ (one : Tracked). 0 < one.gap) questions
-
--- the items of a queue that may have been cut
-abbrev pub queued : Option (List Item) → List Item
-queued None = []
-queued (Some items) = items
-
--- a queue that may have been cut, with items behind it
-abbrev pub joined : Option (List Item) → List Item → Option (List Item)
-joined None more = None
-joined (Some items) more = Some (items ++ more)
-
--- a session as it is kept
-abbrev pub session_of : SessionState → Session
-session_of state = record { number = state.number; operations = state.operations; cut = is_none state.outbox.items; queue = queued state.outbox.items }
-
--- the sessions as they are kept
-abbrev pub sessions_of : List SessionState → List Session
-sessions_of states = map session_of states
-
--- each outbox has room for what its session is brought
-abbrev pub HaveRoom : List SessionState → List SessionChange → Type 0
-HaveRoom [] changes = Unit {0}
-HaveRoom (state ∷ states) [] = Unit {0}
-HaveRoom (state ∷ states) (change ∷ changes) = (length change.brought ≤ state.outbox.spare) × HaveRoom states changes
-
--- a change fits a session: it cuts exactly where what it brings would pass the limit of the queue, and brings nothing to a session that was cut
-pub record IsFit (session : Session) (change : SessionChange) : Type 0 where
-  pub cuts : change.cuts ≡ passes session.queue change.brought
-  pub cut : session.cut ≡ true → change.brought ≡ []
-
--- each change fits its session
-abbrev pub AreFit : List Session → List SessionChange → Type 0
-AreFit [] changes = Unit {0}
-AreFit (session ∷ sessions) [] = Unit {0}
-AreFit (session ∷ sessions) (change ∷ changes) = IsFit session change × AreFit sessions changes
-
--- a call that was accepted is well formed
-abbrev pub IsWellFormedCall : Option Accepted → Type 0
-IsWellFormedCall None = Unit {0}
-IsWellFormedCall (Some call) = IsTrue (well_formed call.request)

@@ -1,9 +1,6 @@
 pub mod InForce
 pub mod State
-pub mod Changes
-pub mod Codes
 pub mod Asked
 pub mod Kept
-pub mod Settling
 pub mod Next
 pub mod Planned

@@ -15,22 +15,19 @@ use Rattle.mdns_history.specs.declared.entry.Outcome.{Outcome}
 use Rattle.mdns_history.specs.declared.entry.Outcome.TheVariants as outcome
 use Rattle.mdns_history.specs.declared.entry.Entry.{Entry}
 use Rattle.mdns_history.specs.Hearings.{Hearing, counted_records, brought}
-use Rattle.mdns_history.specs.Lifetimes.{live_of, room_for_records}
+use Rattle.mdns_history.specs.Lifetimes.{is_too_full, live_of, room_for_records}
 use Rattle.mdns_history.specs.Sessions.{opened}
 use Rattle.mdns_history.specs.Outcomes.{items_or_empty}
 use Rattle.mdns_history.specs.Fitting.{bad_mark}
 use Rattle.mdns_happened.specs.Told.{Taking, taking_of}
 use Rattle.mdns_cache.specs.Lifetimes.{hearings_at}
 use Rattle.mdns_question.specs.Standing.{mark_of}
-use Rattle.mdns_core.specs.declared.change.SessionChange.{SessionChange}
-use Rattle.mdns_core.specs.State.{Session, State}
-use Rattle.mdns_core.specs.Codes.{kept_outcome, has_number}
+use Rattle.sd_sessions.specs.declared.change.SessionChange.{SessionChange}
+use Rattle.mdns_core.specs.State.{State}
+use Rattle.sd_sessions.specs.Sessions.{Session}
+use Rattle.sd_sessions.specs.Codes.{kept_outcome, has_number}
 use Rattle.mdns_core.specs.Asked.{asked_for, sent_for, questions_after}
-use Rattle.mdns_core.specs.Settling.{change_for, cuts_of, gifts_of, all_settled, remaining, with_opened}
-
--- the records of what is held
-abbrev pub rrs_of : List Held → List Rr
-rrs_of held = map (λ one. one.rr) held
+use Rattle.sd_sessions.specs.Settling.{rrs_of, change_for, cuts_of, gifts_of, all_settled, remaining, with_opened, outcome_then, sessions_after}
 
 -- the changes that an event brings to the sessions, where these records are live after it
 abbrev pub changes_for : State → Event → List Held → List SessionChange
@@ -42,40 +39,6 @@ abbrev pub sessions_then : State → Event → List SessionChange → List Sessi
 sessions_then state event changes =
     let early = kept_outcome state.opened state.sessions event in
     with_opened (opened early) (remaining event early (all_settled state.sessions changes))
-
--- what a take hands over to a session that may be there
-abbrev pub handed_to : ℕ → Option Session → Outcome
-handed_to max None = outcome.Closed
-handed_to max (Some session) = if session.cut then outcome.Cut else items_or_empty (take max session.queue)
-
--- how many items a take may hand over
-abbrev pub most_taken : Option Taking → ℕ
-most_taken None = 0
-most_taken (Some taking) = taking.max
-
--- the outcome of a take, where these are the sessions, or else that which is known early
-abbrev pub outcome_told : Option Taking → Outcome → List Session → Outcome
-outcome_told None early sessions = early
-outcome_told (Some taking) early sessions = handed_to taking.max (find (has_number taking.session) sessions)
-
--- the outcome of an event, where these are the sessions after it
-abbrev pub outcome_then : Event → Outcome → List Session → Outcome
-outcome_then event early sessions = outcome_told (taking_of event) early sessions
-
--- the session of a number without the first items of its queue
-abbrev pub taken_from : ℕ → ℕ → List Session → List Session
-taken_from number max [] = []
-taken_from number max (session ∷ sessions) =
-    if session.number == number then record session { queue = drop max session.queue } ∷ sessions else session ∷ taken_from number max sessions
-
--- the sessions when a take has handed over what it hands over
-abbrev pub sessions_told : Option Taking → List Session → List Session
-sessions_told None sessions = sessions
-sessions_told (Some taking) sessions = taken_from taking.session taking.max sessions
-
--- the sessions when an event has handed over what it hands over
-abbrev pub sessions_after : Event → List Session → List Session
-sessions_after event sessions = sessions_told (taking_of event) sessions
 
 -- the questions that an event asks, where these marks refuse its packet and these records are live after it
 abbrev pub asked_then : State → ℕ → Event → List Mark → List Held → List (Key × Cause)
@@ -130,3 +93,7 @@ are_too_many moment word rrs past = nat_lt room_for_records (length (live_of (he
 pub record IsHeard (moment word : ℕ) (event : Event) (past : List Hearing) (later : List Held) (refusal : List Mark) : Type 0 where
   pub records : IsPermutation later (live_of (heard_with moment word event past) moment)
   pub refused : refusal ≡ refusal_of (is_full moment word event past) event
+
+-- the records that an entry takes in: those of its packet that count, and none where that would leave too many live
+abbrev pub admitted_records : Entry → List Entry → Event → List Rr
+admitted_records entry past ev = if is_too_full entry past then [] else counted_records (brought ev)

@@ -13,31 +13,29 @@ use Rattle.dns_record.specs.declared.record.Key.{Key}
 use Rattle.mdns_history.specs.declared.mark.Cause.{Cause}
 use Rattle.mdns_core.specs.Asked.{asked_told, sent_told, questions_told}
 use Rattle.mdns_core.specs.declared.plan.Plan.{Plan}
-use Rattle.mdns_core.specs.State.{Session}
-use Rattle.mdns_core.specs.Codes.{kept_outcome}
-use Rattle.mdns_core.specs.Settling.{change_told, cuts_of, gifts_of}
-use Rattle.mdns_core.specs.Next.{IsHeard, rrs_of, most_taken}
-use Rattle.mdns_core.specs.Kept.{IsWellFormedCall}
+use Rattle.sd_sessions.specs.Sessions.{Session}
+use Rattle.sd_sessions.specs.Planned as sessions
+use Rattle.sd_sessions.specs.Codes.{kept_outcome}
+use Rattle.sd_sessions.specs.Settling.{change_told, cuts_of, gifts_of, rrs_of, most_taken}
+use Rattle.mdns_core.specs.Next.{IsHeard}
+use Rattle.sd_sessions.specs.Kept.{IsWellFormedCall}
 
 -- the questions that are asked for what is told, where these records are live
 abbrev pub chosen_for : Told → List Tracked → List Held → ℕ → List (Key × Cause)
 chosen_for told questions held now = asked_told told.ticks told.heard questions held now
 
 -- A plan is of an event behind what is kept.
-pub record IsPlan (opened : ℕ) (sessions : List Session) (held : List Held) (questions : List Tracked) (now word : ℕ) (event : Event) (plan : Plan) : Type 0 where
-  pub told : told_by plan.happened ≡ told_of event (kept_outcome opened sessions event) (told_by plan.happened).refusal
+pub record IsPlan (opened : ℕ) (before : List Session) (held : List Held) (questions : List Tracked) (now word : ℕ) (event : Event) (plan : Plan) : Type 0 where
+  pub told : told_by plan.happened ≡ told_of event (kept_outcome opened before event) (told_by plan.happened).refusal
   pub heard : (past : List Hearing) (before : ℕ) → before ≤ now → Holds held past before → IsHeard now word event past plan.cache.held (told_by plan.happened).refusal
   pub limit : plan.cache.limit ≡ room_for_records
   pub within : length plan.cache.held ≤ room_for_records
   pub live : AllLive now plan.cache.held
   pub past : AllHeard now plan.cache.held
   pub «data» : have_data (counted_records (brought event)) ≡ true
-  pub well_formed : IsWellFormedCall (told_by plan.happened).call
-  pub changes : plan.changes.items ≡ map (change_told (told_by plan.happened) (rrs_of held) (rrs_of plan.cache.held)) sessions
+  pub sessions : sessions.IsPlan (told_by plan.happened) (rrs_of held) (rrs_of plan.cache.held) before plan.sessions
   pub tracked : plan.asker.questions
-      ≡ questions_told (told_by plan.happened).call (told_by plan.happened).detached sessions now word (chosen_for (told_by plan.happened) questions plan.cache.held now) questions
-  pub marks : plan.marks ≡ (told_by plan.happened).refusal ++ map mark_of (chosen_for (told_by plan.happened) questions plan.cache.held now) ++ cuts_of plan.changes.items
+      ≡ questions_told (told_by plan.happened).call (told_by plan.happened).detached before now word (chosen_for (told_by plan.happened) questions plan.cache.held now) questions
+  pub marks : plan.marks ≡ (told_by plan.happened).refusal ++ map mark_of (chosen_for (told_by plan.happened) questions plan.cache.held now) ++ cuts_of plan.sessions.changes.items
   pub sent : plan.sent ≡ sent_told (told_by plan.happened).ticks plan.cache.held now (chosen_for (told_by plan.happened) questions plan.cache.held now)
-  pub given : plan.given ≡ gifts_of plan.changes.items
-  pub empty : plan.taken.items ≡ []
-  pub room : most_taken (told_by plan.happened).taking ≤ vec_capacity plan.taken
+  pub given : plan.given ≡ gifts_of plan.sessions.changes.items

@@ -9,6 +9,7 @@ use Rattle.mdns_history.specs.declared.held.Held.{Held}
 use Rattle.mdns_history.specs.declared.entry.Entry.{Entry}
 use Rattle.mdns_history.specs.History.{now}
 use Rattle.mdns_core.specs.InForce.{in_force}
+use Rattle.sd_sessions.specs.Sessions.{Session, sessions_in}
 use Rattle.mdns_history.specs.Lifetimes.{live_records}
 use Rattle.mdns_history.specs.declared.operation.Operation.{Operation}
 use Rattle.mdns_history.specs.Sessions.{opened_count, attached_sessions, operations_of, is_cut}
@@ -20,13 +21,6 @@ use Rattle.mdns_question.specs.Contents.{Contents}
 use Rattle.mdns_question.specs.Next.{next_of}
 use Rattle.mdns_question.specs.Standing as asking
 use Rattle.sd_answer.specs.Laws.{have_data}
-
--- an attached session: its live operations by number, whether it was cut, and the items that are queued for it
-pub record Session : Type 0 where
-  pub number : ℕ
-  pub operations : List Operation
-  pub cut : Bool
-  pub queue : List Item
 
 -- what contracts see of a daemon
 pub record State : Type 0 where
@@ -43,14 +37,6 @@ asker_of questions held = record { questions = questions; held = held; spare = 0
 -- the first moment, from the last one on, at which a held record ends or a question is due
 abbrev pub due_of : State → Option ℕ
 due_of state = option_map (max state.last) (least (map (λ one. one.end) state.held ++ map (next_of state.held) state.questions))
-
--- a session as a history has it
-abbrev pub session_in : List Entry → ℕ → Session
-session_in history number = record { number = number; operations = operations_of number history; cut = is_cut number history; queue = queue number history }
-
--- the attached sessions as a history has them, by number
-abbrev pub sessions_in : List Entry → List Session
-sessions_in history = map (session_in history) (attached_sessions history)
 
 -- A daemon stands for a history: the history is legal and of a daemon without a host, what the daemon keeps is what the history says, and
 -- the data of the records that it holds are as their types allow.

@@ -1,5 +1,5 @@
 // The daemon: it keeps the records that are live and the sessions that are attached, and gives these what changes.
-ghost use Rattle.std.specs.Prelude.{◌≡◌, ◌<◌, ◌≤◌, ◌^◌, ◌∷◌, ◌++◌, [], ℕ, List, max, length, vec_len, vec_capacity, IfOk, IfSome, OnOk, OnErr, Option, Some, None, true, false};
+ghost use Rattle.std.specs.Prelude.{◌≡◌, ◌<◌, ◌≤◌, ◌^◌, ◌∷◌, ◌++◌, [], ℕ, List, max, IfOk, IfSome, OnOk, OnErr, Option, Some, None, true, false};
 ghost use Rattle.std.specs.Option.{is_some, option_map};
 ghost use Rattle.std.specs.List.{find};
 ghost use Rattle.sd_call.specs.Replay.{replay};
@@ -13,22 +13,14 @@ ghost use Rattle.mdns_core.specs.InForce.{in_force};
 ghost use Rattle.mdns_history.specs.Fitting.{Fits, boot_entry, is_boot};
 ghost use Rattle.mdns_history.specs.Due.{NextDue};
 ghost use Rattle.dns_name.specs.Lists.{least};
-ghost use Rattle.mdns_core.specs.Codes.{has_number};
-ghost use Rattle.mdns_happened.specs.Told.{told_by};
-ghost use Rattle.mdns_core.specs.Settling.{shifted_told};
-ghost use Rattle.mdns_core.specs.Next.{outcome_told, sessions_told, most_taken};
-ghost use Rattle.mdns_core.specs.Kept.{sessions_of, HaveRoom, AreFit};
+ghost use Rattle.sd_sessions.specs.Codes.{has_number};
 
-use crate::change::SessionChange;
-use crate::outcomes::find;
 use crate::plan::{Kept, Plan, make_plan};
-use crate::session::SessionState;
-use crate::settle::{finish, make_room, settle};
 use mdns_cache::{Cache, Steps};
-use mdns_happened::{Happened, When};
+use mdns_happened::When;
 use mdns_history::{Config, Entry, Event, Gifts, Marks, Outcome, Sends};
 use mdns_question::{Asker, next_due};
-use sd_call::Item;
+use sd_sessions::Sessions;
 use std::alloc::{AllocError, Global};
 use std::marker::Model;
 use std::sync::ledger::Ledger;
@@ -41,8 +33,7 @@ const ROOM_FOR_RECORDS: usize = 32_768;
 pub struct Daemon {
     alloc: Global,
     last: u64,
-    opened: u64,
-    sessions: Vec<SessionState>,
+    sessions: Sessions,
     cache: Cache,
     asker: Asker,
 }
@@ -55,11 +46,11 @@ impl Model for Daemon {
 
     ghost Value = { State };
 
-    ghost use Rattle.mdns_core.specs.Kept.{sessions_of, HaveWellFormed, HaveGaps};
+    ghost use Rattle.mdns_core.specs.Kept.{HaveGaps};
 
-    ghost view = { λ d. record { last = d.last; opened = d.opened; sessions = sessions_of d.sessions.items; held = d.cache.held; questions = d.asker.questions } };
+    ghost view = { λ d. record { last = d.last; opened = d.sessions.opened; sessions = d.sessions.sessions; held = d.cache.held; questions = d.asker.questions } };
 
-    ghost invariant = { λ d. HaveWellFormed (sessions_of d.sessions.items) × (d.cache.limit ≡ room_for_records) × (length d.cache.held ≤ room_for_records)
+    ghost invariant = { λ d. (d.cache.limit ≡ room_for_records) × (length d.cache.held ≤ room_for_records)
         × AllLive d.last d.cache.held × AllHeard d.last d.cache.held × HaveGaps d.asker.questions };
 }
 
@@ -83,8 +74,7 @@ impl Daemon {
         let daemon = Daemon {
             alloc,
             last: now,
-            opened: 0,
-            sessions: Vec::new(alloc),
+            sessions: Sessions::new(alloc),
             cache: Cache::new(alloc, ROOM_FOR_RECORDS)?,
             asker: Asker::new(alloc),
         };
@@ -112,7 +102,7 @@ impl Daemon {
         ensures value { result ≡ is_some (find (has_number session) self.now.sessions) }
         ensures attached { (history : List Entry) → Stands self.now history → result ≡ is_attached session history }
     {
-        find(&self.sessions, session).is_some()
+        self.sessions.attached(session)
     }
 
     /// The next moment at which something is due, in milliseconds, and no earlier than the last entry: when a live record ends,
@@ -161,13 +151,12 @@ impl Daemon {
         let alloc = self.alloc;
         let when = When { moment: now, word };
         let kept = Kept {
-            opened: self.opened,
             sessions: &self.sessions,
             cache: &self.cache,
             asker: &self.asker,
         };
         let plan = make_plan(alloc, &kept, when, &event, steps)?;
-        prepare(&mut self.sessions, &plan.changes, &plan.happened)?;
+        self.sessions.reserve(&plan.happened, &plan.sessions)?;
         let Plan {
             happened,
             cache,
@@ -175,11 +164,9 @@ impl Daemon {
             marks,
             sent,
             given,
-            changes,
-            taken,
+            sessions,
         } = plan;
-        self.opened = happened.opened().unwrap_or(self.opened);
-        let outcome = carry_out(alloc, &mut self.sessions, &happened, changes, taken);
+        let outcome = self.sessions.apply(&happened, sessions);
         drop(happened);
         self.last = now;
         self.cache = cache;
@@ -213,56 +200,4 @@ fn earlier(one: Option<u64>, other: Option<u64>) -> Option<u64>
         (Some(one), None) => Some(one),
         (None, other) => other,
     }
-}
-
-// Takes all the room that the changes of the sessions need. Nothing else changes. Refused only for want of memory.
-fn prepare(
-    sessions: &mut Vec<SessionState>,
-    changes: &[SessionChange],
-    happened: &Happened<'_>,
-) -> Result<(), AllocError>
-    requires { vec_len sessions.old ≡ length changes.now }
-    ensures same { sessions_of sessions.new.items ≡ sessions_of sessions.old.items }
-    ensures len { vec_len sessions.new ≡ vec_len sessions.old }
-    ensures room { OnOk result (HaveRoom sessions.new.items changes.now) }
-    ensures place { OnOk result (is_some (told_by happened.now).opened ≡ true → vec_len sessions.new < vec_capacity sessions.new) }
-{
-    make_room(sessions, changes)?;
-    make_place(sessions, happened)?;
-    Ok(())
-}
-
-// Makes the changes of the sessions, and ends, opens or takes from one. It takes no memory.
-fn carry_out(
-    alloc: Global,
-    sessions: &mut Vec<SessionState>,
-    happened: &Happened<'_>,
-    changes: Vec<SessionChange>,
-    taken: Vec<Item>,
-) -> Outcome
-    requires length { vec_len sessions.old ≡ vec_len changes }
-    requires room { HaveRoom sessions.old.items changes.items }
-    requires fit { AreFit (sessions_of sessions.old.items) changes.items }
-    requires empty { taken.items ≡ [] }
-    requires taking { most_taken (told_by happened.now).taking ≤ vec_capacity taken }
-    requires opening { is_some (told_by happened.now).opened ≡ true → vec_len sessions.old < vec_capacity sessions.old }
-    ensures outcome { result ≡ outcome_told (told_by happened.now).taking (told_by happened.now).outcome
-        (shifted_told (told_by happened.now) (sessions_of sessions.old.items) changes.items) }
-    ensures sessions { sessions_of sessions.new.items ≡ sessions_told (told_by happened.now).taking
-        (shifted_told (told_by happened.now) (sessions_of sessions.old.items) changes.items) }
-{
-    settle(sessions, changes);
-    finish(alloc, sessions, happened, taken)
-}
-
-// Takes room for the session that was opened. Refused only for want of memory.
-fn make_place(sessions: &mut Vec<SessionState>, happened: &Happened<'_>) -> Result<(), AllocError>
-    ensures items { sessions.new.items ≡ sessions.old.items }
-    ensures len { vec_len sessions.new ≡ vec_len sessions.old }
-    ensures place { OnOk result (is_some (told_by happened.now).opened ≡ true → vec_len sessions.new < vec_capacity sessions.new) }
-{
-    if happened.opened().is_some() {
-        sessions.reserve(1)?;
-    }
-    Ok(())
 }

@@ -6,11 +6,11 @@ ghost use Rattle.mdns_history.specs.Hearings.{Hearing, is_ignored, counted, coun
 ghost use Rattle.mdns_history.specs.Lifetimes.{room_for_records};
 ghost use Rattle.mdns_happened.specs.Told.{told_of, told_by, packet_told};
 ghost use Rattle.mdns_cache.specs.Lifetimes.{Holds};
-ghost use Rattle.mdns_core.specs.Codes.{kept_outcome};
+ghost use Rattle.sd_sessions.specs.Codes.{kept_outcome};
 ghost use Rattle.mdns_core.specs.Next.{refusal_of, is_full, are_too_many};
-ghost use Rattle.mdns_core.specs.Kept.{sessions_of, IsWellFormedCall};
+ghost use Rattle.sd_sessions.specs.Kept.{IsWellFormedCall};
 
-use crate::outcomes::{attach, boot, call, detach, take, tick};
+use crate::outcomes::{boot, take, tick};
 use crate::plan::Kept;
 use dns_message::{Message, MessageError, Rrs, read};
 use dns_record::Rr;
@@ -30,7 +30,7 @@ pub struct Reading<'a> {
 }
 
 /// Reads an event, told of what is kept before it. Nothing else reads it. Refused only for want of memory.
-#[tactic(auto, unfolding(crate::specs::Codes::kept_outcome))]
+#[tactic(auto, unfolding(sd_sessions::specs::Codes::kept_outcome))]
 pub fn read_event<'a>(
     alloc: Global,
     kept: &Kept<'_>,
@@ -40,7 +40,7 @@ pub fn read_event<'a>(
     requires limit { kept.now.cache.now.limit ≡ room_for_records }
     requires within { length kept.now.cache.now.held ≤ room_for_records }
     ensures told { IfOk result (λ reading. told_by reading.happened
-        ≡ told_of event.now (kept_outcome kept.now.opened (sessions_of kept.now.sessions.now) event.now) (told_by reading.happened).refusal) }
+        ≡ told_of event.now (kept_outcome kept.now.sessions.now.opened kept.now.sessions.now.sessions event.now) (told_by reading.happened).refusal) }
     ensures refused { IfOk result (λ reading. (past : List Hearing) (before : ℕ) → before ≤ when.moment → Holds kept.now.cache.now.held past before
         → (told_by reading.happened).refusal ≡ refusal_of (is_full when.moment when.word event.now past) event.now) }
     ensures records { IfOk result (λ reading. reading.records ≡ counted_records (told_by reading.happened).heard) }
@@ -51,13 +51,13 @@ pub fn read_event<'a>(
         Event::Hear { from, bytes } => {
             read_packet(alloc, kept.cache, when, from, bytes.as_slice())
         }
-        Event::Attach => brings_nothing(alloc, attach(kept.opened, kept.sessions.len())),
-        Event::Detach { session } => brings_nothing(alloc, detach(kept.sessions, *session)),
+        Event::Attach => brings_nothing(alloc, kept.sessions.attach()),
+        Event::Detach { session } => brings_nothing(alloc, kept.sessions.detach(*session)),
         Event::Call {
             session,
             op,
             request,
-        } => brings_nothing(alloc, call(kept.sessions, *session, *op, request)),
+        } => brings_nothing(alloc, kept.sessions.call(*session, *op, request)),
         Event::Take { session, max } => brings_nothing(alloc, take(*session, *max)),
         Event::Tick => brings_nothing(alloc, tick()),
         Event::Boot { config } => brings_nothing(alloc, boot(config)),

@@ -1,22 +1,20 @@
 // What an event makes of the questions that are asked for the sessions. (RFC 6762 5.2)
 ghost use Rattle.std.specs.Prelude.{◌≡◌, filter, IsTrue, OnOk};
-ghost use Rattle.std.specs.List.{flat_map, find};
+ghost use Rattle.std.specs.List.{flat_map};
 ghost use Rattle.sd_call.specs.Requests.{well_formed};
 ghost use Rattle.mdns_history.specs.Sessions.{has_op};
 ghost use Rattle.mdns_history.specs.Questions.{keys_of};
 ghost use Rattle.mdns_happened.specs.Told.{told_by};
-ghost use Rattle.mdns_core.specs.Codes.{has_number};
-ghost use Rattle.mdns_core.specs.Asked.{operations_in, begun_keys, ended_told, all_begun, all_ended, all_asked, questions_told};
-ghost use Rattle.mdns_core.specs.Kept.{sessions_of, HaveWellFormed, AreWellFormed, IsWellFormedCall};
+ghost use Rattle.mdns_core.specs.Asked.{begun_keys, ended_told, all_begun, all_ended, all_asked, questions_told};
+ghost use Rattle.sd_sessions.specs.Kept.{AreWellFormed, IsWellFormedCall};
 
-use crate::outcomes::find;
-use crate::session::SessionState;
 use dns_record::Key;
 use mdns_happened::{Happened, When};
 use mdns_history::{Cause, Operation};
 use mdns_question::Asker;
 use sd_answer::questions_of;
 use sd_call::Request;
+use sd_sessions::Sessions;
 use std::alloc::{AllocError, Global};
 
 /// Tells an asker what happened, and which questions are asked: those that a call starts get a user, those that a stop or the
@@ -24,15 +22,14 @@ use std::alloc::{AllocError, Global};
 #[tactic(auto, unfolding(crate::specs::Asked::questions_told))]
 pub fn follow(
     asker: &mut Asker,
-    sessions: &[SessionState],
+    sessions: &Sessions,
     when: When,
     happened: &Happened<'_>,
     asked: &[(Key, Cause)],
 ) -> Result<(), AllocError>
-    requires operations { HaveWellFormed (sessions_of sessions.now) }
     requires call { IsWellFormedCall (told_by happened.now).call }
     ensures questions { OnOk result (asker.new.questions
-        ≡ questions_told (told_by happened.now).call (told_by happened.now).detached (sessions_of sessions.now) when.moment when.word asked.now asker.old.questions) }
+        ≡ questions_told (told_by happened.now).call (told_by happened.now).detached sessions.now.sessions when.moment when.word asked.now asker.old.questions) }
     ensures held { asker.new.held ≡ asker.old.held }
 {
     begin(asker, when, happened)?;
@@ -68,9 +65,8 @@ fn start_all(asker: &mut Asker, when: When, keys: &[Key]) -> Result<(), AllocErr
 }
 
 // Takes a user from the questions of the operations that end.
-fn end(asker: &mut Asker, sessions: &[SessionState], happened: &Happened<'_>)
-    requires { HaveWellFormed (sessions_of sessions.now) }
-    ensures questions { asker.new.questions ≡ all_ended (ended_told (told_by happened.now).call (told_by happened.now).detached (sessions_of sessions.now)) asker.old.questions }
+fn end(asker: &mut Asker, sessions: &Sessions, happened: &Happened<'_>)
+    ensures questions { asker.new.questions ≡ all_ended (ended_told (told_by happened.now).call (told_by happened.now).detached sessions.now.sessions) asker.old.questions }
     ensures held { asker.new.held ≡ asker.old.held }
 {
     match happened {
@@ -79,21 +75,9 @@ fn end(asker: &mut Asker, sessions: &[SessionState], happened: &Happened<'_>)
             op,
             request: Request::Stop,
             code: 0,
-        } => stop_one(asker, operations_of(sessions, *session), *op),
-        Happened::Detached { session } => stop_all(asker, operations_of(sessions, *session)),
+        } => stop_one(asker, sessions.operations(*session), *op),
+        Happened::Detached { session } => stop_all(asker, sessions.operations(*session)),
         _ => {}
-    }
-}
-
-// The operations of the session of a number, none where it isn't attached.
-fn operations_of(sessions: &[SessionState], number: u64) -> &[Operation]
-    requires { HaveWellFormed (sessions_of sessions.now) }
-    ensures operations { result.now ≡ operations_in (find (has_number number) (sessions_of sessions.now)) }
-    ensures well_formed { AreWellFormed result.now }
-{
-    match find(sessions, number) {
-        Some(session) => session.operations.as_slice(),
-        None => &[],
     }
 }
 

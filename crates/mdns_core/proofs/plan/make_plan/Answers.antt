@@ -5,21 +5,21 @@ use Rattle.mdns_history.specs.declared.held.Held.{Held}
 use Rattle.mdns_history.specs.declared.mark.Cause.{Cause}
 use Rattle.mdns_history.specs.Hearings.{counted_records}
 use Rattle.mdns_question.specs.declared.tracked.Tracked.{Tracked}
-use Rattle.mdns_core.specs.State.{Session}
+use Rattle.sd_sessions.specs.Sessions.{Session}
+use Rattle.sd_sessions.specs.Planned as sessions
 use Rattle.mdns_happened.specs.Told.{Told, told_by}
 use Rattle.mdns_question.specs.Standing.{mark_of}
 use Rattle.mdns_core.specs.Asked.{sent_told, questions_told}
-use Rattle.mdns_core.specs.Settling.{change_told, cuts_of, gifts_of}
-use Rattle.mdns_core.specs.Next.{rrs_of}
+use Rattle.sd_sessions.specs.Settling.{change_told, cuts_of, gifts_of, rrs_of}
 use Rattle.mdns_core.specs.Planned.{chosen_for}
-use Rattle.mdns_core.specs.Kept.{sessions_of}
+use Rattle.sd_sessions.specs.Kept.{sessions_of}
 use Rattle.mdns_core.proofs.HeardPackets.{heard-read}
 use Rattle.mdns_core.proofs.plan.make_plan.Goals as goal
 
 pub returns : goal.returns
 returns g c =
     let told : Told = told_by c.in_ok-happened.field-0.happened in
-    let sessions : List Session = sessions_of c.args.kept.now.sessions.now in
+    let before_it : List Session = c.args.kept.now.sessions.now.sessions in
     let questions : List Tracked = c.args.kept.now.asker.now.questions in
     let now : ℕ = c.args.when.moment in
     let earlier : c.held.result.now ≡ c.args.kept.now.cache.now.held = c.held.ensures in
@@ -37,13 +37,11 @@ returns g c =
       live = c.in_ok-cache.ensures.live;
       past = c.in_ok-cache.ensures.past;
       «data» = c.in_ok-happened.ensures.parts;
-      well_formed = c.in_ok-happened.ensures.well_formed;
-      changes = c.in_ok-changes.ensures ∙ (λ i. map (change_told told (rrs_of (earlier i)) (rrs_of (later i))) sessions);
+      sessions = subst (λ (held : List Held). sessions.IsPlan told (rrs_of held) (rrs_of c.in_ok-cache.cache.held) before_it c.in_ok-sessions.sessions) earlier
+          (subst (λ (held : List Held). sessions.IsPlan told (rrs_of c.held.result.now) (rrs_of held) before_it c.in_ok-sessions.sessions) later c.in_ok-sessions.ensures);
       tracked = c.in_ok-asking.ensures.questions
-          ∙ ap (λ (chosen : List (Key × Cause)). questions_told told.call told.detached sessions now c.args.when.word chosen questions) asked;
-      marks = c.in_ok-marks.ensures ∙ (λ i. told.refusal ++ map mark_of ((c.deref.ensures.value ∙ asked) i) ++ cuts_of (c.deref-2.ensures.value i));
+          ∙ ap (λ (chosen : List (Key × Cause)). questions_told told.call told.detached before_it now c.args.when.word chosen questions) asked;
+      marks = c.in_ok-marks.ensures ∙ (λ i. told.refusal ++ map mark_of ((c.deref.ensures.value ∙ asked) i) ++ cuts_of c.in_ok-sessions.sessions.changes.items);
       sent = c.in_ok-asking.ensures.sent ∙ (λ i. sent_told told.ticks (later i) now (asked i));
-      given = c.in_ok-given.ensures ∙ ap gifts_of c.deref-3.ensures.value;
-      empty = c.in_ok-taken.ensures.items;
-      room = c.in_ok-taken.ensures.room;
+      given = c.in_ok-given.ensures;
     }

@@ -1,5 +1,5 @@
 use Rattle.std.proofs.Common.{◌∙◌}
-use Rattle.mdns_core.proofs.Nexts.{formed-next}
+use Rattle.sd_sessions.proofs.Nexts.{formed-next}
 use Rattle.mdns_core.proofs.Tracked.{stopped-next}
 use Rattle.mdns_core.proofs.tracking.stop_all.Goals as goal
 

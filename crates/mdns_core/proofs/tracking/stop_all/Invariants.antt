@@ -2,7 +2,7 @@ use Rattle.std.proofs.Common.{◌≡◌, drop}
 use Rattle.std.specs.List.{flat_map}
 use Rattle.mdns_history.specs.Questions.{keys_of}
 use Rattle.mdns_core.specs.Asked.{all_ended}
-use Rattle.mdns_core.specs.Kept.{AreWellFormed}
+use Rattle.sd_sessions.specs.Kept.{AreWellFormed}
 use Rattle.mdns_core.proofs.tracking.stop_all.Given as goal
 
 abbrev pub invariant-loop-operation : goal.invariant-loop-operation

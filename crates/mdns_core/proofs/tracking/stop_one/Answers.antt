@@ -3,7 +3,7 @@ use Rattle.std.proofs.lemmas.Bool.Decides.{nat_tests}
 use Rattle.std.specs.List.{filter}
 use Rattle.mdns_history.specs.Sessions.{has_op}
 use Rattle.mdns_core.specs.Asked.{all_ended}
-use Rattle.mdns_core.proofs.Nexts.{formed-next}
+use Rattle.sd_sessions.proofs.Nexts.{formed-next}
 use Rattle.mdns_core.proofs.Tracked.{keys_in, found-next, passed-next}
 use Rattle.mdns_core.proofs.tracking.stop_one.Goals as goal
 use Rattle.mdns_core.proofs.tracking.stop_one.Goals.{then-operation-op, else-operation-op}

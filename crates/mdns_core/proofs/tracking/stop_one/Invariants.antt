@@ -3,7 +3,7 @@ use Rattle.std.specs.List.{filter, flat_map}
 use Rattle.mdns_history.specs.Sessions.{has_op}
 use Rattle.mdns_history.specs.Questions.{keys_of}
 use Rattle.mdns_core.specs.Asked.{all_ended}
-use Rattle.mdns_core.specs.Kept.{AreWellFormed}
+use Rattle.sd_sessions.specs.Kept.{AreWellFormed}
 use Rattle.mdns_core.proofs.tracking.stop_one.Given as goal
 
 abbrev pub invariant-loop-operation : goal.invariant-loop-operation

@@ -1,6 +1,0 @@
-use Rattle.std.proofs.Common.{◌≡◌, ◌++◌, take}
-use Rattle.mdns_core.specs.Settling.{cuts_of}
-use Rattle.mdns_core.proofs.change.put_cuts.Given as goal
-
-abbrev pub invariant-loop-change : goal.invariant-loop-change
-invariant-loop-change l = l.marks ≡ l.initial.marks ++ cuts_of (take l.change-index l.changes)

@@ -1,0 +1,125 @@
+-- Accepted calls leave operations that ask for something well formed.
+use Rattle.std.proofs.Common.{ℕ, Bool, true, false, cond, not, ◌&&◌, List, [], ◌∷◌, ◌++◌, map, drop, Option, Some, None}
+use Rattle.std.specs.List.{find}
+use Rattle.dns_record.specs.declared.record.Rr.{Rr}
+use Rattle.mdns_happened.specs.Told.{Told, Taking}
+use Rattle.sd_sessions.specs.Sessions.{Session}
+use Rattle.std.specs.Prelude.{filter, IsTrue, ◌==◌}
+use Rattle.std.specs.Option.{unwrap_or}
+use Rattle.std.specs.Ordering.{is_lt}
+use Rattle.dns_name.specs.Lists.{insert_by}
+use Rattle.sd_call.specs.declared.request.Request.{Request}
+use Rattle.sd_call.specs.declared.request.Request.TheVariants as request
+use Rattle.sd_name.specs.ServiceTypes.{service_type, is_service_label}
+use Rattle.sd_call.specs.Requests.{well_formed, has_subtypes_up_to, with_txt}
+use Rattle.mdns_history.specs.declared.operation.Operation.{Operation}
+use Rattle.mdns_history.specs.Sessions.{Accepted, by_op, has_op, updated, after_request}
+use Rattle.sd_sessions.specs.Settling.{called, change_told, all_settled, remaining_but, opened_session, with_opened, shifted_told, taken_from, sessions_told}
+use Rattle.sd_sessions.specs.Kept.{AreWellFormed, HaveWellFormed, IsWellFormedCall, operations_in}
+
+formed-insert : (o : Operation) (os : List Operation) → IsTrue (well_formed o.request) → AreWellFormed os → AreWellFormed (insert_by by_op o os)
+formed-insert o [] one all = (one, tt)
+formed-insert o (p ∷ os) one all = at (is_lt (by_op p o)) (formed-insert o os one all.1)
+  where
+    at : (b : Bool) → AreWellFormed (insert_by by_op o os) → AreWellFormed (cond b (p ∷ insert_by by_op o os) (o ∷ p ∷ os))
+    at true rest = (all.0, rest)
+    at false rest = (one, all)
+
+formed-filter : (test : Operation → Bool) (os : List Operation) → AreWellFormed os → AreWellFormed (filter test os)
+formed-filter test [] all = tt
+formed-filter test (o ∷ os) all = at (test o) (formed-filter test os all.1)
+  where
+    at : (b : Bool) → AreWellFormed (filter test os) → AreWellFormed (cond b (o ∷ filter test os) (filter test os))
+    at true rest = (all.0, rest)
+    at false rest = rest
+
+last_of_four : (a b c d e : Bool) → IsTrue (a && b && c && d) → IsTrue e → IsTrue (a && b && c && e)
+last_of_four true true true d e h k = k
+last_of_four true true false d e h k = h
+last_of_four true false c d e h k = h
+last_of_four false b c d e h k = h
+
+formed-txt : (txt : List ℕ) (r : Request) → IsTrue (well_formed (request.Update txt)) → IsTrue (well_formed r) → IsTrue (well_formed (with_txt txt r))
+formed-txt txt (request.Query kind name) t h = h
+formed-txt txt (request.Browse regtype) t h = h
+formed-txt txt (request.Resolve label regtype) t h = h
+formed-txt txt (request.Address families name) t h = h
+formed-txt txt (request.Register label regtype port norename before) t h = last_of_four (is_service_label label) (has_subtypes_up_to 16 (service_type regtype)) (not (port == 0)) (well_formed (request.Update before)) (well_formed (request.Update txt)) h t
+formed-txt txt (request.Update other) t h = h
+formed-txt txt request.Stop t h = h
+
+formed-updated : (op : ℕ) (txt : List ℕ) (os : List Operation) → IsTrue (well_formed (request.Update txt)) → AreWellFormed os → AreWellFormed (map (updated op txt) os)
+formed-updated op txt [] t all = tt
+formed-updated op txt (o ∷ os) t all = (at (has_op op o), formed-updated op txt os t all.1)
+  where
+    at : (b : Bool) → IsTrue (well_formed (cond b (with_txt txt o.request) o.request))
+    at true = formed-txt txt o.request t all.0
+    at false = all.0
+
+formed-request : (session op : ℕ) (r : Request) (os : List Operation) → IsTrue (well_formed r) → AreWellFormed os → AreWellFormed (after_request session op r os)
+formed-request session op (request.Query kind name) os h all = formed-insert _ os h all
+formed-request session op (request.Browse regtype) os h all = formed-insert _ os h all
+formed-request session op (request.Resolve label regtype) os h all = formed-insert _ os h all
+formed-request session op (request.Address families name) os h all = formed-insert _ os h all
+formed-request session op (request.Register label regtype port norename txt) os h all = formed-insert _ os h all
+formed-request session op (request.Update txt) os h all = formed-updated op txt os h all
+formed-request session op request.Stop os h all = formed-filter (λ o. not (has_op op o)) os all
+
+-- the operations of a session after a call, or else before it
+pub formed-called : (call : Option Accepted) (number : ℕ) (os : List Operation) → IsWellFormedCall call → AreWellFormed os → AreWellFormed (unwrap_or (called call number os) os)
+formed-called None number os h all = all
+formed-called (Some call) number os h all = at (call.session == number)
+  where
+    at : (b : Bool) → AreWellFormed (unwrap_or (cond b (Some (after_request number call.op call.request os)) None) os)
+    at true = formed-request number call.op call.request os h all
+    at false = all
+
+-- what a session asks for is well formed
+pub formed-found : (test : Session → Bool) (sessions : List Session) → HaveWellFormed sessions → AreWellFormed (operations_in (find test sessions))
+formed-found test [] formed = tt
+formed-found test (session ∷ sessions) formed = of (test session) (formed-found test sessions formed.1)
+  where
+    of : (b : Bool) → AreWellFormed (operations_in (find test sessions)) → AreWellFormed (operations_in (cond b (Some session) (find test sessions)))
+    of true others = formed.0
+    of false others = others
+
+module _ (told : Told) (earlier later : List Rr) (call : IsWellFormedCall told.call) where
+  formed-settled : (sessions : List Session) → HaveWellFormed sessions → HaveWellFormed (all_settled sessions (map (change_told told earlier later) sessions))
+  formed-settled [] all = tt
+  formed-settled (session ∷ sessions) all = (formed-called told.call session.number session.operations call all.0, formed-settled sessions all.1)
+
+formed-kept : (test : Session → Bool) (sessions : List Session) → HaveWellFormed sessions → HaveWellFormed (filter test sessions)
+formed-kept test [] all = tt
+formed-kept test (session ∷ sessions) all = at (test session) (formed-kept test sessions all.1)
+  where
+    at : (b : Bool) → HaveWellFormed (filter test sessions) → HaveWellFormed (cond b (session ∷ filter test sessions) (filter test sessions))
+    at true rest = (all.0, rest)
+    at false rest = rest
+
+formed-opened : (o : Option ℕ) (sessions : List Session) → HaveWellFormed sessions → HaveWellFormed (with_opened o sessions)
+formed-opened None sessions all = all
+formed-opened (Some n) sessions all = behind sessions all
+  where
+    behind : (ss : List Session) → HaveWellFormed ss → HaveWellFormed (ss ++ opened_session n ∷ [])
+    behind [] h = (tt, tt)
+    behind (s ∷ ss) h = (h.0, behind ss h.1)
+
+formed-taken : (number max : ℕ) (sessions : List Session) → HaveWellFormed sessions → HaveWellFormed (taken_from number max sessions)
+formed-taken number max [] all = tt
+formed-taken number max (session ∷ sessions) all = at (session.number == number) (formed-taken number max sessions all.1)
+  where
+    at : (b : Bool) → HaveWellFormed (taken_from number max sessions) → HaveWellFormed (cond b (record session { queue = drop max session.queue } ∷ sessions) (session ∷ taken_from number max sessions))
+    at true rest = (all.0, all.1)
+    at false rest = (all.0, rest)
+
+formed-handed : (taking : Option Taking) (sessions : List Session) → HaveWellFormed sessions → HaveWellFormed (sessions_told taking sessions)
+formed-handed None sessions all = all
+formed-handed (Some taking) sessions all = formed-taken taking.session taking.max sessions all
+
+-- the operations of the sessions that are left ask for something well formed
+pub formed-left : (told : Told) (earlier later : List Rr) (sessions : List Session) → IsWellFormedCall told.call → HaveWellFormed sessions
+    → HaveWellFormed (sessions_told told.taking (shifted_told told sessions (map (change_told told earlier later) sessions)))
+formed-left told earlier later sessions call all =
+    formed-handed told.taking (shifted_told told sessions (map (change_told told earlier later) sessions))
+    (formed-opened told.opened (remaining_but told.detached (all_settled sessions (map (change_told told earlier later) sessions)))
+    (formed-kept _ (all_settled sessions (map (change_told told earlier later) sessions)) (formed-settled told earlier later call sessions all)))

@@ -1,0 +1,50 @@
+-- One element more in the lists that loops go over.
+use Rattle.std.proofs.Common.{◌≡◌, ℕ, suc, ◌+◌, ◌<◌, Bool, true, false, cond, List, [], ◌∷◌, ◌++◌, map, take, drop, length, get_or, refl, ap, subst, ◌∙◌, sym, append-nil, add-one}
+use Rattle.std.specs.Prelude.{filter, IsTrue}
+use Rattle.std.specs.List.{flat_map}
+use Rattle.std.proofs.lemmas.List.{take_more, map-append}
+use Rattle.std.proofs.lemmas.List.Concat.{flat_map-append}
+use Rattle.std.proofs.lemmas.List.Elements.{filter-append}
+use Rattle.std.proofs.Math.Seq.{drop-cons}
+use Rattle.mdns_history.specs.declared.operation.Operation.{Operation}
+use Rattle.sd_call.specs.Requests.{well_formed}
+use Rattle.sd_sessions.specs.Kept.{AreWellFormed}
+
+pub take-next : {X : Type 0} (xs : List X) (i : ℕ) (x : X) → i < length xs → x ≡ get_or xs i x → take (i + 1) xs ≡ take i xs ++ x ∷ []
+take-next xs i x h e = take_more xs i x h ∙ ap (λ y. take i xs ++ y ∷ []) (sym e)
+
+pub flat_map-next : {X Y : Type 0} (f : X → List Y) (xs : List X) (i : ℕ) (x : X) → i < length xs → x ≡ get_or xs i x →
+    flat_map f (take (i + 1) xs) ≡ flat_map f (take i xs) ++ f x
+flat_map-next f xs i x h e =
+    ap (flat_map f) (take-next xs i x h e) ∙ flat_map-append f (take i xs) (x ∷ []) ∙ ap (λ z. flat_map f (take i xs) ++ z) (append-nil (f x))
+
+pub drop-next : {X : Type 0} (xs : List X) (i : ℕ) (x : X) → i < length xs → x ≡ get_or xs i x → drop i xs ≡ x ∷ drop (i + 1) xs
+drop-next xs i x h e = drop-cons xs i x h ∙ ap (λ y. y ∷ drop (suc i) xs) (sym e) ∙ ap (λ n. x ∷ drop n xs) (sym (add-one i))
+
+-- of operations that are well formed the next is, and so are those behind it
+pub formed-next : (os : List Operation) (i : ℕ) (o : Operation) → i < length os → o ≡ get_or os i o → AreWellFormed (drop i os) →
+    IsTrue (well_formed o.request) × AreWellFormed (drop (i + 1) os)
+formed-next os i o h e formed = subst AreWellFormed (drop-next os i o h e) formed
+
+-- a filter before a map
+pub filter_map_swap : {X Y : Type 0} (p : Y → Bool) (f : X → Y) (xs : List X) → filter p (map f xs) ≡ map f (filter (λ x. p (f x)) xs)
+filter_map_swap p f [] = refl
+filter_map_swap p f (x ∷ xs) = at (p (f x)) (filter_map_swap p f xs)
+  where
+    at : (b : Bool) → filter p (map f xs) ≡ map f (filter (λ y. p (f y)) xs) →
+        cond b (f x ∷ filter p (map f xs)) (filter p (map f xs)) ≡ map f (cond b (x ∷ filter (λ y. p (f y)) xs) (filter (λ y. p (f y)) xs))
+    at true ih = ap (λ ys. f x ∷ ys) ih
+    at false ih = ih
+
+-- one element more of those that pass a test, as they are mapped
+pub kept_next : {X Y : Type 0} (p : X → Bool) (f : X → Y) (xs : List X) (i : ℕ) (x : X) → i < length xs → x ≡ get_or xs i x → p x ≡ true →
+    map f (filter p (take (i + 1) xs)) ≡ map f (filter p (take i xs)) ++ f x ∷ []
+kept_next p f xs i x h e passes =
+    ap (λ ys. map f (filter p ys)) (take-next xs i x h e) ∙ ap (map f) (filter-append p (take i xs) (x ∷ [])) ∙ ap (λ b. map f (filter p (take i xs) ++ cond b (x ∷ []) [])) passes
+    ∙ map-append f (filter p (take i xs)) (x ∷ [])
+
+pub passed_next : {X Y : Type 0} (p : X → Bool) (f : X → Y) (xs : List X) (i : ℕ) (x : X) → i < length xs → x ≡ get_or xs i x → p x ≡ false →
+    map f (filter p (take (i + 1) xs)) ≡ map f (filter p (take i xs))
+passed_next p f xs i x h e fails =
+    ap (λ ys. map f (filter p ys)) (take-next xs i x h e) ∙ ap (map f) (filter-append p (take i xs) (x ∷ [])) ∙ ap (λ b. map f (filter p (take i xs) ++ cond b (x ∷ []) [])) fails
+    ∙ ap (map f) (append-nil (filter p (take i xs)))

@@ -1,0 +1,33 @@
+use Rattle.std.proofs.Common.{◌≡◌, ◌∙◌, List, map, ap, subst, sym}
+use Rattle.dns_record.specs.declared.record.Rr.{Rr}
+use Rattle.mdns_happened.specs.Told.{Told, told_by}
+use Rattle.sd_sessions.specs.declared.change.SessionChange.{SessionChange}
+use Rattle.sd_sessions.specs.Sessions.{Session, State}
+use Rattle.sd_sessions.specs.Settling.{change_told, sessions_told, shifted_told}
+use Rattle.sd_sessions.specs.Kept.{sessions_of, HasRoom, HaveWellFormed}
+use Rattle.sd_sessions.proofs.Rooms.{room-kept}
+use Rattle.sd_sessions.proofs.Settled.{planned-fit}
+use Rattle.sd_sessions.proofs.Formed.{formed-left}
+use Rattle.sd_sessions.proofs.sessions.Sessions.apply.Goals as goal
+
+pub carry_out-outcome-requires-clause-room : goal.carry_out-outcome-requires-clause-room
+carry_out-outcome-requires-clause-room c =
+    room-kept c.self.inside.attached.items c.args.plan.changes.items (subst (λ (s : State). HasRoom s.room c.args.plan.changes.items) (sym c.self.view_is) c.requires.ready.queues)
+
+pub carry_out-outcome-requires-clause-fit : goal.carry_out-outcome-requires-clause-fit
+carry_out-outcome-requires-clause-fit c =
+    let told : Told = told_by c.args.happened.now in
+    planned-fit told c.requires.planned.0 c.requires.planned.1 (sessions_of c.self.inside.attached.items) c.args.plan.changes.items
+    (c.requires.planned.2.changes ∙ ap (λ (s : State). map (change_told told c.requires.planned.0 c.requires.planned.1) s.sessions) (sym c.self.view_is))
+
+pub invariant_of-self : goal.invariant_of-self
+invariant_of-self c =
+    let told : Told = told_by c.args.happened.now in
+    let earlier : List Rr = c.requires.planned.0 in
+    let later : List Rr = c.requires.planned.1 in
+    let ss : List Session = sessions_of c.self.inside.attached.items in
+    let changed : c.args.plan.changes.items ≡ map (change_told told earlier later) ss =
+    c.requires.planned.2.changes ∙ ap (λ (s : State). map (change_told told earlier later) s.sessions) (sym c.self.view_is) in
+    let left : sessions_of c.carry_out-outcome.new.sessions.items ≡ sessions_told told.taking (shifted_told told ss (map (change_told told earlier later) ss)) =
+    c.carry_out-outcome.ensures.sessions ∙ ap (λ (cs : List SessionChange). sessions_told told.taking (shifted_told told ss cs)) changed in
+    subst HaveWellFormed (sym left) (formed-left told earlier later ss c.requires.planned.2.call c.self.invariant)

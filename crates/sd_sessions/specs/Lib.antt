@@ -1,0 +1,6 @@
+pub mod Sessions
+pub mod Codes
+pub mod Changes
+pub mod Settling
+pub mod Kept
+pub mod Planned

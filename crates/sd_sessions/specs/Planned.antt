@@ -1,0 +1,25 @@
+-- What a plan says, and that there is room for it.
+use Rattle.std.specs.Prelude.{◌≡◌, ℕ, ◌<◌, ◌≤◌, true, List, [], map, vec_capacity}
+use Rattle.std.specs.Option.{is_some}
+use Rattle.dns_record.specs.declared.record.Rr.{Rr}
+use Rattle.mdns_happened.specs.Told.{Told}
+use Rattle.sd_sessions.specs.declared.sessions.Plan.{Plan}
+use Rattle.sd_sessions.specs.Sessions.{Session, State}
+use Rattle.sd_sessions.specs.Settling.{change_told, most_taken}
+use Rattle.sd_sessions.specs.Kept.{HasRoom, IsWellFormedCall}
+
+-- A plan is of what happened to these sessions, between the records before it and those after it.
+pub record IsPlan (told : Told) (earlier later : List Rr) (sessions : List Session) (plan : Plan) : Type 0 where
+  pub changes : plan.changes.items ≡ map (change_told told earlier later) sessions
+  pub call : IsWellFormedCall told.call
+  pub empty : plan.taken.items ≡ []
+  pub room : most_taken told.taking ≤ vec_capacity plan.taken
+
+-- There is room for a plan: in each queue, and for a session that is opened.
+pub record IsReady (told : Told) (plan : Plan) (state : State) : Type 0 where
+  pub queues : HasRoom state.room plan.changes.items
+  pub place : is_some told.opened ≡ true → 0 < state.places
+
+-- A plan is of what happened to these sessions, between some records before it and after it.
+abbrev pub IsAnyPlan : Told → List Session → Plan → Type 0
+IsAnyPlan told sessions plan = (earlier : List Rr) × (later : List Rr) × IsPlan told earlier later sessions plan

@@ -1,0 +1,14 @@
+//! The sessions of a daemon: what they ask for, what they are brought, and what is queued for them.
+#![tactic(auto)]
+
+mod change;
+mod codes;
+mod items;
+mod running;
+mod session;
+mod sessions;
+mod settle;
+
+pub use change::SessionChange;
+pub use items::Around;
+pub use sessions::{Plan, Sessions};

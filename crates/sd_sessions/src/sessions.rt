@@ -1,0 +1,265 @@
+// The attached sessions of a daemon.
+ghost use Rattle.std.specs.Prelude.{◌≡◌, ◌+◌, ◌++◌, ◌^◌, ◌||◌, ◌<◌, ◌≤◌, [], length, nat_le, vec_len, vec_capacity, true, IfOk, OnOk, if◌then◌else◌};
+ghost use Rattle.std.specs.List.{find};
+ghost use Rattle.std.specs.Option.{is_some, unwrap_or};
+ghost use Rattle.mdns_happened.specs.Told.{told_of, told_by};
+ghost use Rattle.sd_sessions.specs.Codes.{call_outcome_of, has_number};
+ghost use Rattle.sd_sessions.specs.Settling.{cuts_of, gifts_of, most_taken, outcome_told, rrs_of, sessions_told, shifted_told};
+ghost use Rattle.sd_sessions.specs.Kept.{operations_in, session_of, sessions_of, AreFit, AreWellFormed, HaveRoom, IsWellFormedCall};
+ghost use Rattle.sd_sessions.specs.Planned.{IsPlan, IsAnyPlan, IsReady};
+
+use crate::change::{SessionChange, changes, gifts, put_cuts};
+use crate::codes::call_code;
+use crate::items::Around;
+use crate::session::{SessionState, find};
+use crate::settle::{finish, make_room, settle};
+use mdns_happened::{Happened, Idle};
+use mdns_history::{Event, Gifts, Marks, Operation, Outcome};
+use sd_call::{Item, Request};
+use std::alloc::{AllocError, Global};
+use std::marker::Model;
+
+/// The most sessions at a time.
+const MOST_SESSIONS: usize = 64;
+
+/// The most sessions of a daemon over its life.
+const MOST_OPENED: u64 = 1 << 63;
+
+/// The sessions of a daemon: how many were opened, and those that are attached, by number.
+#[derive(Drop)]
+pub struct Sessions {
+    alloc: Global,
+    opened: u64,
+    attached: Vec<SessionState>,
+}
+
+/// What an event changes in the sessions, in their order, and room for what a take hands over.
+#[derive(Drop)]
+pub struct Plan {
+    pub changes: Vec<SessionChange>,
+    pub taken: Vec<Item>,
+}
+
+impl Model for Sessions {
+    ghost use Rattle.std.specs.Prelude.{◌-◌, map, vec_len, vec_capacity};
+    ghost use Rattle.sd_sessions.specs.Sessions.{State};
+    ghost use Rattle.sd_sessions.specs.Kept.{sessions_of, HaveWellFormed};
+
+    ghost Value = { State };
+
+    ghost view = { λ s. record {
+      opened = s.opened;
+      sessions = sessions_of s.attached.items;
+      room = map (λ one. one.outbox.spare) s.attached.items;
+      places = vec_capacity s.attached - vec_len s.attached;
+    } };
+
+    ghost invariant = { λ s. HaveWellFormed (sessions_of s.attached.items) };
+}
+
+impl Sessions {
+    /// No sessions.
+    pub fn new(alloc: Global) -> Sessions
+        ensures opened { result.opened ≡ 0 }
+        ensures sessions { result.sessions ≡ [] }
+    {
+        Sessions {
+            alloc,
+            opened: 0,
+            attached: Vec::new(alloc),
+        }
+    }
+
+    /// Whether a session is attached.
+    pub fn attached(&self, session: u64) -> bool
+        ensures { result ≡ is_some (find (has_number session) self.now.sessions) }
+    {
+        find(&self.attached, session).is_some()
+    }
+
+    /// The live operations of a session, by number; none where it isn't attached.
+    pub fn operations(&self, session: u64) -> &[Operation]
+        ensures operations { result.now ≡ operations_in (find (has_number session) self.now.sessions) }
+        ensures well_formed { AreWellFormed result.now }
+    {
+        match find(&self.attached, session) {
+            Some(session) => session.operations.as_slice(),
+            None => &[],
+        }
+    }
+
+    /// What an attach amounts to: a session is opened, unless 64 are attached, or 2^63 were opened.
+    pub fn attach<'a>(&self) -> Happened<'a>
+        ensures { told_by result ≡ told_of Event.Attach
+            (if nat_le 64 (length self.now.sessions) || nat_le (2 ^ 63) self.now.opened then Outcome.Full else Outcome.Opened (self.now.opened + 1)) [] }
+    {
+        if self.attached.len() >= MOST_SESSIONS || self.opened >= MOST_OPENED {
+            Happened::Nothing { why: Idle::Full }
+        } else {
+            Happened::Opened {
+                session: self.opened + 1,
+            }
+        }
+    }
+
+    /// What a detach amounts to.
+    pub fn detach<'a>(&self, session: u64) -> Happened<'a>
+        ensures { told_by result ≡ told_of (Event.Detach session) (if is_some (find (has_number session) self.now.sessions) then Outcome.Ended else Outcome.Closed) [] }
+    {
+        if self.attached(session) {
+            Happened::Detached { session }
+        } else {
+            Happened::Nothing { why: Idle::Closed }
+        }
+    }
+
+    /// What a call amounts to.
+    pub fn call<'a>(&self, session: u64, op: u32, request: &'a Request) -> Happened<'a>
+        ensures told { told_by result ≡ told_of (Event.Call session op request.now) (call_outcome_of (find (has_number session) self.now.sessions) op request.now) [] }
+        ensures well_formed { IsWellFormedCall (told_by result).call }
+    {
+        match find(&self.attached, session) {
+            Some(state) => call_of(state, session, op, request),
+            None => Happened::Nothing { why: Idle::Closed },
+        }
+    }
+
+    /// What an event changes in the sessions, where these records are held before it and after it. Nothing is changed. Refused
+    /// only for want of memory.
+    pub fn plan(&self, happened: &Happened<'_>, held: Around<'_>) -> Result<Plan, AllocError>
+        requires { IsWellFormedCall (told_by happened.now).call }
+        ensures { IfOk result (λ plan. IsPlan (told_by happened.now) (rrs_of held.entry.earlier.now) (rrs_of held.entry.later.now) self.now.sessions plan) }
+    {
+        let changes = changes(self.alloc, &self.attached, happened, held)?;
+        let taken = room_to_take(self.alloc, happened)?;
+        Ok(Plan { changes, taken })
+    }
+
+    /// Takes the room that a plan needs. Nothing else changes. Refused only for want of memory.
+    pub fn reserve(&mut self, happened: &Happened<'_>, plan: &Plan) -> Result<(), AllocError>
+        requires { length self.old.sessions ≡ length plan.now.changes.items }
+        ensures opened { self.new.opened ≡ self.old.opened }
+        ensures sessions { self.new.sessions ≡ self.old.sessions }
+        ensures ready { OnOk result (IsReady (told_by happened.now) plan.now self.new) }
+    {
+        prepare(&mut self.attached, &plan.changes, happened)?;
+        Ok(())
+    }
+
+    /// Carries a plan out, and answers how the event went. It takes no memory.
+    pub fn apply(&mut self, happened: &Happened<'_>, plan: Plan) -> Outcome
+        requires planned { IsAnyPlan (told_by happened.now) self.old.sessions plan }
+        requires ready { IsReady (told_by happened.now) plan self.old }
+        ensures opened { self.new.opened ≡ unwrap_or (told_by happened.now).opened self.old.opened }
+        ensures outcome { result ≡ outcome_told (told_by happened.now).taking (told_by happened.now).outcome
+            (shifted_told (told_by happened.now) self.old.sessions plan.changes.items) }
+        ensures sessions { self.new.sessions ≡ sessions_told (told_by happened.now).taking
+            (shifted_told (told_by happened.now) self.old.sessions plan.changes.items) }
+    {
+        let outcome = carry_out(
+            self.alloc,
+            &mut self.attached,
+            happened,
+            plan.changes,
+            plan.taken,
+        );
+        self.opened = happened.opened().unwrap_or(self.opened);
+        outcome
+    }
+}
+
+impl Plan {
+    /// Puts the marks of the sessions that are cut behind others. Refused only for want of memory.
+    pub fn put_cuts(&self, marks: &mut Marks) -> Result<(), AllocError>
+        ensures { OnOk result (marks.new ≡ marks.old ++ cuts_of self.now.changes.items) }
+    {
+        put_cuts(marks, &self.changes)
+    }
+
+    /// What the sessions that aren't cut are given. Refused only for want of memory.
+    pub fn gifts(&self, alloc: Global) -> Result<Gifts, AllocError>
+        ensures { IfOk result (λ gifts. gifts ≡ gifts_of self.now.changes.items) }
+    {
+        gifts(alloc, &self.changes)
+    }
+}
+
+// What a call of an attached session amounts to.
+#[tactic(auto, unfolding(crate::specs::Codes::kept_code))]
+fn call_of<'a>(state: &SessionState, session: u64, op: u32, request: &'a Request) -> Happened<'a>
+    ensures told { told_by result ≡ told_of (Event.Call session op request.now) (call_outcome_of (Some (session_of state.now)) op request.now) [] }
+    ensures well_formed { IsWellFormedCall (told_by result).call }
+{
+    if state.outbox.is_cut() {
+        return Happened::Nothing { why: Idle::Cut };
+    }
+    Happened::Called {
+        session,
+        op,
+        request,
+        code: call_code(state.operations.as_slice(), op, request),
+    }
+}
+
+// Room for as many items as a take may hand over.
+fn room_to_take(alloc: Global, happened: &Happened<'_>) -> Result<Vec<Item>, AllocError>
+    ensures items { IfOk result (λ taken. taken.items ≡ []) }
+    ensures room { IfOk result (λ taken. most_taken (told_by happened.now).taking ≤ vec_capacity taken) }
+{
+    match happened {
+        Happened::Took { max, .. } => Vec::with_capacity(alloc, *max as usize),
+        _ => Ok(Vec::new(alloc)),
+    }
+}
+
+// Takes all the room that the changes of the sessions need. Nothing else changes. Refused only for want of memory.
+fn prepare(
+    sessions: &mut Vec<SessionState>,
+    changes: &[SessionChange],
+    happened: &Happened<'_>,
+) -> Result<(), AllocError>
+    requires { vec_len sessions.old ≡ length changes.now }
+    ensures same { sessions_of sessions.new.items ≡ sessions_of sessions.old.items }
+    ensures len { vec_len sessions.new ≡ vec_len sessions.old }
+    ensures room { OnOk result (HaveRoom sessions.new.items changes.now) }
+    ensures place { OnOk result (is_some (told_by happened.now).opened ≡ true → vec_len sessions.new < vec_capacity sessions.new) }
+{
+    make_room(sessions, changes)?;
+    make_place(sessions, happened)?;
+    Ok(())
+}
+
+// Makes the changes of the sessions, and ends, opens or takes from one. It takes no memory.
+fn carry_out(
+    alloc: Global,
+    sessions: &mut Vec<SessionState>,
+    happened: &Happened<'_>,
+    changes: Vec<SessionChange>,
+    taken: Vec<Item>,
+) -> Outcome
+    requires length { vec_len sessions.old ≡ vec_len changes }
+    requires room { HaveRoom sessions.old.items changes.items }
+    requires fit { AreFit (sessions_of sessions.old.items) changes.items }
+    requires empty { taken.items ≡ [] }
+    requires taking { most_taken (told_by happened.now).taking ≤ vec_capacity taken }
+    requires opening { is_some (told_by happened.now).opened ≡ true → vec_len sessions.old < vec_capacity sessions.old }
+    ensures outcome { result ≡ outcome_told (told_by happened.now).taking (told_by happened.now).outcome
+        (shifted_told (told_by happened.now) (sessions_of sessions.old.items) changes.items) }
+    ensures sessions { sessions_of sessions.new.items ≡ sessions_told (told_by happened.now).taking
+        (shifted_told (told_by happened.now) (sessions_of sessions.old.items) changes.items) }
+{
+    settle(sessions, changes);
+    finish(alloc, sessions, happened, taken)
+}
+
+// Takes room for the session that was opened. Refused only for want of memory.
+fn make_place(sessions: &mut Vec<SessionState>, happened: &Happened<'_>) -> Result<(), AllocError>
+    ensures items { sessions.new.items ≡ sessions.old.items }
+    ensures len { vec_len sessions.new ≡ vec_len sessions.old }
+    ensures place { OnOk result (is_some (told_by happened.now).opened ≡ true → vec_len sessions.new < vec_capacity sessions.new) }
+{
+    if happened.opened().is_some() {
+        sessions.reserve(1)?;
+    }
+    Ok(())
+}
