@@ -57,7 +57,7 @@ impl Hub {
     }
 
     /// Does a command, and puts the print of each entry. After `NotYet` the hub and the output are as
-    /// before; after another error a beginning of what was to be put was put, and the hub isn't used again. `WriteFault`
+    /// before; after another error a beginning of what was to be put was put, and the hub still has its daemon. `WriteFault`
     /// exactly where the sink failed.
     pub fn run<K: Sink>(&mut self, command: Command, output: &mut K) -> Result<(), HubError>
         ensures done { OnOk result (Advances (Plays command) self.old self.new (K.held output.old) (K.held output.new)) }
@@ -151,25 +151,19 @@ impl Hub {
         ensures cause { HasWriteCause (K.faults output.old) (K.faults output.new) result }
         ensures ready { result ≡ Err HubError.NotYet → ⊥ }
     {
-        match self.booted.take() {
-            Some(mut booted) => {
-                tick_to(
-                    self.alloc,
-                    booted.number,
-                    &mut booted.daemon,
-                    self.clock,
-                    self.word,
-                    moment,
-                    output,
-                )?;
-                self.booted = Some(booted);
-                self.clock = moment;
-                Ok(())
-            }
-            None => {
-                self.clock = moment;
-                Ok(())
-            }
+        let clock = self.clock;
+        self.clock = moment;
+        match &mut self.booted {
+            Some(booted) => tick_to(
+                self.alloc,
+                booted.number,
+                &mut booted.daemon,
+                clock,
+                self.word,
+                moment,
+                output,
+            ),
+            None => Ok(()),
         }
     }
 
@@ -182,20 +176,18 @@ impl Hub {
         ensures cause { HasWriteCause (K.faults output.old) (K.faults output.new) result }
         ensures ready { result ≡ Err HubError.NotYet → ⊥ }
     {
-        let Some(mut booted) = self.booted.take() else {
-            unreachable!();
-        };
-        step(
-            self.alloc,
-            booted.number,
-            &mut booted.daemon,
-            self.clock,
-            self.word,
-            event,
-            output,
-        )?;
-        self.booted = Some(booted);
-        Ok(())
+        match &mut self.booted {
+            Some(booted) => step(
+                self.alloc,
+                booted.number,
+                &mut booted.daemon,
+                self.clock,
+                self.word,
+                event,
+                output,
+            ),
+            None => unreachable!(),
+        }
     }
 }
 

@@ -59,6 +59,7 @@ pub fn step<K: Sink>(
         → (K.held output.new ≡ K.held output.old) ⊎ ((entry : Entry) × Fits in_force entry history × IsAt entry now word event
         × ((n : ℕ) × Appends (K.held output.old) (K.held output.new) (take n (entry_text number entry))))) }
     ensures last { OnOk result (daemon.new.last ≡ now) }
+    ensures within { daemon.new.last ≤ now }
     ensures ticked { OnOk result (event ≡ Event.Tick → IfSome (due_of daemon.new) (λ due. now < due)) }
     ensures cause { HasWriteCause (K.faults output.old) (K.faults output.new) result }
     ensures ready { result ≡ Err HubError.NotYet → ⊥ }
@@ -87,6 +88,7 @@ fn entry_of<L: Ledger>(
     ensures fits { IfOk result (λ entry. (history : List Entry) → Stands daemon.old history
         → Fits in_force entry history × Stands daemon.new (entry ∷ history)) }
     ensures last { OnOk result (daemon.new.last ≡ now) }
+    ensures within { daemon.new.last ≤ now }
     ensures ticked { OnOk result (event ≡ Event.Tick → IfSome (due_of daemon.new) (λ due. now < due)) }
 {
     let mut steps: Steps<L> = Steps::new(blank);
@@ -114,7 +116,7 @@ pub fn tick_to<K: Sink>(
     ensures part { OnErr result ((history : List Entry) → Stands daemon.old history
         → (ticks : List Entry) × AreTicks clock word moment history ticks
         × ((n : ℕ) × Appends (K.held output.old) (K.held output.new) (take n (history_text number ticks)))) }
-    ensures last { OnOk result (daemon.new.last ≤ moment) }
+    ensures last { daemon.new.last ≤ moment }
     ensures cause { HasWriteCause (K.faults output.old) (K.faults output.new) result }
     ensures ready { result ≡ Err HubError.NotYet → ⊥ }
 {
