@@ -1,12 +1,11 @@
 -- What is kept makes the entry that fits, and stands for the history with it.
-use Rattle.std.proofs.Common.{◌≡◌, ℕ, ◌≤◌, true, false, List, ◌∷◌, ◌++◌, map, Option, Some, None, refl, ap, subst, ◌∙◌, sym}
+use Rattle.std.proofs.Common.{◌≡◌, ℕ, ◌≤◌, true, false, List, ◌∷◌, ◌++◌, map, None, ap, subst, ◌∙◌, sym}
 use Rattle.std.proofs.lemmas.List.Sorted.{IsPermutation-map}
 use Rattle.std.specs.List.Sorted.{IsPermutation}
 use Rattle.std.specs.Option.{unwrap_or}
 use Rattle.sd_answer.specs.Laws.{have_data}
 use Rattle.dns_record.specs.declared.record.Key.{Key}
 use Rattle.mdns_history.specs.declared.event.Event.{Event}
-use Rattle.mdns_history.specs.declared.event.Event.TheVariants as event
 use Rattle.mdns_history.specs.declared.held.Held.{Held}
 use Rattle.mdns_history.specs.declared.mark.Mark.{Mark}
 use Rattle.mdns_history.specs.declared.mark.Cause.{Cause}
@@ -33,20 +32,16 @@ use Rattle.mdns_core.specs.Asked.{asked_for, sent_for, questions_after}
 use Rattle.sd_sessions.specs.Codes.{kept_outcome}
 use Rattle.sd_sessions.specs.Settling.{change_for, cuts_of, gifts_of, all_settled, remaining, with_opened, rrs_of, outcome_then, sessions_after}
 use Rattle.mdns_core.specs.Next.{changes_for, sessions_then, entry_for, state_after, IsHeard}
-use Rattle.sd_sessions.proofs.EntryParts.{marked}
 use Rattle.mdns_core.proofs.Stage.{sent_by, bare, duty_marks, entry_after, entry_is, marks_are, sent-next, IsLegal-next}
 use Rattle.mdns_core.proofs.Hears.{refusal-is, records-is}
 use Rattle.mdns_core.proofs.AskedFor.{marks-asked, sends-asked}
 use Rattle.mdns_core.proofs.AskedAfter.{asking-next}
-use Rattle.sd_sessions.proofs.Attached.{opened_count-next, opened_count-opened, opened_count-kept}
 use Rattle.mdns_core.proofs.WithoutHost.{rrs_of as live_rrs, hostless-next, outcome-kept, changes-kept}
-use Rattle.sd_sessions.proofs.ChangesBy.{change_by}
-use Rattle.sd_sessions.proofs.Brought.{answers_in}
-use Rattle.sd_sessions.proofs.Takes.{outcome-early}
+use Rattle.sd_sessions.specs.Answered.{change_by}
+use Rattle.sd_sessions.specs.Laws.{answers_in}
 use Rattle.sd_sessions.proofs.KeptChanges.{marks-kept, given-kept}
-use Rattle.sd_sessions.proofs.KeptSessions.{settled_sessions, sessions-untaken}
 use Rattle.sd_sessions.proofs.Permuted.{changes-permuted}
-use Rattle.sd_sessions.proofs.Taken.{taken-outcome, taken-sessions}
+use Rattle.sd_sessions.proofs.Follows.{outcome-is, opened-is, sessions-is}
 
 -- an entry of its parts
 abbrev entry_of : ℕ → ℕ → Event → List Mark → List Sent → List Given → Outcome → Entry
@@ -69,19 +64,6 @@ module _ (history : List Entry) (moment word : ℕ) (ev : Event) where
   entry_with o cs refusal asked sent = entry_of moment word ev (refusal ++ asked ++ cuts_of cs) sent (gifts_of cs) (outcome_then ev o (then_sessions o cs))
 
   module _ (legal : IsLegal in_force history) (hostless : host_of history ≡ None) (no_boot : is_boot ev ≡ false) where
-    outcome-is : (entry_after history moment word ev).outcome ≡ outcome_then ev early (then_sessions early changes)
-    outcome-is = of ev refl
-      where
-        of : (e : Event) → ev ≡ e → (entry_after history moment word e).outcome
-            ≡ outcome_then e (early_outcome e history) (with_opened (opened (early_outcome e history)) (remaining e (early_outcome e history) (settled_sessions in_force history moment word e)))
-        of (event.Boot config) h = outcome-early in_force history moment word (event.Boot config) refl
-        of event.Attach h = outcome-early in_force history moment word event.Attach refl
-        of (event.Detach session) h = outcome-early in_force history moment word (event.Detach session) refl
-        of (event.Call session op request) h = outcome-early in_force history moment word (event.Call session op request) refl
-        of (event.Hear from bytes) h = outcome-early in_force history moment word (event.Hear from bytes) refl
-        of event.Tick h = outcome-early in_force history moment word event.Tick refl
-        of (event.Take session max) h = taken-outcome in_force history moment word session max legal
-
     -- what is kept makes the entry that follows, with the marks and messages of the duties
     entry-is : entry_after history moment word ev ≡ entry_with early changes (refusal_marks (bare history moment word ev) history ev) (duty_marks history moment word ev) (sent_by history moment ev)
     entry-is =
@@ -93,27 +75,7 @@ module _ (history : List Entry) (moment word : ℕ) (ev : Event) where
         ∙ ap (λ marks. entry_of moment word ev marks e.sent e.given e.outcome) (marks-kept in_force history moment word ev legal ∙ ap (λ ns. ns ++ cuts_of changes) (marks_are history moment word ev))
         ∙ ap (λ ss. entry_of moment word ev ms ss e.given e.outcome) (sent-next history moment word ev)
         ∙ ap (λ gs. entry_of moment word ev ms (sent_by history moment ev) gs e.outcome) (given-kept in_force history moment word ev legal)
-        ∙ ap (λ o. entry_of moment word ev ms (sent_by history moment ev) (gifts_of changes) o) outcome-is
-
-    opened-is : opened_count (entry_after history moment word ev ∷ history) ≡ unwrap_or (opened early) (opened_count history)
-    opened-is = opened_count-next in_force history moment word ev ∙ of (opened early) refl
-      where
-        of : (o : Option ℕ) → opened early ≡ o → opened_count (marked in_force history moment word ev ∷ history) ≡ unwrap_or o (opened_count history)
-        of None e = opened_count-kept in_force history moment word ev e
-        of (Some k) e = opened_count-opened in_force history moment word ev k e
-
-    sessions-is : sessions_in (entry_after history moment word ev ∷ history) ≡ sessions_after ev (then_sessions early changes)
-    sessions-is = of ev no_boot
-      where
-        of : (e : Event) → is_boot e ≡ false → sessions_in (entry_after history moment word e ∷ history)
-            ≡ sessions_after e (with_opened (opened (early_outcome e history)) (remaining e (early_outcome e history) (settled_sessions in_force history moment word e)))
-        of (event.Boot config) h = cc
-        of event.Attach h = sessions-untaken in_force history moment word event.Attach legal refl
-        of (event.Detach session) h = sessions-untaken in_force history moment word (event.Detach session) legal refl
-        of (event.Call session op request) h = sessions-untaken in_force history moment word (event.Call session op request) legal refl
-        of (event.Hear from bytes) h = sessions-untaken in_force history moment word (event.Hear from bytes) legal refl
-        of event.Tick h = sessions-untaken in_force history moment word event.Tick legal refl
-        of (event.Take session max) h = taken-sessions in_force history moment word session max legal
+        ∙ ap (λ o. entry_of moment word ev ms (sent_by history moment ev) (gifts_of changes) o) (outcome-is in_force history moment word ev legal no_boot)
 
     moment-is : (entry_after history moment word ev).moment ≡ moment
     moment-is = ap (λ x. x.moment) (entry_is history moment word ev)
@@ -157,7 +119,7 @@ module _ (history : List Entry) (moment word : ℕ) (ev : Event) where
       sessions-are =
           ap (λ o. sessions_after ev (then_sessions o (map (change_for ev o (rrs_of before) (rrs_of after)) (sessions_in history)))) kept-early
           ∙ ap (λ cs. sessions_after ev (then_sessions early cs)) changes-are
-          ∙ sym sessions-is
+          ∙ sym (sessions-is in_force history moment word ev legal no_boot)
 
       asking-after : asking.Stands (asker_of (questions_after (sessions_in history) moment word ev (kept_outcome (opened_count history) (sessions_in history) ev) asked questions) after) (entry_after history moment word ev ∷ history)
       asking-after =
@@ -169,7 +131,7 @@ module _ (history : List Entry) (moment word : ℕ) (ev : Event) where
         legal = IsLegal-next history moment word ev legal later in_time no_boot;
         hostless = hostless-next history legal hostless moment word ev no_boot;
         last = sym moment-is;
-        opened = ap (λ o. unwrap_or (opened o) (opened_count history)) kept-early ∙ sym opened-is;
+        opened = ap (λ o. unwrap_or (opened o) (opened_count history)) kept-early ∙ sym (opened-is in_force history moment word ev legal no_boot);
         sessions = sessions-are;
         asking = asking-after;
         records = records-after;

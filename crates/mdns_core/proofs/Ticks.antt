@@ -24,8 +24,9 @@ use Rattle.sd_sessions.specs.Changes.{passes}
 use Rattle.sd_sessions.proofs.NumberLists.{filter-same, flat_map-same}
 use Rattle.sd_sessions.proofs.EntryParts.{marked}
 use Rattle.mdns_core.proofs.Stage.{entry_after, entry_is, marks_are, sent-next}
-use Rattle.sd_sessions.proofs.ChangesBy.{items_by}
-use Rattle.sd_sessions.proofs.Brought.{answers_in, change_items-marked}
+use Rattle.sd_sessions.specs.Answered.{items_by}
+use Rattle.sd_sessions.proofs.Brought.{change_items-marked}
+use Rattle.sd_sessions.specs.Laws.{answers_in}
 use Rattle.sd_sessions.proofs.Shape.{attached, brought_to, passes_now, marks-next, given-next}
 use Rattle.sd_sessions.proofs.Operations.{operations-rising}
 use Rattle.sd_sessions.proofs.Limits.{queue-within}

@@ -33,8 +33,9 @@ use Rattle.sd_sessions.specs.Codes.{is_running, refers_to_none, is_foreign, kept
 use Rattle.sd_sessions.specs.Settling.{change_for}
 use Rattle.mdns_core.proofs.Stage.{entry_after, entry_is}
 use Rattle.mdns_core.proofs.Hostless.{is_plain, IsPlain, IsPlain-cons, plain_after, plain_early, plain_next, host_of-cons, IsPlain-legal}
-use Rattle.sd_sessions.proofs.ChangesBy.{over, change_by, changes_for-are, AllThen, changes-same}
-use Rattle.sd_sessions.proofs.Brought.{answers_in}
+use Rattle.sd_sessions.proofs.ChangesBy.{changes_for-are, AllThen, changes-same}
+use Rattle.sd_sessions.specs.Answered.{over, change_by}
+use Rattle.sd_sessions.specs.Laws.{answers_in}
 use Rattle.sd_sessions.proofs.KeptChanges.{called-is}
 use Rattle.sd_sessions.proofs.KeptOutcome.{early_outcome-is}
 use Rattle.mdns_core.proofs.QuietRecords.{filter-all, live_records-quiet}

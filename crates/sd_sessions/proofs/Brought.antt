@@ -2,7 +2,6 @@
 use Rattle.std.proofs.Common.{◌≡◌, ℕ, ◌+◌, Bool, true, false, cond, List, [], ◌∷◌, ◌++◌, Some, None, refl, ap, ◌∙◌, sym, arith}
 use Rattle.std.specs.List.{flat_map}
 use Rattle.std.specs.Option.{option_to_list}
-use Rattle.sd_call.specs.declared.answer.Answer.{Answer}
 use Rattle.mdns_history.specs.declared.event.Event.{Event}
 use Rattle.mdns_history.specs.declared.event.Event.TheVariants as event
 use Rattle.mdns_history.specs.declared.entry.Outcome.{Outcome}
@@ -10,7 +9,6 @@ use Rattle.mdns_history.specs.declared.entry.Entry.{Entry}
 use Rattle.mdns_history.specs.InForce.{Duties}
 use Rattle.mdns_history.specs.declared.operation.Operation.{Operation}
 use Rattle.mdns_history.specs.Sessions.{is_number, opened, opened_count, detached, accepted_call, after_call, operations_of}
-use Rattle.mdns_history.specs.Answers.{answers}
 use Rattle.mdns_history.specs.Items.{reply_of, removes, adds, change_items}
 use Rattle.mdns_history.specs.Outcomes.{call_outcome, early_outcome}
 use Rattle.mdns_history.proofs.CallFacts.{opened-call}
@@ -18,11 +16,8 @@ use Rattle.mdns_history.proofs.LegalReplay.{Holds}
 use Rattle.sd_sessions.proofs.EntryParts.{marked, cutting, entry_after}
 use Rattle.sd_sessions.proofs.CutAnswers.{answers-cutting, answers-after}
 use Rattle.sd_sessions.proofs.Attached.{opened-number}
-use Rattle.sd_sessions.proofs.ChangesBy.{items_by}
-
--- the answers of operations in a history
-abbrev pub answers_in : List Entry → Operation → List Answer
-answers_in history operation = answers operation history
+use Rattle.sd_sessions.specs.Answered.{items_by}
+use Rattle.sd_sessions.specs.Laws.{answers_in}
 
 -- what any entry brings a session
 pub change_items-is : (n : ℕ) (entry : Entry) (past : List Entry) →

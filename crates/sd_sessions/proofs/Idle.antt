@@ -13,7 +13,7 @@ use Rattle.sd_call.specs.declared.item.Item.TheVariants.{Add, Remove}
 use Rattle.sd_call.specs.Answers.{answer_bytes, answer_cmp, answer_eq}
 use Rattle.mdns_history.specs.declared.operation.Operation.{Operation}
 use Rattle.mdns_history.specs.Sessions.{has_op}
-use Rattle.sd_sessions.proofs.ChangesBy.{lost_by, gained_by, items_by}
+use Rattle.sd_sessions.specs.Answered.{lost_by, gained_by, items_by}
 use Rattle.sd_sessions.proofs.Operations.{AreRising}
 
 answer_itself : (answer : Answer) → answer_eq answer answer ≡ true

@@ -24,8 +24,9 @@ use Rattle.sd_sessions.specs.Settling.{called, cuts_of, gifts_of}
 use Rattle.sd_sessions.proofs.NumberLists.{has, has-filter, filter-same, filter-filter, filter-append, flat_map-same}
 use Rattle.sd_sessions.proofs.EntryParts.{noted_marks, entry_after}
 use Rattle.sd_sessions.proofs.Attached.{holds_legal, opens_alone, opened-number, attached-opened, attached-ended, attached-kept}
-use Rattle.sd_sessions.proofs.Brought.{answers_in, change_items-marked, change_items-opened}
-use Rattle.sd_sessions.proofs.ChangesBy.{items_by, change_by}
+use Rattle.sd_sessions.proofs.Brought.{change_items-marked, change_items-opened}
+use Rattle.sd_sessions.specs.Laws.{answers_in}
+use Rattle.sd_sessions.specs.Answered.{items_by, change_by}
 use Rattle.sd_sessions.proofs.Shape.{attached, brought_to, passes_now, marks-next, given-next}
 use Rattle.sd_sessions.proofs.Limits.{queue-within}
 use Rattle.sd_sessions.proofs.Operations.{operations_of-attached}

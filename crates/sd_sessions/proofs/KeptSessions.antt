@@ -23,7 +23,7 @@ use Rattle.sd_sessions.proofs.NumberLists.{has, has-filter, map-same}
 use Rattle.sd_sessions.proofs.EntryParts.{marked, entry_after}
 use Rattle.sd_sessions.proofs.Attached.{holds_legal, is_attached-has, opened-number}
 use Rattle.sd_sessions.proofs.Brought.{operations_of-opened, change_items-opened}
-use Rattle.sd_sessions.proofs.ChangesBy.{change_by}
+use Rattle.sd_sessions.specs.Answered.{change_by}
 use Rattle.sd_sessions.proofs.Shape.{brought_to, passes_now}
 use Rattle.sd_sessions.proofs.Queues.{begins_legal}
 use Rattle.sd_sessions.proofs.Takes.{is_take, outcome-take, handed_over-untaken}

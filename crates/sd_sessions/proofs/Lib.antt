@@ -26,3 +26,4 @@ pub mod Idle
 pub mod Nexts
 pub mod Asked
 pub mod Rooms
+pub mod Follows

@@ -10,7 +10,8 @@ use Rattle.mdns_history.specs.declared.event.Event.{Event}
 use Rattle.mdns_history.specs.declared.entry.Outcome.{Outcome}
 use Rattle.sd_sessions.specs.Sessions.{Session}
 use Rattle.sd_sessions.specs.Settling.{change_for}
-use Rattle.sd_sessions.proofs.ChangesBy.{over, change_by, changes_for-are}
+use Rattle.sd_sessions.proofs.ChangesBy.{changes_for-are}
+use Rattle.sd_sessions.specs.Answered.{over, change_by}
 
 same_answers : (one other : List Rr) → have_data one ≡ true → IsPermutation one other → ◌≡◌ {A = Operation → List Answer} (over one) (over other)
 same_answers one other is_data moved = λ i o. order_free o.request one other is_data moved i

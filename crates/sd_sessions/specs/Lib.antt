@@ -4,3 +4,5 @@ pub mod Changes
 pub mod Settling
 pub mod Kept
 pub mod Planned
+pub mod Answered
+pub mod Laws

@@ -4,6 +4,7 @@
 mod change;
 mod codes;
 mod items;
+mod law;
 mod running;
 mod session;
 mod sessions;
@@ -11,4 +12,5 @@ mod settle;
 
 pub use change::SessionChange;
 pub use items::Around;
+pub use law::sessions_follow_the_history;
 pub use sessions::{Plan, Sessions};
