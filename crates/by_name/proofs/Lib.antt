@@ -1,0 +1,5 @@
+pub mod Finding
+pub mod Layers
+pub mod Removed
+pub mod Pushing
+pub mod Changes

@@ -1,0 +1,87 @@
+// Where a value stands among those of its name.
+ghost use Rattle.std.specs.Prelude.{◌≡◌, ◌∷◌, ◌++◌, []};
+ghost use Rattle.std.specs.Hash as fed;
+ghost use Rattle.std.specs.Cmp.Rules.{comparing, hashing};
+ghost use Rattle.std.proofs.Common.{rules};
+ghost use Rattle.by_name.specs.At.{At, at_eq, at, owner_of};
+
+use arrayvec::ArrayVec;
+use dns_name::Name;
+use std::hash::{Hash, Hasher};
+use std::marker::Model;
+
+/// A name in lower case, in wire form, and a number among its values.
+#[derive(Drop)]
+pub struct Place {
+    owner: ArrayVec<u8, 255>,
+    number: usize,
+}
+
+impl Model for Place {
+    ghost use Rattle.by_name.specs.At.{At};
+
+    ghost Value = { At };
+
+    ghost view = { λ a. record { owner = a.owner.items; number = a.number } };
+}
+
+impl PartialEq for Place {
+    ghost eq = { at_eq };
+
+    ghost laws = { Prim.search (comparing, rules) };
+
+    fn eq(&self, other: &Place) -> bool {
+        self.owner.as_slice() == other.owner.as_slice() && self.number == other.number
+    }
+}
+
+impl Eq for Place {
+    ghost laws = { Prim.search (comparing, rules) };
+}
+
+impl Hash for Place {
+    ghost hash_input = { λ x. fed.usize x.number ++ x.owner ∷ [] };
+
+    ghost respects_eq = { Prim.search (hashing, rules) };
+
+    fn hash<H: Hasher>(&self, state: &mut H) {
+        state.write_usize(self.number);
+        state.write(self.owner.as_slice());
+    }
+}
+
+impl Place {
+    /// The place of a number among the values of a name.
+    pub fn new(name: &Name, number: usize) -> Place
+        ensures { result ≡ at (owner_of name.now) number }
+    {
+        let mut owner = ArrayVec::new();
+        for byte in name.as_wire() {
+            owner.push(byte.to_ascii_lowercase());
+        }
+        Place { owner, number }
+    }
+
+    /// The number.
+    pub fn number(&self) -> usize
+        ensures { result ≡ self.now.number }
+    {
+        self.number
+    }
+
+    /// The place of another number of the same name.
+    pub fn other(&self, number: usize) -> Place
+        ensures { result ≡ at self.now.owner number }
+    {
+        let mut owner = ArrayVec::new();
+        let _ = owner.try_extend_from_slice(self.owner.as_slice());
+        Place { owner, number }
+    }
+
+    /// Goes to another number of the same name.
+    pub fn go(&mut self, number: usize)
+        ensures { self.new ≡ at self.old.owner number }
+    {
+        self.number = number;
+    }
+}
