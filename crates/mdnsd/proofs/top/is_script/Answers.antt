@@ -1,7 +1,6 @@
-use Rattle.std.proofs.Common.{◌∷◌, [], ◌∙◌, List, ℕ, None, Some, sym, ap, subst}
+use Rattle.std.proofs.Common.{◌∷◌, [], ◌∙◌, List, ℕ, sym, ap}
 use Rattle.std.proofs.lemmas.Slice.Eq.{bytes_eq-Decides}
 use Rattle.std.specs.Prelude.{codes}
-use Rattle.std.specs.Vec.Iter.{into_iter_steps}
 use Rattle.mdnsd.proofs.CommandLine.{one_word, same_first}
 use Rattle.mdnsd.proofs.top.is_script.Goals as goal
 
