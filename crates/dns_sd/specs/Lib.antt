@@ -1,0 +1,6 @@
+pub mod Commands
+pub mod Endings
+pub mod Lines
+pub mod Hearing
+pub mod Runs
+pub mod Steps
