@@ -1,0 +1,11 @@
+pub mod Paths
+pub mod Mending
+pub mod Played
+pub mod Root
+pub mod Visiting
+pub mod Once
+pub mod Turns
+pub mod EndsFirst
+pub mod AfterHearings
+pub mod Kept
+pub mod Below

@@ -1,0 +1,46 @@
+// Looking among the records that are filed by name.
+ghost use Rattle.std.specs.Prelude.{◌≡◌, ◌≤◌, ℕ, suc, slice_get, true, false, Some, None, IsSome, IfOk, IfErr};
+ghost use Rattle.std.specs.Option.{option_copied};
+ghost use Rattle.std.specs.List.{AllByRecursion};
+ghost use Rattle.std.specs.Map.{values_of};
+ghost use Rattle.dns_record.specs.Records.{same};
+ghost use Rattle.by_name.specs.At.{at, owner_of};
+ghost use Rattle.by_name.specs.Filed.{found, in_layers};
+ghost use Rattle.mdns_cache.specs.Lifetimes.{held_of};
+ghost use Rattle.cache_by_name.specs.Named.{AreFiled};
+
+use by_name::{ByName, Place};
+use dns_name::Name;
+use dns_record::Rr;
+use mdns_history::Held;
+
+/// The held record of a name at a place among those of that name, counted from 0.
+#[tactic(auto, using(crate::proofs::Visiting::visited_of))]
+pub fn held_at<'a>(records: &'a ByName<Held>, name: &Name, place: usize) -> Option<&'a Held>
+    requires { AreFiled records.now.entries }
+    ensures { option_copied result ≡ slice_get (held_of name.now (in_layers records.now.entries)) place }
+{
+    records.get(&Place::new(name, place))
+}
+
+/// The index of a record that is the same as this one, or the place behind the last of its name.
+pub fn same_of(records: &ByName<Held>, rr: &Rr) -> Result<usize, Place>
+    requires { AreFiled records.now.entries }
+    ensures found { IfOk result (λ index. (one : Held) × (slice_get (values_of records.now.entries) index ≡ Some one) × (same one.rr rr.now ≡ true)) }
+    ensures none { IfErr result (λ _. AllByRecursion (λ (one : Held). same one.rr rr.now ≡ false) (values_of records.now.entries)) }
+    ensures owner { IfErr result (λ place. place.owner ≡ owner_of rr.now.owner) }
+    ensures absent { IfErr result (λ place. found place.owner place.number records.now.entries ≡ None) }
+    ensures next { IfErr result (λ place. (number : ℕ) → suc number ≡ place.number → IsSome (found place.owner number records.now.entries)) }
+{
+    let _len = records.len();
+    let mut number = 0;
+    let mut place = Place::new(&rr.owner, 0);
+    while let Some(index) = records.index_of(&place) {
+        if records.values()[index].rr.same(rr) {
+            return Ok(index);
+        }
+        number += 1;
+        place.go(number);
+    }
+    Err(place)
+}
