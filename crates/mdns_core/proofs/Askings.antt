@@ -1,13 +1,10 @@
 -- The questions that are kept follow the history: what one more entry makes of them stands for the history with it.
-use Rattle.std.proofs.Common.{◌≡◌, ℕ, zero, suc, ◌+◌, ◌<◌, ◌≤◌, ◌==◌, Bool, true, false, cond, ◌&&◌, List, [], ◌∷◌, map, take, length, Option, Some, None, refl, ap, ◌∙◌, sym, subst, arith}
+use Rattle.std.proofs.Common.{◌≡◌, ℕ, zero, suc, ◌+◌, ◌<◌, ◌≤◌, Bool, true, false, cond, ◌&&◌, List, [], ◌∷◌, map, take, length, Option, Some, None, refl, ap, ◌∙◌, sym, subst, arith}
 use Rattle.std.specs.Prelude.{nat_lt}
 use Rattle.std.specs.List.{list_any, find, filter_map, cons_option}
 use Rattle.std.specs.Option.{option_map, option_map_or, option_and_then, option_or, is_some}
 use Rattle.dns_record.specs.declared.record.Key.{Key}
 use Rattle.dns_record.specs.Records.{key_eq}
-use Rattle.sd_name.specs.ServiceTypes.{ServiceType, service_type}
-use Rattle.sd_call.specs.declared.request.Request.{Request}
-use Rattle.sd_call.specs.declared.request.Request.TheVariants as request
 use Rattle.mdns_history.specs.declared.event.Event.{Event}
 use Rattle.mdns_history.specs.declared.event.Event.TheVariants as event
 use Rattle.mdns_history.specs.declared.mark.Cause.{Cause}
@@ -16,12 +13,12 @@ use Rattle.mdns_history.specs.declared.entry.Entry.{Entry}
 use Rattle.mdns_history.specs.declared.entry.Outcome.{Outcome}
 use Rattle.mdns_history.specs.History.{has_mark, last_at, moment_if}
 use Rattle.mdns_history.specs.Sessions.{Accepted, accepted_call, accepted_in}
-use Rattle.mdns_history.specs.Questions.{Active, key_of, keys_of, browse_keys, resolve_keys, is_active, begins_asking, active_from, begun_with, active_questions}
+use Rattle.mdns_history.specs.Questions.{Active, keys_of, is_active, begins_asking, active_from, begun_with, active_questions}
 use Rattle.mdns_history.specs.Asking.{is_counted, is_asking, is_series_asking, series_moments, asking_moments, series_gap, series_due, next_in_series}
 use Rattle.mdns_history.specs.Outcomes.{early_outcome}
 use Rattle.mdns_history.specs.Fitting.{IsLegal}
 use Rattle.mdns_question.specs.declared.tracked.Tracked.{Tracked}
-use Rattle.mdns_question.specs.Tracking.{active_of, begun, asked_at}
+use Rattle.mdns_question.specs.Tracking.{active_of, begun, one_more, asked_at}
 use Rattle.mdns_question.specs.Standing.{uses, IsTracked}
 use Rattle.mdns_question.specs.Standing as asking
 use Rattle.mdns_question.proofs.Following.{begun_follows, kept_follows, asked_follows}
@@ -29,9 +26,10 @@ use Rattle.mdns_core.specs.InForce.{in_force}
 use Rattle.mdns_core.specs.State.{asker_of}
 use Rattle.sd_sessions.specs.Sessions.{Session, sessions_in}
 use Rattle.mdns_core.specs.Asked.{begun_keys, ended_keys, all_begun, all_ended, all_asked, questions_told, questions_after}
-use Rattle.mdns_core.proofs.KeyLists.{IsStrict, looked, key_eq-same, looked_found, looked_same, same_looked, all_looked, found_holds, strict_map, strict_unmap, looked_map}
+use Rattle.mdns_core.proofs.KeyLists.{IsStrict, looked, looked_found, looked_same, same_looked, all_looked, found_holds, strict_map, strict_unmap, looked_map}
 pub use Rattle.mdns_core.proofs.KeyUses.{IsMove}
 use Rattle.mdns_core.proofs.KeyUses.{times, uses-next}
+use Rattle.mdns_core.proofs.FewUses.{none_once, once, counts_one_more}
 use Rattle.mdns_core.proofs.ActiveKeys.{key_in, strict_active, looked_active, active_used, same_uses, goes_on, begins, begun_found, found_counted, found_passes, active_begun}
 use Rattle.mdns_core.proofs.TrackedKeys as kept
 pub use Rattle.mdns_core.proofs.TrackedKeys.{chosen}
@@ -56,57 +54,6 @@ pub record IsChosen (tracked : List Tracked) (ev : Event) (asked : List (Key × 
   pub choose : Tracked → Option Cause
   pub among : asked ≡ filter_map (chosen choose) tracked
   pub quiet : may_ask ev ≡ false → asked ≡ []
-
--- a call asks each question once at most
-single : (q k : Key) → times q (k ∷ []) ≤ 1
-single q k = of (key_eq q k)
-  where
-    of : (b : Bool) → cond b 1 0 ≤ 1
-    of true = omega arith
-    of false = omega arith
-
-kinds : (a b : Key) → key_eq a b ≡ true → (a.kind == b.kind) ≡ true
-unfolding key_eq
-kinds a b h = second _ _ h
-  where
-    second : (x y : Bool) → (x && y) ≡ true → y ≡ true
-    second true y g = g
-    second false y g = absurd (cc)
-
-pair : (q j k : Key) → (j.kind == k.kind) ≡ false → times q (j ∷ k ∷ []) ≤ 1
-pair q j k other = of (key_eq q j) (key_eq q k) refl refl
-  where
-    of : (b c : Bool) → key_eq q j ≡ b → key_eq q k ≡ c → cond b (suc (cond c 1 0)) (cond c 1 0) ≤ 1
-    of true true e f = let one : (j.kind == k.kind) ≡ true = kinds j k (sym (key_eq-same q j e k) ∙ f) in absurd (cc)
-    of true false e f = omega arith
-    of false true e f = omega arith
-    of false false e f = omega arith
-
-none_once : (q : Key) → times q [] ≤ 1
-none_once q = omega arith
-
-once : (q : Key) (r : Request) → times q (keys_of r) ≤ 1
-unfolding keys_of
-once q (request.Query kind name) = single q (key_of kind name)
-once q (request.Address families name) = of (families == 1) (families == 2)
-  where
-    of : (b c : Bool) → times q (cond b (key_of 1 name ∷ []) (cond c (key_of 28 name ∷ []) (key_of 1 name ∷ key_of 28 name ∷ []))) ≤ 1
-    of true c = single q (key_of 1 name)
-    of false true = single q (key_of 28 name)
-    of false false = pair q (key_of 1 name) (key_of 28 name) refl
-once q (request.Browse regtype) = of (service_type regtype)
-  where
-    of : (o : Option ServiceType) → times q (browse_keys o) ≤ 1
-    of None = none_once q
-    of (Some type) = single q _
-once q (request.Resolve label regtype) = of (service_type regtype)
-  where
-    of : (o : Option ServiceType) → times q (resolve_keys label o) ≤ 1
-    of None = none_once q
-    of (Some type) = pair q _ _ refl
-once q (request.Register label regtype port norename txt) = none_once q
-once q (request.Update txt) = none_once q
-once q request.Stop = none_once q
 
 once_called : (q : Key) (call : Option Accepted) → times q (begun_keys call) ≤ 1
 once_called q None = none_once q
@@ -296,7 +243,8 @@ module _ (past : List Entry) (legal : IsLegal in_force past) (ev : Event) (entry
       of (suc zero) e sum few u =
           let some : 0 < times q given = omega arith in
           let key = found_counted q given some in
-          subst (λ o. IsAt (entry ∷ past) q (after_ended taken o)) (sym (kept.begun_once entry.moment entry.word q given (Some one) key.0 e key.1)) (ends (one.users + 1) (omega arith) (omega arith))
+          let more : one_more one.users ≡ one.users + 1 = counts_one_more in_force past legal q one.users u in
+          subst (λ o. IsAt (entry ∷ past) q (after_ended taken o)) (sym (kept.begun_once entry.moment entry.word q given (Some one) key.0 e key.1)) (ends (one_more one.users) (omega (arith, more)) (omega (arith, more, sum, u, e)))
       of (suc (suc n)) e sum few u = let no : ⊥ = omega arith in absurd no
 
   moved_at : (q : Key) (o : Option Tracked) → IsAt past q o → IsAt (entry ∷ past) q (moved q o)

@@ -19,6 +19,7 @@ pub mod HeardPackets
 pub mod Carried
 pub mod KeyLists
 pub mod KeyUses
+pub mod FewUses
 pub mod ActiveKeys
 pub mod TrackedKeys
 pub mod Askings

@@ -11,7 +11,7 @@ use Rattle.mdns_history.specs.declared.mark.Cause.{Cause}
 use Rattle.mdns_history.specs.Asking.{is_counted}
 use Rattle.mdns_history.specs.Questions.{Active}
 use Rattle.mdns_question.specs.declared.tracked.Tracked.{Tracked}
-use Rattle.mdns_question.specs.Tracking.{active_of, is_for, tracked_cmp, begun, used_more, used_less, is_used, with_user, without_user, with_asking, noted, asked_at}
+use Rattle.mdns_question.specs.Tracking.{active_of, is_for, tracked_cmp, begun, one_more, used_more, used_less, is_used, with_user, without_user, with_asking, noted, asked_at}
 use Rattle.mdns_core.specs.Asked.{all_begun, all_ended, all_asked}
 use Rattle.mdns_core.proofs.KeyLists.{IsStrict, looked, has_key, if_passes, key_eq-itself, key_eq-same, key_eq-turned, looked_found, looked_none, looked_has, looked_same, none_same, strict_inserted, looked_inserted, strict_map, looked_map, strict_filter, looked_filter}
 use Rattle.mdns_core.proofs.KeyUses.{times}
@@ -23,7 +23,7 @@ key_of one = one.key
 -- a question with one user more, where it may be there
 abbrev pub user_more : ℕ → ℕ → Key → Option Tracked → Tracked
 user_more moment word k None = begun moment word k
-user_more moment word k (Some one) = record one { users = one.users + 1 }
+user_more moment word k (Some one) = record one { users = one_more one.users }
 
 -- what is found for a question after more users, and after less
 abbrev pub after_begun : ℕ → ℕ → Key → List Key → Option Tracked → Option Tracked
@@ -53,10 +53,10 @@ looked_user moment word k tracked q = of (list_any (is_for k) tracked) refl
     used false None f g e = refl
     used true (Some one) f g e =
         let same : key_eq k one.key ≡ true = sym (key_eq-same q k f one.key) ∙ looked_found key_of q tracked one g in
-        ap (λ b. Some (record one { users = cond b (one.users + 1) one.users })) same
+        ap (λ b. Some (record one { users = cond b (one_more one.users) one.users })) same
     used false (Some one) f g e =
         let other : key_eq k one.key ≡ false = key_eq-turned k one.key ∙ sym (key_eq-same q one.key (looked_found key_of q tracked one g) k) ∙ f in
-        ap (λ b. Some (record one { users = cond b (one.users + 1) one.users })) other
+        ap (λ b. Some (record one { users = cond b (one_more one.users) one.users })) other
 
     new : (b : Bool) → key_eq q k ≡ b → list_any (is_for k) tracked ≡ false → cond b (Some (begun moment word k)) (looked key_of q tracked) ≡ cond b (Some (user_more moment word k (looked key_of q tracked))) (looked key_of q tracked)
     new true f e = ap (λ o. Some (user_more moment word k o)) (sym (looked_same key_of q k tracked f ∙ looked_none key_of k tracked e))

@@ -1,7 +1,6 @@
 pub mod Places
 pub mod Ends
 pub mod Refreshes
-pub mod Counted
 pub mod Loops
 pub mod Told
 pub mod Earliest

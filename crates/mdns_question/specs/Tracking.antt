@@ -1,6 +1,6 @@
 -- Which questions have users, how often each was asked, and which are due. (RFC 6762 5.2)
-use Rattle.std.specs.Prelude.{ℕ, ◌+◌, ◌-◌, ◌*◌, ◌≤◌, nat_le, nat_lt, min, Bool, ◌&&◌, List, [], map, filter, Option, Some, None, if◌then◌else◌}
-use Rattle.std.specs.List.{list_any, flat_map, filter_map, AllByRecursion}
+use Rattle.std.specs.Prelude.{ℕ, ◌+◌, ◌-◌, ◌*◌, ◌^◌, nat_le, nat_lt, min, Bool, ◌&&◌, List, [], map, filter, Option, Some, None, if◌then◌else◌}
+use Rattle.std.specs.List.{list_any, flat_map, filter_map}
 use Rattle.std.specs.Option.{option_map, option_to_list}
 use Rattle.std.specs.Ordering.{is_lt}
 use Rattle.std.specs.declared.cmp.Ordering.{Ordering}
@@ -45,9 +45,13 @@ begun moment word question = record {
   refresh = None;
 }
 
+-- one user more: a count stays at its last value, which is past what a legal history reaches
+abbrev pub one_more : ℕ → ℕ
+one_more users = min (users + 1) (2 ^ 64 - 1)
+
 -- a tracked question with one user more, if it is this one
 abbrev pub used_more : Key → Tracked → Tracked
-used_more question one = record one { users = if is_for question one then one.users + 1 else one.users }
+used_more question one = record one { users = if is_for question one then one_more one.users else one.users }
 
 -- the same with one less
 abbrev pub used_less : Key → Tracked → Tracked
@@ -84,10 +88,6 @@ noted moment question cause one = if is_for question one then asked_at moment ca
 -- the questions after an asking of one
 abbrev pub with_asking : ℕ → Key → Cause → List Tracked → List Tracked
 with_asking moment question cause tracked = map (noted moment question cause) tracked
-
--- no question has more users
-abbrev pub AreUsedAtMost : ℕ → List Tracked → Type 0
-AreUsedAtMost most tracked = AllByRecursion (λ (one : Tracked). one.users ≤ most) tracked
 
 -- the records that match a question, are live at a moment and are uncut
 abbrev pub fresh_of : Key → List Held → ℕ → List Held

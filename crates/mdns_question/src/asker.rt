@@ -27,24 +27,19 @@ use std::marker::Model;
 pub struct Asker {
     questions: Vec<Tracked>,
     held: Vec<Held>,
-    // How many users have come. No question has more.
-    starts: u64,
 }
 
 impl Model for Asker {
-    ghost use Rattle.std.specs.Prelude.{◌-◌, ◌^◌, min, vec_len, vec_capacity};
+    ghost use Rattle.std.specs.Prelude.{◌-◌, min, vec_len, vec_capacity};
     ghost use Rattle.mdns_question.specs.Contents.{Contents};
-    ghost use Rattle.mdns_question.specs.Tracking.{AreUsedAtMost};
 
     ghost Value = { Contents };
 
     ghost view = { λ a. record {
       questions = a.questions.items;
       held = a.held.items;
-      spare = min (2 ^ 64 - 1 - a.starts) (min (vec_capacity a.questions - vec_len a.questions) (vec_capacity a.held - vec_len a.held));
+      spare = min (vec_capacity a.questions - vec_len a.questions) (vec_capacity a.held - vec_len a.held);
     } };
-
-    ghost invariant = { λ a. AreUsedAtMost a.starts a.questions.items };
 }
 
 impl Asker {
@@ -56,7 +51,6 @@ impl Asker {
         Asker {
             questions: Vec::new(alloc),
             held: Vec::new(alloc),
-            starts: 0,
         }
     }
 
@@ -68,29 +62,25 @@ impl Asker {
         Ok(Asker {
             questions: question_copies(alloc, &self.questions)?,
             held: Vec::new(alloc),
-            starts: self.starts,
         })
     }
 
     /// Makes room for `more` units: a `start` and a `held` take one each at most. Nothing else changes. Refused only for
-    /// want of memory, and where 2^64 users would have come.
+    /// want of memory.
     pub fn reserve(&mut self, more: usize) -> Result<(), AllocError>
         ensures questions { self.new.questions ≡ self.old.questions }
         ensures held { self.new.held ≡ self.old.held }
         ensures room { OnOk result (more ≤ self.new.spare) }
         ensures kept { self.old.spare ≤ self.new.spare }
     {
-        if u64::MAX - self.starts < more as u64 {
-            return Err(AllocError);
-        }
         self.questions.reserve(more)?;
         self.held.reserve(more)?;
         Ok(())
     }
 
-    /// Gives a question one user more. The first gives moment, random word and spelling, and the question is first due
-    /// in its series 20 to 120 ms later. Refused only for want of memory, never where there is room, and then the
-    /// questions are as before. (RFC 6762 5.2)
+    /// Gives a question one user more: a count of 2^64 - 1 stays. The first gives moment, random word and spelling, and the
+    /// question is first due in its series 20 to 120 ms later. Refused only for want of memory, never where there is room,
+    /// and then the questions are as before. (RFC 6762 5.2)
     pub fn start(&mut self, now: u64, word: u32, question: &Key) -> Result<(), AllocError>
         requires { now ≤ 2 ^ 53 }
         ensures ok { OnOk result (self.new.questions ≡ with_user now word question.now self.old.questions) }
@@ -99,12 +89,7 @@ impl Asker {
         ensures reserved { 1 ≤ self.old.spare → IsOk result }
         ensures spare { self.old.spare ≤ self.new.spare + 1 }
     {
-        if self.starts == u64::MAX {
-            return Err(AllocError);
-        }
-        add_user(&mut self.questions, now, word, question)?;
-        self.starts += 1;
-        Ok(())
+        add_user(&mut self.questions, now, word, question)
     }
 
     /// Takes one user from a question, which ends with its last; whether it had a user.

@@ -18,7 +18,7 @@ pub struct Tracked {
     pub start: u64,
     /// The random word of that moment's entry.
     pub word: u32,
-    /// How many users it has.
+    /// How many users it has. A count of 2^64 - 1 stays where one more comes.
     pub users: u64,
     /// The moment from which on it is due in the series.
     pub next: u64,

@@ -1,7 +1,7 @@
 // The questions in their order, and the users of each.
 ghost use Rattle.std.specs.Prelude.{◌≡◌, ◌+◌, ◌-◌, ◌<◌, ◌≤◌, ◌^◌, not, map, filter, length, OnOk, OnErr, IsOk, vec_len, vec_capacity};
 ghost use Rattle.std.specs.List.{list_any, position, prefix_len};
-ghost use Rattle.mdns_question.specs.Tracking.{is_for, is_before, used_more, used_less, is_used, noted, with_user, without_user, with_asking, AreUsedAtMost};
+ghost use Rattle.mdns_question.specs.Tracking.{is_for, is_before, used_more, used_less, is_used, noted, with_user, without_user, with_asking};
 
 use crate::Tracked;
 use crate::keys::{key_cmp, key_eq};
@@ -17,16 +17,15 @@ pub fn has(questions: &[Tracked], question: &Key) -> bool
     questions.iter().any(|one| key_eq(question, &one.key))
 }
 
-/// Gives the question one user more. The first gives moment, word and spelling. Refused only for want of memory, and then
-/// nothing changes.
+/// Gives the question one user more: a count of 2^64 - 1 stays. The first gives moment, word and spelling. Refused only for
+/// want of memory, and then nothing changes.
 pub fn add_user(
     questions: &mut Vec<Tracked>,
     now: u64,
     word: u32,
     question: &Key,
 ) -> Result<(), AllocError>
-    requires bound { now ≤ 2 ^ 53 }
-    requires users { AreUsedAtMost (2 ^ 64 - 2) questions.old.items }
+    requires { now ≤ 2 ^ 53 }
     ensures ok { OnOk result (questions.new.items ≡ with_user now word question.now questions.old.items) }
     ensures err { OnErr result (questions.new.items ≡ questions.old.items) }
     ensures reserved { vec_len questions.old < vec_capacity questions.old → IsOk result }
@@ -81,7 +80,6 @@ fn note_one(one: &mut Tracked, now: u64, question: &Key, cause: Cause)
 }
 
 fn use_more(questions: &mut [Tracked], question: &Key)
-    requires { AreUsedAtMost (2 ^ 64 - 2) questions.old }
     ensures { questions.new ≡ map (used_more question.now) questions.old }
 {
     for one in questions.iter_mut() {
@@ -90,11 +88,10 @@ fn use_more(questions: &mut [Tracked], question: &Key)
 }
 
 fn use_one_more(one: &mut Tracked, question: &Key)
-    requires { one.old.users ≤ 2 ^ 64 - 2 }
     ensures { one.new ≡ used_more question.now one.old }
 {
     if key_eq(question, &one.key) {
-        one.users += 1;
+        one.users = one.users.saturating_add(1);
     }
 }
 
