@@ -2,7 +2,9 @@
 #![tactic(auto)]
 
 mod happened;
+mod walk;
 mod when;
 
 pub use happened::{Happened, Heard, Idle, Refusal};
+pub use walk::{Walk, walk_of};
 pub use when::When;
