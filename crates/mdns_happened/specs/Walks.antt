@@ -19,9 +19,9 @@ abbrev pub is_walked : List Walk → List (List ℕ) → Bool
 is_walked walks name = list_any (is_for name) walks
 
 -- A walk has the records of its name among those held before an event, and among those held after it, in their order.
-pub record IsWalk (held later : List Held) (walk : Walk) : Type 0 where
+pub record IsWalk (held after : List Held) (walk : Walk) : Type 0 where
   pub earlier : walk.earlier.items ≡ held_of walk.name held
-  pub later : walk.later.items ≡ held_of walk.name later
+  pub later : walk.later.items ≡ held_of walk.name after
 
 abbrev pub AreWalks : List Held → List Held → List Walk → Type 0
 AreWalks held later walks = AllByRecursion (IsWalk held later) walks
