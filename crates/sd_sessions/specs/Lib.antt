@@ -6,3 +6,4 @@ pub mod Kept
 pub mod Planned
 pub mod Answered
 pub mod Laws
+pub mod Walked

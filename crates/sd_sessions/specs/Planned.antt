@@ -2,7 +2,10 @@
 use Rattle.std.specs.Prelude.{◌≡◌, ℕ, ◌<◌, ◌≤◌, true, List, [], map, vec_capacity}
 use Rattle.std.specs.Option.{is_some}
 use Rattle.dns_record.specs.declared.record.Rr.{Rr}
-use Rattle.mdns_happened.specs.Told.{Told}
+use Rattle.mdns_history.specs.declared.event.Event.{Event}
+use Rattle.mdns_history.specs.declared.mark.Mark.{Mark}
+use Rattle.mdns_happened.specs.Told.{Told, told_of}
+use Rattle.sd_sessions.specs.Codes.{kept_outcome}
 use Rattle.sd_sessions.specs.declared.sessions.Plan.{Plan}
 use Rattle.sd_sessions.specs.Sessions.{Session, State}
 use Rattle.sd_sessions.specs.Settling.{change_told, most_taken}
@@ -19,6 +22,10 @@ pub record IsPlan (told : Told) (earlier later : List Rr) (sessions : List Sessi
 pub record IsReady (told : Told) (plan : Plan) (state : State) : Type 0 where
   pub queues : HasRoom state.room plan.changes.items
   pub place : is_some told.opened ≡ true → 0 < state.places
+
+-- What is told is what an event amounts to for these sessions.
+abbrev pub IsTold : Told → State → Type 0
+IsTold told state = (event : Event) × (marks : List Mark) × (told ≡ told_of event (kept_outcome state.opened state.sessions event) marks)
 
 -- A plan is of what happened to these sessions, between some records before it and after it.
 abbrev pub IsAnyPlan : Told → List Session → Plan → Type 0

@@ -1,19 +1,24 @@
 // The attached sessions of a daemon.
-ghost use Rattle.std.specs.Prelude.{◌≡◌, ◌+◌, ◌++◌, ◌^◌, ◌||◌, ◌<◌, ◌≤◌, [], length, nat_le, vec_len, vec_capacity, true, IfOk, OnOk, if◌then◌else◌};
+ghost use Rattle.std.specs.Prelude.{◌≡◌, ℕ, List, ◌+◌, ◌++◌, ◌^◌, ◌||◌, ◌<◌, ◌≤◌, [], length, nat_le, vec_len, vec_capacity, true, IfOk, OnOk, if◌then◌else◌};
 ghost use Rattle.std.specs.List.{find};
 ghost use Rattle.std.specs.Option.{is_some, unwrap_or};
+ghost use Rattle.mdns_history.specs.declared.held.Held.{Held};
+ghost use Rattle.mdns_cache.specs.Ended.{is_among};
 ghost use Rattle.mdns_happened.specs.Told.{told_of, told_by};
+ghost use Rattle.mdns_happened.specs.Walks.{AreWalks};
 ghost use Rattle.sd_sessions.specs.Codes.{call_outcome_of, has_number};
 ghost use Rattle.sd_sessions.specs.Settling.{cuts_of, gifts_of, most_taken, outcome_told, rrs_of, sessions_told, shifted_told};
 ghost use Rattle.sd_sessions.specs.Kept.{operations_in, session_of, sessions_of, AreFit, AreWellFormed, HaveRoom, IsWellFormedCall};
-ghost use Rattle.sd_sessions.specs.Planned.{IsPlan, IsAnyPlan, IsReady};
+ghost use Rattle.sd_sessions.specs.Planned.{IsPlan, IsAnyPlan, IsReady, IsTold};
+ghost use Rattle.sd_sessions.specs.Walked.{AreNamed, IsCallNamed, AreKnown, IsCallWalked};
 
 use crate::change::{SessionChange, changes, gifts, put_cuts};
 use crate::codes::call_code;
 use crate::items::Around;
 use crate::session::{SessionState, find};
 use crate::settle::{finish, make_room, settle};
-use mdns_happened::{Happened, Idle};
+use dns_name::Name;
+use mdns_happened::{Happened, Idle, Walk};
 use mdns_history::{Event, Gifts, Marks, Operation, Outcome};
 use sd_call::{Item, Request};
 use std::alloc::{AllocError, Global};
@@ -133,6 +138,34 @@ impl Sessions {
         let changes = changes(self.alloc, &self.attached, happened, held)?;
         let taken = room_to_take(self.alloc, happened)?;
         Ok(Plan { changes, taken })
+    }
+
+    /// Puts behind others the names by whose records an event is looked at for the operations: of the touched names those
+    /// that an operation asks for, and the name that an accepted call asks for. A name that is among them is put no second
+    /// time, case aside. Refused only for want of memory.
+    pub fn put_names(
+        &self,
+        names: &mut Vec<Name>,
+        happened: &Happened<'_>,
+        touched: &[Name],
+    ) -> Result<(), AllocError>
+        requires { IsWellFormedCall (told_by happened.now).call }
+        ensures kept { OnOk result ((name : List (List ℕ)) → is_among names.old.items name ≡ true → is_among names.new.items name ≡ true) }
+        ensures asked { OnOk result (AreNamed touched.now names.new.items self.now.sessions) }
+        ensures call { OnOk result (IsCallNamed names.new.items (told_by happened.now).call) }
+    {
+        Err(AllocError)
+    }
+
+    /// What an event changes in the sessions, told by the records of the names that were walked: each name that an operation
+    /// asks for was, or its records stay as they are, and what an accepted call asks for was. Nothing is changed. Refused only
+    /// for want of memory.
+    pub fn plan_by_names(&self, happened: &Happened<'_>, walks: &[Walk]) -> Result<Plan, AllocError>
+        requires { IsTold (told_by happened.now) self.now }
+        ensures { IfOk result (λ plan. (held later : List Held) → AreWalks held later walks.now → AreKnown held later walks.now self.now.sessions
+            → IsCallWalked walks.now (told_by happened.now).call → IsPlan (told_by happened.now) (rrs_of held) (rrs_of later) self.now.sessions plan) }
+    {
+        Err(AllocError)
     }
 
     /// Takes the room that a plan needs. Nothing else changes. Refused only for want of memory.
