@@ -1,11 +1,11 @@
 // The cache: the heard records that are live, by name.
-ghost use Rattle.std.specs.Prelude.{◌≡◌, ◌↔◌, ℕ, ◌+◌, ◌-◌, ◌<◌, ◌≤◌, ◌^◌, List, [], ◌∷◌, ◌++◌, map, length, slice_get, IsTrue, IsOk, IfOk, OnOk, OnErr, IfErr, IfNone, IfSome, Err};
+ghost use Rattle.std.specs.Prelude.{◌≡◌, ◌↔◌, ℕ, ◌+◌, ◌-◌, ◌<◌, ◌≤◌, ◌^◌, List, [], ◌∷◌, ◌++◌, map, filter, length, slice_get, IsTrue, IsOk, IfOk, OnOk, OnErr, IfErr, IfNone, IfSome, Err};
 ghost use Rattle.std.specs.Option.{option_copied};
 ghost use Rattle.std.specs.List.Sorted.{IsPermutation};
 ghost use Rattle.cache_by_name.specs.Ends.{IsPlayed};
 ghost use Rattle.mdns_cache.specs.Ended.{HasEnded, AreOfEnded};
 ghost use Rattle.mdns_history.specs.Hearings.{Hearing};
-ghost use Rattle.mdns_history.specs.Lifetimes.{live_of};
+ghost use Rattle.mdns_history.specs.Lifetimes.{is_live_at, live_of};
 ghost use Rattle.mdns_cache.specs.Lifetimes.{hearing_at, hearings_at, after_hearings, Holds, Stands, AllLive, AllHeard, IsFirstEnded, held_of, next_end_of};
 
 use crate::count::is_room;
@@ -102,6 +102,9 @@ impl Cache {
         // The same, told of what is then held.
         ensures held { (word : ℕ) → AllLive now self.now.held
             → IsTrue result ↔ (length (after_hearings self.now.held (map (hearing_at now word) heard.now)) ≤ self.now.limit) }
+        // And where some of what is held has ended.
+        ensures ended { (word : ℕ) → IsTrue result
+            ↔ (length (after_hearings (filter (is_live_at now) self.now.held) (map (hearing_at now word) heard.now)) ≤ self.now.limit) }
     {
         is_room(self.records.values(), self.limit, now, heard)
     }
@@ -119,6 +122,9 @@ impl Cache {
         ensures live { OnOk result (AllLive now self.new.held) }
         ensures heard { OnOk result (AllHeard now self.old.held → AllHeard now self.new.held) }
         ensures within { OnOk result (length self.new.held ≤ self.new.limit) }
+        // The same, told of what is held.
+        ensures held { OnOk result (IsPermutation self.new.held (after_hearings self.old.held (map (hearing_at now word) heard))) }
+        ensures over { (result ≡ Err HearError.Full) ↔ (self.old.limit < length (after_hearings self.old.held (map (hearing_at now word) heard))) }
 
         ensures full { (past : List Hearing) → Holds self.old.held past now
             → (result ≡ Err HearError.Full) ↔ (self.old.limit < length (live_of (hearings_at now word heard ++ past) now)) }

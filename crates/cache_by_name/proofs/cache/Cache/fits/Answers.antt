@@ -7,7 +7,7 @@ use Rattle.mdns_cache.specs.Contents.{Contents}
 use Rattle.mdns_cache.specs.Lifetimes.{count_renewed}
 use Rattle.mdns_cache.proofs.Counting.{is_left, length-live_of, length-after}
 use Rattle.by_name.proofs.Layers.{in_layers-permutes}
-use Rattle.cache_by_name.proofs.AfterHearings.{count_permuted}
+use Rattle.cache_by_name.proofs.AfterHearings.{count_permuted, length-after_ended}
 use Rattle.cache_by_name.proofs.cache.Cache.fits.Goals as goal
 
 pub returns-clause-live : goal.returns-clause-live
@@ -28,4 +28,14 @@ returns-clause-held c = λ word live.
     ap (count_by test) (c.values.ensures) ∙ sym (count_permuted test _ _ (in_layers-permutes c.self.inside.records.entries)) ∙ ap (λ (v : Contents). count_by test v.held) c.self.view_is in
     let limit : c.self.inside.limit ≡ c.args.self.now.limit = ap (λ (v : Contents). v.limit) c.self.view_is in
     subst (λ (n : ℕ). IsTrue c.is_room.result ↔ (n ≤ c.args.self.now.limit)) (sym (length-after c.args.now word c.args.heard.now c.args.self.now.held live))
+    (subst (λ (n : ℕ). Tells n c.args.self.now.limit) counted (subst (λ (n : ℕ). Tells (count_by test c.values.result.now) n) limit c.is_room.ensures))
+
+pub returns-clause-ended : goal.returns-clause-ended
+returns-clause-ended c = λ word.
+    let Tells : ℕ → ℕ → Type 0 = λ left limit. IsTrue c.is_room.result ↔ (left + count_renewed c.args.heard.now ≤ limit) in
+    let test : Held → Bool = λ one. is_live_at c.args.now one && is_left c.args.heard.now one in
+    let counted : count_by test c.values.result.now ≡ count_by test c.args.self.now.held =
+    ap (count_by test) (c.values.ensures) ∙ sym (count_permuted test _ _ (in_layers-permutes c.self.inside.records.entries)) ∙ ap (λ (v : Contents). count_by test v.held) c.self.view_is in
+    let limit : c.self.inside.limit ≡ c.args.self.now.limit = ap (λ (v : Contents). v.limit) c.self.view_is in
+    subst (λ (n : ℕ). IsTrue c.is_room.result ↔ (n ≤ c.args.self.now.limit)) (sym (length-after_ended c.args.now word c.args.heard.now c.args.self.now.held))
     (subst (λ (n : ℕ). Tells n c.args.self.now.limit) counted (subst (λ (n : ℕ). Tells (count_by test c.values.result.now) n) limit c.is_room.ensures))

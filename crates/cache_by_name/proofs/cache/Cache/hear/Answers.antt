@@ -86,3 +86,32 @@ returns-clause-within c =
     heard_in hs c.args.self.now.held c.self.inside.records.entries c.hear_all.new.records.entries was (subst (λ (l : List Hearing). IsPermutation (after_hearings (values_of c.self.inside.records.entries) l) (values_of c.hear_all.new.records.entries)) records c.hear_all.ensures.held) in
     let len : length (in_layers c.hear_all.new.records.entries) ≡ length (after_hearings c.args.self.now.held hs) = length_permutation _ _ moved in
     omega (arith, fits, limit, len)
+
+pub returns-clause-held : goal.returns-clause-held
+returns-clause-held c =
+    let hs : List Hearing = map (hearing_at c.args.now c.args.word) c.args.heard in
+    let was : in_layers c.self.inside.records.entries ≡ c.args.self.now.held = ap (λ (v : Contents). v.held) c.self.view_is ∙ c.in_ok-reserve.ensures.held in
+    let records : map (hearing_at c.args.now c.args.word) c.into_vec-records.result.items ≡ hs = ap (map (hearing_at c.args.now c.args.word)) c.into_vec-records.ensures in
+    let moved : IsPermutation (after_hearings c.args.self.now.held hs) (in_layers c.hear_all.new.records.entries) =
+    heard_in hs c.args.self.now.held c.self.inside.records.entries c.hear_all.new.records.entries was (subst (λ (l : List Hearing). IsPermutation (after_hearings (values_of c.self.inside.records.entries) l) (values_of c.hear_all.new.records.entries)) records c.hear_all.ensures.held) in
+    IsPermutation-sym _ _ moved
+
+pub returns-then-not-fits-clause-over : goal.returns-then-not-fits-clause-over
+returns-then-not-fits-clause-over c =
+    let heard : c.as_slice.result.now ≡ c.args.heard = c.as_slice.ensures in
+    let full = past_limit c.fits.result _ _ (rw (← heard) (c.fits.ensures.held c.args.word c.requires.live)) c.if-not-fits.true in
+    (λ e. full, λ h. cc)
+
+pub returns-in_err-reserve-clause-over : goal.returns-in_err-reserve-clause-over
+returns-in_err-reserve-clause-over c =
+    let heard : c.as_slice.result.now ≡ c.args.heard = c.as_slice.ensures in
+    let fits : length (after_hearings c.args.self.now.held (map (hearing_at c.args.now c.args.word) c.args.heard)) ≤ c.args.self.now.limit =
+    rw (← heard) ((c.fits.ensures.held c.args.word c.requires.live).0 c.if-not-fits.false) in
+    (λ e. absurd (not_full c.from_residual.result c.from_residual.ensures.1 e), λ h. absurd (omega (arith, h, fits)))
+
+pub returns-clause-over : goal.returns-clause-over
+returns-clause-over c =
+    let heard : c.as_slice.result.now ≡ c.args.heard = c.as_slice.ensures in
+    let fits : length (after_hearings c.args.self.now.held (map (hearing_at c.args.now c.args.word) c.args.heard)) ≤ c.args.self.now.limit =
+    rw (← heard) ((c.fits.ensures.held c.args.word c.requires.live).0 c.if-not-fits.false) in
+    (λ e. cc, λ h. absurd (omega (arith, h, fits)))
