@@ -14,7 +14,6 @@ use Rattle.std.specs.Map.{values_of}
 use Rattle.std.proofs.lemmas.List.Sorted.{IsPermutation-sym, list_any-IsPermutation}
 use Rattle.mdns_cache.proofs.ListLemmas.{each-weaker}
 use Rattle.mdns_history.specs.declared.held.Held.{Held}
-use Rattle.mdns_cache.specs.Lifetimes.{ending_cmp}
 use Rattle.cache_by_name.specs.Ends.{winner, is_above, IsOn, IsPlayed}
 use Rattle.cache_by_name.proofs.Paths.{on_itself, on_up, none_above, half_below, half_less, half_some, one_of_two}
 use Rattle.cache_by_name.proofs.Root.{HasSooner, one_up, each_at, le_itself, le_through}

@@ -1,13 +1,13 @@
 -- The first record that ends, whatever the order.
-use Rattle.std.proofs.Common.{◌≡◌, ℕ, zero, suc, ◌+◌, ◌<◌, ◌≤◌, min, cond, nat_lt, eqb, Bool, true, false, List, [], ◌∷◌, ◌++◌, map, length, get_or, Option, Some, None, slice_get, refl, sym, ap, subst, ◌∙◌, arith, IsPermutation, Ordering, Less, Equal, Greater}
+use Rattle.std.proofs.Common.{◌≡◌, ℕ, zero, suc, ◌<◌, ◌≤◌, cond, nat_lt, eqb, Bool, true, false, List, [], ◌∷◌, map, Some, slice_get, refl, sym, ap, subst, ◌∙◌, arith, IsPermutation, Less, Equal, Greater}
 use Rattle.std.specs.List.{AllByRecursion, HoldsAt, flat_map}
 use Rattle.std.specs.Map.{values_of}
-use Rattle.std.specs.Ordering.{is_le, nat_cmp, ordering_then}
-use Rattle.std.proofs.lemmas.Bool.{ltb-true, ltb-false, eqb-true, false≢true}
+use Rattle.std.specs.Ordering.{is_le, ordering_then}
+use Rattle.std.proofs.lemmas.Bool.{ltb-true, eqb-true, false≢true}
 use Rattle.std.proofs.lemmas.List.Elements.{All-from_recursion, recursion_from_All}
 use Rattle.std.proofs.lemmas.List.Sorted.{All-permutation, IsPermutation-sym, IsPermutation-trans, IsPermutation-cons}
-use Rattle.std.proofs.lemmas.Option.{slice_get-get_or, get_or_from_slice_get}
-use Rattle.dns_name.specs.Lists.{least_of, least}
+use Rattle.std.proofs.lemmas.Option.{get_or_from_slice_get}
+use Rattle.dns_name.specs.Lists.{least_of}
 use Rattle.dns_record.specs.Records.{record_cmp}
 use Rattle.mdns_history.specs.declared.held.Held.{Held}
 use Rattle.mdns_cache.specs.Lifetimes.{AllLive, IsFirstEnded, ending_cmp, next_end_of}
@@ -15,7 +15,6 @@ use Rattle.mdns_cache.proofs.ListLemmas.{each-weaker}
 use Rattle.mdns_cache.proofs.LeastEnd.{next_end_of-permutation}
 use Rattle.cache_by_name.specs.Ends.{IsFirst}
 use Rattle.cache_by_name.specs.Named.{Entry}
-use Rattle.by_name.specs.At.{at}
 use Rattle.by_name.specs.Filed.{in_layers, IsWithout}
 use Rattle.by_name.proofs.Layers.{in_layers-permutes}
 

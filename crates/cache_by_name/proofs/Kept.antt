@@ -1,5 +1,5 @@
 -- What taking out a record that has ended keeps.
-use Rattle.std.proofs.Common.{◌≡◌, ◌^◌, ◌<◌, ◌+◌, false, ℕ, ◌≤◌, List, [], ◌∷◌, length, Option, Some, None, IsPermutation, refl, sym, ap, subst, ◌∙◌, arith}
+use Rattle.std.proofs.Common.{◌≡◌, ◌^◌, ◌<◌, ◌+◌, ℕ, ◌≤◌, List, [], ◌∷◌, length, Option, Some, None, IsPermutation, refl, sym, ap, subst, ◌∙◌, arith}
 use Rattle.std.specs.Prelude.{IfSome, IfNone}
 use Rattle.std.specs.List.{IsDistinct}
 use Rattle.std.specs.Map.{values_of}

@@ -9,3 +9,4 @@ pub mod EndsFirst
 pub mod AfterHearings
 pub mod Kept
 pub mod Below
+pub mod NewOnes

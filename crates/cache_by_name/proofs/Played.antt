@@ -1,7 +1,7 @@
 -- A tournament over a list that was changed at some places.
-use Rattle.std.proofs.Common.{◌≡◌, ◌≢◌, ℕ, zero, suc, ◌+◌, ◌-◌, ◌*◌, ◌/◌, ◌<◌, ◌≤◌, ⊎_elim, inl, inr, ◌⊎◌, List, [], ◌∷◌, length, get_or, set, take, map, Option, Some, None, slice_get, swap_remove, refl, sym, ap, subst, ◌∙◌, arith}
+use Rattle.std.proofs.Common.{◌≡◌, ℕ, ◌+◌, ◌*◌, ◌≤◌, ⊎_elim, inl, inr, ◌⊎◌, List, [], ◌∷◌, length, slice_get, sym, subst, ◌∙◌, arith}
 use Rattle.mdns_history.specs.declared.held.Held.{Held}
-use Rattle.cache_by_name.specs.Ends.{winner, sooner, sooner_of, IsOn, IsOnAny, IsWon, IsPlayed}
+use Rattle.cache_by_name.specs.Ends.{winner, sooner_of, IsOn, IsOnAny, IsWon, IsPlayed}
 use Rattle.cache_by_name.proofs.Paths.{on_further, half_even, half_odd}
 use Rattle.cache_by_name.proofs.Mending.{winner_home}
 use Rattle.by_name.specs.Filed.{IsOneOf, AgreeBut}

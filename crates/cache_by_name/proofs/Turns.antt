@@ -9,7 +9,6 @@ use Rattle.std.proofs.lemmas.List.Elements.{recursion_from_All}
 use Rattle.std.proofs.lemmas.Slice.Eq.{bytes_eq-Decides}
 use Rattle.std.proofs.lemmas.Map.Made.{is_some-lookup}
 use Rattle.std.proofs.lemmas.Map.Views.{All-values_from_lookup}
-use Rattle.std.proofs.lemmas.Map.Entries.{place_from_lookup}
 use Rattle.indexmap.specs.Layout.{set_value_at}
 use Rattle.dns_name.specs.Names.{folded_eq, wire_of, folded}
 use Rattle.dns_record.specs.declared.record.Rr.{Rr}

@@ -1,5 +1,5 @@
 -- The held records of a name stand in the order of their numbers.
-use Rattle.std.proofs.Common.{◌≡◌, Bool, true, zero, suc, Some, [], ◌∷◌, ◌∙◌, ℕ, List, sym, ap, refl, slice_get}
+use Rattle.std.proofs.Common.{◌≡◌, Bool, true, zero, suc, Some, [], ◌∷◌, ◌∙◌, ℕ, List, sym, ap, slice_get}
 use Rattle.std.specs.List.{AllByRecursion}
 use Rattle.std.specs.Str.{bytes_eq}
 use Rattle.std.proofs.lemmas.Slice.Eq.{bytes_eq-Decides}

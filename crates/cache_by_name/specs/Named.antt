@@ -1,12 +1,12 @@
 -- Held records by name: each stands under the name of its owner.
-use Rattle.std.specs.Prelude.{◌≡◌, ℕ, suc, nat_le, Bool, ◌&&◌, List, IsSome}
+use Rattle.std.specs.Prelude.{◌≡◌, ℕ, nat_le, Bool, ◌&&◌, List}
 use Rattle.std.specs.List.{AllByRecursion, IsDistinct}
 use Rattle.std.specs.Map.{keys_of}
 use Rattle.std.specs.Str.{bytes_eq}
 use Rattle.dns_record.specs.Records.{same}
 use Rattle.mdns_history.specs.declared.held.Held.{Held}
 use Rattle.by_name.specs.At.{At, at_eq, owner_of}
-use Rattle.by_name.specs.Filed.{found, HaveNoGap}
+use Rattle.by_name.specs.Filed.{HaveNoGap}
 
 -- an entry: a record with its place
 abbrev pub Entry : Type 0

@@ -106,7 +106,7 @@ impl Cache {
         ensures ended { (word : ℕ) → IsTrue result
             ↔ (length (after_hearings (filter (is_live_at now) self.now.held) (map (hearing_at now word) heard.now)) ≤ self.now.limit) }
     {
-        is_room(self.records.values(), self.limit, now, heard)
+        is_room(&self.records, self.next_end(), self.limit, now, heard)
     }
 
     /// Hears the records of a packet, in their order, at `now` with the packet's random word. `Full` where more records

@@ -1,8 +1,7 @@
-use Rattle.std.proofs.Common.{◌≡◌, ℕ, ◌+◌, ◌*◌, ◌<◌, ◌≤◌, true, ⊎_elim, List, [], ◌∷◌, ◌++◌, length, Option, Some, None, slice_get, refl, sym, ap, subst, ◌∙◌, arith, rules}
-use Rattle.std.specs.Prelude.{OnOk}
+use Rattle.std.proofs.Common.{◌≡◌, ℕ, ◌+◌, ◌<◌, true, ⊎_elim, List, [], ◌∷◌, ◌++◌, length, Some, None, slice_get, sym, ap, subst, ◌∙◌, arith}
 use Rattle.mdns_history.specs.declared.held.Held.{Held}
 use Rattle.mdns_cache.proofs.ListLemmas.{each-append}
-use Rattle.cache_by_name.specs.Ends.{winner, IsOn}
+use Rattle.cache_by_name.specs.Ends.{winner}
 use Rattle.cache_by_name.specs.Ended.{IsEnded, AreEnded}
 use Rattle.mdns_cache.specs.Ended.{is_among}
 use Rattle.cache_by_name.proofs.Below.{winner_ended, leaf_itself, on_child, on_ok_map, among_pushed, some_inside, some_none}

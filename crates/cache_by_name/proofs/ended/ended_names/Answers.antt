@@ -1,9 +1,7 @@
-use Rattle.std.proofs.Common.{◌≡◌, ℕ, ◌+◌, ◌<◌, ◌≤◌, true, List, [], length, Some, slice_get, refl, sym, ap, subst, ◌∙◌, arith, rules}
+use Rattle.std.proofs.Common.{◌≡◌, ◌+◌, ◌<◌, List, length, slice_get, sym, ap, subst, ◌∙◌, arith, rules}
 use Rattle.std.specs.Map.{values_of}
 use Rattle.mdns_history.specs.declared.held.Held.{Held}
-use Rattle.cache_by_name.specs.Ends.{IsOn}
 use Rattle.cache_by_name.specs.Ended.{AreEnded}
-use Rattle.mdns_cache.specs.Ended.{is_among, AreOfEnded, HasEnded}
 use Rattle.cache_by_name.specs.Named.{Entry}
 use Rattle.by_name.specs.Filed.{in_layers}
 use Rattle.by_name.proofs.Layers.{in_layers-permutes}

@@ -1,10 +1,9 @@
-use Rattle.std.proofs.Common.{◌≡◌, ℕ, ◌<◌, ◌≤◌, List, Some, slice_get, refl, subst, sym, ap, ◌∙◌}
+use Rattle.std.proofs.Common.{◌≡◌, List, Some, slice_get, subst, sym, ap, ◌∙◌}
 use Rattle.std.specs.List.{HoldsAt}
 use Rattle.std.specs.Map.{values_of, lookup}
 use Rattle.mdns_history.specs.declared.held.Held.{Held}
 use Rattle.by_name.specs.At.{At, at_eq}
 use Rattle.cache_by_name.specs.Named.{Entry}
-use Rattle.by_name.specs.Filed.{found}
 use Rattle.cache_by_name.specs.Ends.{IsFirst}
 use Rattle.cache_by_name.proofs.EndsFirst.{all_live, first_ended, first_at, value_at}
 use Rattle.cache_by_name.proofs.expiry.first_place.Goals as goal

@@ -1,4 +1,4 @@
-use Rattle.std.proofs.Common.{◌≡◌, ◌∙◌, ◌++◌, List, [], ◌∷◌, filter, map, nat_lt, true, sym, ap, subst, IsPermutation}
+use Rattle.std.proofs.Common.{◌++◌, List, [], ◌∷◌, filter, map, sym, subst, IsPermutation}
 use Rattle.std.specs.Map.{values_of}
 use Rattle.std.proofs.lemmas.Bool.{lt-ltb}
 use Rattle.mdns_history.specs.declared.held.Held.{Held}

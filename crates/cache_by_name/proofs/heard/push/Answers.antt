@@ -1,4 +1,4 @@
-use Rattle.std.proofs.Common.{◌≡◌, ℕ, List, [], ◌∷◌, ◌++◌, length, subst, sym, ap, ◌∙◌}
+use Rattle.std.proofs.Common.{◌≡◌, ℕ, List, [], ◌∷◌, length, subst, sym}
 use Rattle.std.specs.Map.{values_of}
 use Rattle.mdns_history.specs.declared.held.Held.{Held}
 use Rattle.by_name.specs.Filed.{AgreeBut}

@@ -1,4 +1,4 @@
-use Rattle.std.proofs.Common.{◌<◌, ◌≢◌, sym, arith}
+use Rattle.std.proofs.Common.{◌<◌, sym, arith}
 use Rattle.std.specs.Map.{values_of}
 use Rattle.mdns_cache.specs.Lifetimes.{hearing_at}
 use Rattle.cache_by_name.proofs.Turns.{nothing_cut}

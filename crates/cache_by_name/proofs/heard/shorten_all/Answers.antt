@@ -1,5 +1,4 @@
 use Rattle.std.proofs.Common.{◌≡◌, ◌∙◌, ◌^◌, ◌+◌, ◌<◌, ◌≤◌, ℕ, List, None, Some, map, length, refl, sym, ap, subst, slice_get, arith, rules}
-use Rattle.std.specs.Map.{values_of}
 use Rattle.indexmap.specs.Layout.{set_value_at}
 use Rattle.mdns_history.specs.declared.held.Held.{Held}
 use Rattle.mdns_history.specs.Hearings.{Hearing}

@@ -1,4 +1,4 @@
-use Rattle.std.proofs.Common.{◌≡◌, ◌^◌, ◌-◌, ◌<◌, ◌≤◌, [], List, map, length}
+use Rattle.std.proofs.Common.{◌≡◌, ◌-◌, [], map, length}
 use Rattle.std.specs.Map.{values_of}
 use Rattle.by_name.specs.At.{at, owner_of}
 use Rattle.mdns_cache.specs.Lifetimes.{hearing_at, shortened}

@@ -1,11 +1,11 @@
-use Rattle.std.proofs.Common.{◌≡◌, ℕ, ◌+◌, min, Bool, cond, List, Some, get_or, slice_get, sym, ap, ◌∙◌}
+use Rattle.std.proofs.Common.{◌≡◌, ◌+◌, min, Bool, cond, List, get_or, sym, ap, ◌∙◌}
 use Rattle.std.specs.Map.{values_of}
 use Rattle.std.proofs.lemmas.Option.{get_or_from_slice_get}
 use Rattle.indexmap.specs.Layout.{set_value_at}
 use Rattle.mdns_history.specs.declared.held.Held.{Held}
 use Rattle.mdns_history.specs.Lifetimes.{cuts}
 use Rattle.by_name.proofs.Pushing.{set_same}
-use Rattle.mdns_cache.specs.Lifetimes.{hearing_at, shortened}
+use Rattle.mdns_cache.specs.Lifetimes.{hearing_at}
 use Rattle.cache_by_name.proofs.heard.shorten_at.Goals as goal
 
 pub returns-else-is_cut-clause-entries : goal.returns-else-is_cut-clause-entries

@@ -1,7 +1,5 @@
-use Rattle.std.proofs.Common.{◌≡◌, ◌∙◌, ◌≤◌, ◌<◌, ◌++◌, ℕ, List, ap, sym, subst, arith, length, map, Result, Ok, Err, IsErrAnd, IsPermutation}
-use Rattle.std.specs.Prelude.{IsOk}
+use Rattle.std.proofs.Common.{◌≡◌, ◌∙◌, ◌≤◌, ◌<◌, ◌++◌, List, ap, subst, arith, length, map, Result, Ok, Err, IsErrAnd, IsPermutation}
 use Rattle.std.specs.Map.{values_of}
-use Rattle.std.proofs.lemmas.Bool.{cases_lt}
 use Rattle.std.proofs.lemmas.List.Sorted.{length_permutation, IsPermutation-trans, IsPermutation-sym}
 use Rattle.mdns_history.specs.declared.held.Held.{Held}
 use Rattle.mdns_history.specs.Hearings.{Hearing}
@@ -9,10 +7,9 @@ use Rattle.mdns_history.specs.Lifetimes.{live_of}
 use Rattle.mdns_cache.specs.declared.error.HearError.{HearError}
 use Rattle.mdns_cache.specs.declared.error.HearError.TheVariants.{Full, NoMemory}
 use Rattle.mdns_cache.specs.Contents.{Contents}
-use Rattle.mdns_cache.specs.Lifetimes.{hearing_at, hearings_at, after_hearings, AllLive, AllHeard}
+use Rattle.mdns_cache.specs.Lifetimes.{hearing_at, hearings_at, after_hearings}
 use Rattle.mdns_cache.proofs.Hearing.{Holds-after_hearings, AllLive-after_hearings, AllHeard-after_hearings, Stands-from_holds}
 use Rattle.mdns_cache.proofs.Counting.{past_limit}
-use Rattle.cache_by_name.specs.Named.{Entry}
 use Rattle.by_name.specs.Filed.{in_layers}
 use Rattle.cache_by_name.proofs.EndsFirst.{each-permuted}
 use Rattle.cache_by_name.proofs.AfterHearings.{heard_in}

@@ -1,0 +1,16 @@
+-- How many records a packet adds to those that are held, where none of these has ended.
+use Rattle.std.specs.Prelude.{ℕ, ◌+◌, nat_lt, Bool, not, ◌&&◌, List, [], ◌∷◌, if◌then◌else◌}
+use Rattle.std.specs.List.{list_any}
+use Rattle.dns_record.specs.declared.record.Rr.{Rr}
+use Rattle.dns_record.specs.Records.{same}
+use Rattle.mdns_history.specs.declared.held.Held.{Held}
+use Rattle.mdns_cache.specs.Lifetimes.{is_renewed_by}
+
+-- one of the held records is the same
+abbrev pub is_held : List Held → Rr → Bool
+is_held held rr = list_any (λ (one : Held). same one.rr rr) held
+
+-- how many different records are heard with a TTL above 0 of which none that is the same is held
+abbrev pub count_new : List Held → List Rr → ℕ
+count_new held [] = 0
+count_new held (rr ∷ heard) = (if nat_lt 0 rr.ttl && not (is_renewed_by rr heard) && not (is_held held rr) then 1 else 0) + count_new held heard
