@@ -6,8 +6,9 @@ use crate::outside::{Input, Output};
 use mdns_base::{Failed, Sink};
 use std::alloc::{AllocError, Global};
 use std::io;
-use std::io::{ErrorKind, Read, Write};
+use std::io::{ErrorKind, Read, Write, pipe};
 use std::test::Fail;
+use std::thread;
 
 // Moves at most so many bytes at a time, and every other call is interrupted by a signal.
 #[derive(Drop)]
@@ -108,6 +109,25 @@ fn input_is_read_whole(rt: HostRuntime) -> Result<(), Fail> {
         assert_eq!(rt; input.faults(), 0);
         assert!(rt; all[..] == piece[..], "{most}");
     }
+    Ok(())
+}
+
+// A pipe of the system holds less than a piece, so each end waits for the other.
+#[test]
+fn a_pipe_carries_pieces_whole(rt: HostRuntime) -> Result<(), Fail> {
+    let alloc = rt.alloc();
+    let (reader, writer) = pipe(&rt)?;
+    let piece = long_piece(alloc)?;
+    let mut whole = long_piece(alloc)?;
+    whole.extend_from_slice(&piece)?;
+    let putter = thread::spawn(&rt, move || {
+        let mut output = Output::new(writer);
+        output.put(&piece).is_ok() && output.put(&piece).is_ok()
+    })?;
+    let mut input = Input::new(alloc, reader);
+    let all = read_all(alloc, &mut input).map_err(|_| AllocError)?;
+    assert!(rt; putter.join(&rt));
+    assert!(rt; all[..] == whole[..]);
     Ok(())
 }
 
