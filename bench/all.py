@@ -7,10 +7,11 @@ It builds what isn't built yet, and needs valgrind. It takes some minutes, and o
 take. Nothing here is part of the gate.
 """
 import core
+import held
 import measure
 import messages
 import outbox
 from tools import table
 
 if __name__ == "__main__":
-    table(row for part in (measure, core, messages, outbox) for row in part.rows())
+    table(row for part in (measure, core, held, messages, outbox) for row in part.rows())
