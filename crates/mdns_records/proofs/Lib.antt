@@ -1,0 +1,7 @@
+pub mod Named
+pub mod Later
+pub mod Orders
+pub mod Holding
+pub mod Taken
+pub mod Walking
+pub mod Fitting

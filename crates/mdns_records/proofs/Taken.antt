@@ -1,0 +1,30 @@
+-- Records that have ended, taken out one after another.
+use Rattle.std.proofs.Common.{◌≡◌, ℕ, ◌+◌, ◌≤◌, Bool, true, false, cond, List, [], ◌∷◌, ◌++◌, map, length, filter, Option, Some, None, Result, Ok, Err, IfOk, OnOk, IfSome, refl, ap, subst, ◌∙◌, sym, arith, IsPermutation}
+use Rattle.std.specs.Prelude.{IfNone}
+use Rattle.std.specs.Option.{is_some}
+use Rattle.std.proofs.lemmas.List.Sorted.{length_permutation, IsPermutation-sym, IsPermutation-trans}
+use Rattle.mdns_base.proofs.Permutations.{IsPermutation-filter}
+use Rattle.mdns_history.specs.declared.held.Held.{Held}
+use Rattle.mdns_history.specs.Lifetimes.{is_live_at}
+use Rattle.mdns_cache.specs.Lifetimes.{IsFirstEnded}
+
+-- one record is taken out, so fewer are left
+pub fewer : (o : Option Held) (before after : List Held) → is_some o ≡ true → IfSome o (λ one. IsPermutation before (one ∷ after)) → length after + 1 ≡ length before
+fewer None before after some taken = cc
+fewer (Some one) before after some taken = let same = length_permutation before (one ∷ after) taken in omega arith
+
+-- and it wasn't live
+pub live_left : (moment : ℕ) (o : Option Held) (before after : List Held) → is_some o ≡ true → IfSome o (IsFirstEnded moment before) → IfSome o (λ one. IsPermutation before (one ∷ after)) →
+    IsPermutation (filter (is_live_at moment) after) (filter (is_live_at moment) before)
+live_left moment None before after some first taken = cc
+live_left moment (Some one) before after some first taken =
+    let ended : one.end ≤ moment = first.ended in
+    let gone : is_live_at moment one ≡ false = grind arith in
+    let q = IsPermutation-filter (is_live_at moment) before (one ∷ after) taken in
+    IsPermutation-sym _ _
+    (subst (λ (b : Bool). IsPermutation (filter (is_live_at moment) before) (cond b (one ∷ filter (is_live_at moment) after) (filter (is_live_at moment) after))) gone q)
+
+-- what is said of no record
+pub of_none : {A : Type 0} (o : Option Held) → is_some o ≡ false → IfNone o A → A
+of_none None none h = h
+of_none (Some one) none h = cc

@@ -1,0 +1,13 @@
+use Rattle.std.proofs.Common.{◌≡◌, ◌≤◌, length, filter, IsPermutation}
+use Rattle.mdns_history.specs.Lifetimes.{is_live_at}
+use Rattle.mdns_records.proofs.changing.take_ended.Given as goal
+
+abbrev pub invariant-loop : goal.invariant-loop
+invariant-loop g l = record {
+  held : IsPermutation (filter (is_live_at l.now) l.cache.held) (filter (is_live_at l.now) l.initial.cache.held);
+  limit : l.cache.limit ≡ l.initial.cache.limit;
+  room : l.initial.cache.spare ≤ l.cache.spare;
+}
+
+abbrev pub decreases-loop : goal.decreases-loop
+decreases-loop g l = length l.cache.held

@@ -1,0 +1,15 @@
+use Rattle.std.proofs.Common.{◌≡◌, ◌∙◌, ◌++◌, ◌∷◌, [], map, ap, sym, subst, rules}
+use Rattle.std.proofs.lemmas.List.{map-append}
+use Rattle.mdns_happened.specs.declared.walk.Walk.{Walk}
+use Rattle.mdns_happened.specs.Walks.{AreWalks}
+use Rattle.mdns_records.specs.After.{held_after}
+use Rattle.mdns_records.proofs.Walking.{walks-push}
+use Rattle.mdns_records.proofs.records.Records.walk.Goals as goal
+
+pub loop-name-preserved : goal.loop-name-preserved
+loop-name-preserved g c = record {
+  walks = subst (AreWalks c.args.self.now.held (held_after c.args.when.moment c.args.when.word c.args.heard.now c.args.self.now.held)) (sym c.in_ok-push.ensures.items)
+      (walks-push _ _ c.loop-name.walks.items c.in_ok-walk_one.field-0 c.loop-name.invariant.walks c.in_ok-walk_one.ensures.walk);
+  names = ap (map (λ (walk : Walk). walk.name)) c.in_ok-push.ensures.items ∙ map-append (λ (walk : Walk). walk.name) c.loop-name.walks.items (c.in_ok-walk_one.field-0 ∷ [])
+      ∙ ap (λ (l : _). l ++ c.in_ok-walk_one.field-0.name ∷ []) c.loop-name.invariant.names ∙ ap (λ (n : _). c.loop-name.yielded ++ n ∷ []) c.in_ok-walk_one.ensures.name;
+}

@@ -1,0 +1,13 @@
+use Rattle.std.proofs.Common.{◌≡◌, ◌∙◌, sym, ap, filter, List}
+use Rattle.mdns_history.specs.declared.held.Held.{Held}
+use Rattle.mdns_records.specs.After.{held_after, is_named}
+use Rattle.mdns_records.proofs.Later.{later_of}
+use Rattle.mdns_records.proofs.records.Records.walk_one.Goals as goal
+
+pub returns-clause-walk : goal.returns-clause-walk
+returns-clause-walk g c = record {
+  earlier = c.in_ok-earlier.ensures;
+  later = c.in_ok-later.ensures
+      ∙ ap (held_after c.args.when.moment c.args.when.word (filter (is_named c.args.name) c.args.heard.now)) (c.deref.ensures.value ∙ c.in_ok-earlier.ensures)
+      ∙ sym (later_of c.args.name c.args.when.moment c.args.when.word c.args.heard.now c.args.self.now.held);
+}

@@ -1,0 +1,39 @@
+// What an event changes of a cache.
+ghost use Rattle.std.specs.Prelude.{◌≡◌, ℕ, ◌≤◌, ◌++◌, List, filter, length};
+ghost use Rattle.std.specs.List.Sorted.{IsPermutation};
+ghost use Rattle.mdns_history.specs.Hearings.{Hearing};
+ghost use Rattle.mdns_history.specs.Lifetimes.{is_live_at};
+ghost use Rattle.mdns_cache.specs.Lifetimes.{hearings_at, Holds, AllLive, AllHeard};
+ghost use Rattle.mdns_records.specs.After.{held_after};
+
+use cache_by_name::Cache;
+use dns_message::Rrs;
+use mdns_cache::Steps;
+use mdns_happened::When;
+use std::sync::ledger::Ledger;
+
+/// Takes out what has ended and hears these records, where there is room for them.
+pub fn change<L: Ledger>(cache: &mut Cache, when: When, heard: Rrs, steps: &mut Steps<L>)
+    requires room { length heard ≤ cache.old.spare }
+    requires fits { length (held_after when.moment when.word heard cache.old.held) ≤ cache.old.limit }
+    ensures held { IsPermutation cache.new.held (held_after when.moment when.word heard cache.old.held) }
+    ensures limit { cache.new.limit ≡ cache.old.limit }
+    ensures within { length cache.new.held ≤ cache.new.limit }
+    ensures live { AllLive when.moment cache.new.held }
+    ensures heard { AllHeard when.moment cache.old.held → AllHeard when.moment cache.new.held }
+    ensures holds { (past : List Hearing) (before : ℕ) → before ≤ when.moment → Holds cache.old.held past before
+        → Holds cache.new.held (hearings_at when.moment when.word heard ++ past) when.moment }
+{
+    take_ended(cache, when.moment, steps);
+    let _ = cache.hear(when.moment, when.word, heard);
+}
+
+// Takes out all that has ended at `now`, in ms.
+fn take_ended<L: Ledger>(cache: &mut Cache, now: u64, steps: &mut Steps<L>)
+    ensures held { IsPermutation cache.new.held (filter (is_live_at now) cache.old.held) }
+    ensures live { AllLive now cache.new.held }
+    ensures limit { cache.new.limit ≡ cache.old.limit }
+    ensures room { cache.old.spare ≤ cache.new.spare }
+{
+    while cache.expire(now, steps).is_some() {}
+}
