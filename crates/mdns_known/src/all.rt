@@ -33,8 +33,9 @@ pub fn all_known_answers(
     Ok(Rrs::from_vec(all))
 }
 
-// Puts those records in their places that aren't there yet.
-fn put_all_new(all: &mut Vec<Rr>, known: Rrs) -> Result<(), AllocError>
+/// Puts records in their places among others that are in record order, but those that compare equal to one that is there: they
+/// then are in order as if all had been put behind, each once. Refused only for want of memory.
+pub fn put_all_new(all: &mut Vec<Rr>, known: Rrs) -> Result<(), AllocError>
     ensures { OnOk result ((before : List Rr) → all.old.items ≡ ordered record_cmp before
         → all.new.items ≡ ordered record_cmp (before ++ known)) }
 {

@@ -8,7 +8,7 @@ mod listing;
 mod order;
 mod suppression;
 
-pub use all::all_known_answers;
+pub use all::{all_known_answers, put_all_new};
 pub use known::known_answers;
 pub use laws::known_answers_of_live_records;
 pub use suppression::suppresses;

@@ -1,5 +1,5 @@
 -- The refresh points that are kept of questions, so that no record is looked at to tell what is due. (RFC 6762 5.2)
-use Rattle.std.specs.Prelude.{◌≡◌, ℕ, nat_le, List, map, Option, Some, None, if◌then◌else◌}
+use Rattle.std.specs.Prelude.{◌≡◌, ℕ, nat_le, List, map, slice_index_or, slice_set, Option, Some, None, if◌then◌else◌}
 use Rattle.std.specs.List.{flat_map, filter_map, AllByRecursion}
 use Rattle.std.specs.Option.{option_map, option_to_list}
 use Rattle.dns_name.specs.Lists.{least, least_of}
@@ -29,6 +29,10 @@ told question point one = if is_for question one then record one { refresh = poi
 -- the questions after a refresh point was told of one
 abbrev pub with_refresh : Key → Option ℕ → List Tracked → List Tracked
 with_refresh question point tracked = map (told question point) tracked
+
+-- the question at a place has this refresh point, and all else is as before
+abbrev pub IsToldAt : ℕ → Option ℕ → List Tracked → List Tracked → Type 0
+IsToldAt place point before after = (one : Tracked) → one ≡ slice_index_or before place one → after ≡ slice_set before place (record one { refresh = point })
 
 -- the first moment at which a question is due, by what is kept of it
 abbrev pub moment_of : Tracked → ℕ

@@ -1,5 +1,5 @@
 // The questions that have users, and which of them are due.
-ghost use Rattle.std.specs.Prelude.{◌≡◌, ◌≢◌, ℕ, ◌+◌, ◌<◌, ◌≤◌, ◌^◌, [], ◌∷◌, ◌++◌, map, filter, slice_get, vec_len, vec_capacity, IsOk, OnOk, OnErr, IfOk, IfNone, IfSome};
+ghost use Rattle.std.specs.Prelude.{◌≡◌, ◌≢◌, ℕ, ◌+◌, ◌<◌, ◌≤◌, ◌^◌, [], ◌∷◌, ◌++◌, map, filter, length, slice_get, vec_len, vec_capacity, IsOk, OnOk, OnErr, IfOk, IfNone, IfSome};
 ghost use Rattle.std.specs.List.{list_any, find};
 ghost use Rattle.std.specs.List.Sorted.{IsPermutation};
 ghost use Rattle.std.specs.Option.{option_map, option_copied};
@@ -7,12 +7,12 @@ ghost use Rattle.dns_name.specs.Lists.{least};
 ghost use Rattle.mdns_history.specs.Lifetimes.{is_other};
 ghost use Rattle.mdns_question.specs.Tracking.{is_for, with_user, without_user, with_asking, due_at};
 ghost use Rattle.mdns_question.specs.Next.{next_of};
-ghost use Rattle.mdns_question.specs.Refreshing.{with_refresh, moment_of, due_by_kept};
+ghost use Rattle.mdns_question.specs.Refreshing.{with_refresh, IsToldAt, moment_of, due_by_kept};
 
 use crate::Tracked;
 use crate::copies::question_copies;
 use crate::due::due_question;
-use crate::kept::{due_by_kept, first_due, put_refresh};
+use crate::kept::{due_by_kept, first_due, put_refresh, put_refresh_at};
 use crate::keys::key_eq;
 use crate::next::next_due;
 use crate::users::{add_user, has, note, take_user};
@@ -124,6 +124,16 @@ impl Asker {
         ensures spare { self.new.spare ≡ self.old.spare }
     {
         put_refresh(&mut self.questions, question, point);
+    }
+
+    /// Tells the same of the question at a place, counted from 0.
+    pub fn tell_at(&mut self, place: usize, point: Option<u64>)
+        requires { place < length self.old.questions }
+        ensures questions { IsToldAt place point self.old.questions self.new.questions }
+        ensures held { self.new.held ≡ self.old.held }
+        ensures spare { self.new.spare ≡ self.old.spare }
+    {
+        put_refresh_at(&mut self.questions, place, point);
     }
 
     /// The questions that are due at `now`, in ms, by what is kept of them, refresh points too: by folded name and then by

@@ -1,9 +1,9 @@
 // Which questions are due by what is kept of them, refresh points too: no record is looked at. (RFC 6762 5.2)
-ghost use Rattle.std.specs.Prelude.{◌≡◌, ◌++◌, map, IfOk};
+ghost use Rattle.std.specs.Prelude.{◌≡◌, ◌++◌, ◌<◌, map, length, IfOk};
 ghost use Rattle.std.specs.Option.{option_to_list};
 ghost use Rattle.dns_name.specs.Lists.{least, least_of};
 ghost use Rattle.mdns_question.specs.Next.{open_in};
-ghost use Rattle.mdns_question.specs.Refreshing.{first_refresh, told, with_refresh, moment_of, cause_of, due_by_kept};
+ghost use Rattle.mdns_question.specs.Refreshing.{first_refresh, told, with_refresh, IsToldAt, moment_of, cause_of, due_by_kept};
 
 use crate::Tracked;
 use crate::keys::key_eq;
@@ -58,6 +58,14 @@ fn put_one_refresh(one: &mut Tracked, question: &Key, point: Option<u64>)
     if key_eq(question, &one.key) {
         one.refresh = point;
     }
+}
+
+/// Puts the refresh point that was told of the question at a place, counted from 0, in place of the one told before.
+pub fn put_refresh_at(questions: &mut [Tracked], place: usize, point: Option<u64>)
+    requires { place < length questions.old }
+    ensures { IsToldAt place point questions.old questions.new }
+{
+    questions[place].refresh = point;
 }
 
 /// The questions that are due at `now`, in ms, by what is kept of them, in their order, each with its cause. Refused only for

@@ -1,0 +1,16 @@
+pub mod OfNames
+pub mod EachTold
+pub mod Gaps
+pub mod KnownBy
+pub mod Heards
+pub mod WalksTell
+pub mod EnoughNames
+pub mod Timed
+pub mod Waiting
+pub mod Settled
+pub mod KeyLists
+pub mod KeyUses
+pub mod FewUses
+pub mod ActiveKeys
+pub mod TrackedKeys
+pub mod Askings

@@ -1,0 +1,14 @@
+use Rattle.std.proofs.Common.{◌≡◌, ◌∙◌, ℕ, List, true, ap, subst}
+use Rattle.mdns_happened.specs.Told.{told_by}
+use Rattle.mdns_question.specs.declared.tracked.Tracked.{Tracked}
+use Rattle.mdns_asking.specs.State.{State}
+use Rattle.mdns_asking.specs.Walked.{AreNamed}
+use Rattle.mdns_asking.proofs.EnoughNames.{named_both}
+use Rattle.mdns_asking.proofs.asking.Asking.put_names.Goals as goal
+
+pub returns-clause-named : goal.returns-clause-named
+returns-clause-named c =
+    subst (λ (questions : List Tracked). AreNamed (told_by c.args.happened.now) c.args.when.moment questions c.args.touched.now c.put_begun_names.new.names.items)
+    (c.questions.ensures ∙ ap (λ (s : State). s.questions) c.self.view_is)
+    (named_both (told_by c.args.happened.now) c.args.when.moment c.questions.result.now c.args.touched.now c.put_question_names.new.names.items c.put_begun_names.new.names.items
+    c.in_ok-put_question_names.ensures.named c.in_ok-put_begun_names.ensures.kept c.in_ok-put_begun_names.ensures.named)

@@ -1,0 +1,14 @@
+use Rattle.std.proofs.Common.{◌≡◌, ◌∙◌, ℕ, List, true, ap}
+use Rattle.dns_record.specs.declared.record.Key.{Key}
+use Rattle.mdns_cache.specs.Ended.{is_among}
+use Rattle.mdns_asking.proofs.EnoughNames.{put-next}
+use Rattle.mdns_asking.proofs.names.put_key_names.Goals as goal
+
+pub loop-key-preserved : goal.loop-key-preserved
+loop-key-preserved c =
+    let IsPut : List (List (List ℕ)) → Key → Type 0 = λ names key. is_among names key.name ≡ true in
+    record {
+      kept = λ name h. c.in_ok-put_name.ensures.kept name (c.loop-key.invariant.kept name h);
+      named = put-next (IsPut c.loop-key.names.items) (IsPut c.put_name.new.names.items) c.args.keys.now c.loop-key.key-index c.key-item.result c.loop-key-test.true c.key-item.is
+          (λ key put. c.in_ok-put_name.ensures.kept key.name put) c.in_ok-put_name.ensures.put c.loop-key.invariant.named;
+    }

@@ -1,0 +1,7 @@
+pub mod State
+pub mod Kept
+pub mod Asked
+pub mod Timed
+pub mod Walked
+pub mod ByWalks
+pub mod Planned

@@ -1,0 +1,85 @@
+// The queries that an event sends. (RFC 6762 5.2, 7.1 and 7.2)
+ghost use Rattle.std.specs.Prelude.{◌≡◌, map, IfOk};
+ghost use Rattle.mdns_history.specs.Sending.{to_all};
+ghost use Rattle.mdns_happened.specs.Told.{told_by};
+ghost use Rattle.mdns_asking.specs.Walked.{AreHeard};
+ghost use Rattle.mdns_asking.specs.ByWalks.{known_by, queries_by, sent_by};
+
+use crate::walked::later_of;
+use dns_message::Rrs;
+use dns_record::Key;
+use mdns_base::Dest;
+use mdns_happened::{Happened, Walk, When};
+use mdns_history::{Cause, Sends, Sent};
+use mdns_known::{known_answers, put_all_new};
+use mdns_pack::{Messages, pack_query};
+use std::alloc::{AllocError, Global};
+
+/// What is sent: once time has passed the queries of the questions that are asked, with the known answers of all of them.
+/// Refused only for want of memory.
+pub fn queries(
+    alloc: Global,
+    when: When,
+    happened: &Happened<'_>,
+    walks: &[Walk],
+    asked: &[(Key, Cause)],
+) -> Result<Sends, AllocError>
+    requires { AreHeard when.moment walks.now }
+    ensures { IfOk result (λ sent. sent ≡ sent_by (told_by happened.now).ticks walks.now when.moment asked.now) }
+{
+    match happened {
+        Happened::Ticked => {
+            let keys = keys_in(alloc, asked)?;
+            queries_for(alloc, when, walks, &keys)
+        }
+        _ => Ok(Sends::new(alloc)),
+    }
+}
+
+// The questions without their causes.
+fn keys_in(alloc: Global, asked: &[(Key, Cause)]) -> Result<Vec<Key>, AllocError>
+    ensures { IfOk result (λ keys. keys.items ≡ map (λ due. due.0) asked.now) }
+{
+    let mut keys = Vec::new(alloc);
+    for one in asked {
+        keys.push(one.0.copy())?;
+    }
+    Ok(keys)
+}
+
+// The queries of questions, with the known answers of all of them.
+fn queries_for(alloc: Global, when: When, walks: &[Walk], keys: &[Key]) -> Result<Sends, AllocError>
+    requires { AreHeard when.moment walks.now }
+    ensures { IfOk result (λ sent. sent ≡ queries_by walks.now when.moment keys.now) }
+{
+    let known = all_known(alloc, when, walks, keys)?;
+    let messages = pack_query(alloc, keys, &known)?;
+    to_all(alloc, messages)
+}
+
+// The known answers of questions, each once and in record order: those of each question are over the later records of its name.
+fn all_known(alloc: Global, when: When, walks: &[Walk], keys: &[Key]) -> Result<Rrs, AllocError>
+    requires { AreHeard when.moment walks.now }
+    ensures { IfOk result (λ known. known ≡ known_by keys.now walks.now when.moment) }
+{
+    let mut all = Vec::new(alloc);
+    for key in keys {
+        let held = later_of(&key.name, walks);
+        put_all_new(&mut all, known_answers(alloc, key, held, when.moment)?)?;
+    }
+    Ok(Rrs::from_vec(all))
+}
+
+// Messages as they are sent to all.
+fn to_all(alloc: Global, messages: Messages) -> Result<Sends, AllocError>
+    ensures { IfOk result (λ sent. sent ≡ map to_all messages) }
+{
+    let mut sent = Sends::new(alloc);
+    for message in messages.into_vec() {
+        sent.push(Sent {
+            to: Dest::All,
+            message,
+        })?;
+    }
+    Ok(sent)
+}
