@@ -1,7 +1,7 @@
 -- Answers depend on which records there are.
-use Rattle.std.proofs.Common.{◌≡◌, ℕ, Bool, true, false, cond, not, eqb, subst, ◌&&◌, ◌||◌, List, [], ◌∷◌, ◌++◌, refl, ap, ◌∙◌, sym, Option, Some, None}
+use Rattle.std.proofs.Common.{◌≡◌, ℕ, Bool, true, false, cond, not, eqb, subst, ◌&&◌, ◌||◌, List, [], ◌∷◌, ◌++◌, refl, ap, ◌∙◌, sym, Option, Some, None, true≢false}
 use Rattle.std.specs.Prelude.{filter}
-use Rattle.std.specs.List.{list_any, list_all, flat_map, filter_map, cons_option, Any, Contains}
+use Rattle.std.specs.List.{list_any, list_all, flat_map, filter_map, cons_option, AllByRecursion, Any, Contains}
 use Rattle.std.specs.Ordering.{is_eq}
 use Rattle.std.specs.Cmp.{both_ways}
 use Rattle.std.proofs.lemmas.List.Folds.{Any-from_list_any, list_any-from_Any, list_any-append}
@@ -25,7 +25,8 @@ use Rattle.sd_call.specs.Answers.{answer_bytes, answer_cmp}
 use Rattle.mdns_history.specs.Typed.{is_typed_answer}
 use Rattle.mdns_history.specs.Questions.{keys_of, key_of, address_keys, browse_keys, resolve_keys}
 use Rattle.mdns_history.specs.Answers.{matching, datum_of, found_in, resolved_with, answers_from, answers_over}
-use Rattle.sd_answer.specs.Laws.{have_data, IsOrderFree, IsCountFree, IsOfOneName, IsNothingUnasked}
+use Rattle.sd_answer.specs.Laws.{have_data, IsOrderFree, IsCountFree, HaveOneName, IsOfItsName, IsOfOneName, IsNothingUnasked}
+use Rattle.dns_name.proofs.Folding.{folded_eq-equivalence}
 use Rattle.dns_name.proofs.InOrder.{all-filter, any-filter, same-ordered}
 use Rattle.sd_answer.proofs.Puts.{answer_cmp-total}
 use Rattle.sd_answer.proofs.Known.{answer_told}
@@ -190,8 +191,7 @@ nothing_unasked asked rrs e =
 -- ---- one name
 
 abbrev HaveName : List (List ℕ) → List Key → Type 0
-HaveName name [] = Unit {0}
-HaveName name (key ∷ keys) = (key.name ≡ name) × HaveName name keys
+HaveName name keys = AllByRecursion (λ (key : Key). key.name ≡ name) keys
 
 address_name : (families : ℕ) (name : List (List ℕ)) → HaveName name (address_keys families name)
 address_name families name = at (eqb families 1) (eqb families 2)
@@ -201,7 +201,7 @@ address_name families name = at (eqb families 1) (eqb families 2)
     at false true = (refl, tt)
     at false false = (refl, (refl, tt))
 
-one_name : (r : Request) → (name : List (List ℕ)) × HaveName name (keys_of r)
+pub one_name : HaveOneName
 unfolding keys_of
 one_name (request.Query kind name) = (name, (refl, tt))
 one_name (request.Address families name) = (name, address_name families name)
@@ -230,6 +230,33 @@ has_name name (key ∷ keys) rr h e = at (folded_eq key.name rr.owner) refl e (h
     at true f g ih = ap (λ (n : List (List ℕ)). folded_eq n rr.owner) (sym h.0) ∙ f
     at false f g ih = ih g
 
+-- all questions have the name of the first
+first_named : (request : Request) (question : Key) (more : List Key) → keys_of request ≡ question ∷ more → HaveName question.name (keys_of request)
+first_named request question more asked =
+    let n = one_name request in
+    let P : List Key → Type 0 = HaveName n.0 in
+    let Q : List (List ℕ) → Type 0 = λ m. HaveName m (keys_of request) in
+    let first : HaveName n.0 (question ∷ more) = subst P asked n.1 in
+    subst Q (sym first.0) n.1
+
+-- what passes no later test may be left out before
+filter_less : {X : Type 0} (p q : X → Bool) → ((x : X) → p x ≡ true → q x ≡ true) → (xs : List X) → filter p (filter q xs) ≡ filter p xs
+filter_less p q less [] = refl
+filter_less p q less (x ∷ xs) = of (q x) refl (p x) refl (filter_less p q less xs)
+  where
+    of : (b : Bool) → q x ≡ b → (c : Bool) → p x ≡ c → filter p (filter q xs) ≡ filter p xs → filter p (cond b (x ∷ filter q xs) (filter q xs)) ≡ cond c (x ∷ filter p xs) (filter p xs)
+    of true e c f ih = ap (λ z. cond z (x ∷ filter p (filter q xs)) (filter p (filter q xs))) f ∙ ap (λ l. cond c (x ∷ l) l) ih
+    of false e false f ih = ih
+    of false e true f ih = absurd (true≢false (sym (less x f) ∙ e))
+
+-- a record that gives an answer has the name of the questions
+pub of_its_name : IsOfItsName
+unfolding answers_over
+of_its_name request question more rrs asked =
+    ap (λ (xs : List Rr). ordered answer_cmp (answers_from request xs))
+    (filter_less (λ (rr : Rr). list_any (λ key. matches key rr) (keys_of request)) (λ (rr : Rr). folded_eq rr.owner question.name)
+    (λ rr e. folded_eq-equivalence.symm rr.owner question.name ∙ has_name question.name (keys_of request) rr (first_named request question more asked) e) rrs)
+
 pub of_one_name : IsOfOneName
 of_one_name request question more all collected asked h same =
     alike_over request collected all kept alike (all-filter (λ rr. is_spellable_data rr.rdata) test all h)
@@ -238,15 +265,7 @@ of_one_name request question more all collected asked h same =
     test rr = list_any (λ key. matches key rr) (keys_of request)
 
     of_name : (rr : Rr) → test rr ≡ true → folded_eq question.name rr.owner ≡ true
-    of_name rr e = has_name question.name (keys_of request) rr named e
-      where
-        named : HaveName question.name (keys_of request)
-        named =
-            let n = one_name request in
-            let P : List Key → Type 0 = HaveName n.0 in
-            let Q : List (List ℕ) → Type 0 = λ m. HaveName m (keys_of request) in
-            let first : HaveName n.0 (question ∷ more) = subst P asked n.1 in
-            subst Q (sym first.0) n.1
+    of_name rr e = has_name question.name (keys_of request) rr (first_named request question more asked) e
 
     alike : AreAlike (matching (keys_of request) collected) (matching (keys_of request) all)
     alike t = any-filter t test collected

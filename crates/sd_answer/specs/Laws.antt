@@ -1,6 +1,6 @@
 -- What answers don't depend on. (RFC 6763 4, 5 and 6)
-use Rattle.std.specs.Prelude.{◌≡◌, ◌↔◌, true, List, [], ◌∷◌, Bool}
-use Rattle.std.specs.List.{list_all, Contains}
+use Rattle.std.specs.Prelude.{◌≡◌, ℕ, ◌↔◌, true, List, [], ◌∷◌, Bool, filter}
+use Rattle.std.specs.List.{list_all, AllByRecursion, Contains}
 use Rattle.std.specs.List.Sorted.{IsPermutation, IsSorted}
 use Rattle.dns_name.specs.Names.{folded_eq}
 use Rattle.dns_record.specs.declared.record.Rr.{Rr}
@@ -22,6 +22,16 @@ IsOrderFree = (request : Request) (one other : List Rr) → have_data one ≡ tr
 -- The same records give the same answers, however often each is there.
 abbrev pub IsCountFree : Type 0
 IsCountFree = (request : Request) (one other : List Rr) → have_data one ≡ true → ((rr : Rr) → Contains one rr ↔ Contains other rr) → answers_over request one ≡ answers_over request other
+
+-- All questions of a request have one name.
+abbrev pub HaveOneName : Type 0
+HaveOneName = (request : Request) → (name : List (List ℕ)) × AllByRecursion (λ (key : Key). key.name ≡ name) (keys_of request)
+
+-- The records of that name alone, in their order, give the answers of all.
+abbrev pub IsOfItsName : Type 0
+IsOfItsName =
+    (request : Request) (question : Key) (more : List Key) (rrs : List Rr) → keys_of request ≡ question ∷ more
+    → answers_over request (filter (λ (rr : Rr). folded_eq rr.owner question.name) rrs) ≡ answers_over request rrs
 
 -- Of all records those of the name of the first question give the answers of all.
 abbrev pub IsOfOneName : Type 0

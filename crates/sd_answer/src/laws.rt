@@ -1,5 +1,5 @@
 // Laws of the answers.
-ghost use Rattle.sd_answer.specs.Laws.{IsOrderFree, IsCountFree, IsOfOneName, IsNothingUnasked, AreInOrder};
+ghost use Rattle.sd_answer.specs.Laws.{IsOrderFree, IsCountFree, HaveOneName, IsOfItsName, IsOfOneName, IsNothingUnasked, AreInOrder};
 
 /// The answers of a request depend on which records there are, and neither on their order nor on how often each is there.
 pub fn order_of_records_is_free()
@@ -10,6 +10,8 @@ pub fn order_of_records_is_free()
 /// All questions of a request have one name, and only records of that name matter: whoever collects these has the answers
 /// over all records. A request without questions has no answers.
 pub fn only_matching_records_matter()
+    ensures one { HaveOneName }
+    ensures kept { IsOfItsName }
     ensures name { IsOfOneName }
     ensures nothing { IsNothingUnasked }
 {}

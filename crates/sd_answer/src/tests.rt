@@ -1,9 +1,9 @@
 // Requests over a fixed list of records: the questions that each asks, and the answers that it has.
 use crate::{answers_of, questions_of};
 use bytes::Bytes;
-use dns_message::Rrs;
 use dns_name::Name;
 use dns_record::{Rr, put_kind, put_name};
+use mdns_history::Held;
 use sd_call::{Request, Text, put_answer, well_formed};
 use std::alloc::Global;
 use std::test::Fail;
@@ -64,27 +64,27 @@ const RESOLVED: &str =
 #[test]
 fn requests_have_questions_and_answers(rt: HostRuntime) -> Result<(), Fail> {
     let alloc = rt.alloc();
-    let rrs = records(alloc)?;
+    let held = records(alloc)?;
     for (kind, name, written) in QUERIES {
         let name = Name::parse_text(name).map_err(|_| "name")?;
-        let found = outcome(alloc, &Request::Query { kind, name }, &rrs)?;
+        let found = outcome(alloc, &Request::Query { kind, name }, &held)?;
         assert_eq!(rt; found.as_slice(), written.as_bytes(), "{written}");
     }
     for (families, written) in FAMILIES {
         let name = Name::parse_text("h.local").map_err(|_| "name")?;
-        let found = outcome(alloc, &Request::Address { families, name }, &rrs)?;
+        let found = outcome(alloc, &Request::Address { families, name }, &held)?;
         assert_eq!(rt; found.as_slice(), written.as_bytes(), "{written}");
     }
     for (regtype, written) in BROWSES {
         let regtype = text(alloc, regtype)?;
-        let found = outcome(alloc, &Request::Browse { regtype }, &rrs)?;
+        let found = outcome(alloc, &Request::Browse { regtype }, &held)?;
         assert_eq!(rt; found.as_slice(), written.as_bytes(), "{written}");
     }
     let resolve = Request::Resolve {
         label: text(alloc, "Printer")?,
         regtype: text(alloc, "_ipp._tcp")?,
     };
-    let found = outcome(alloc, &resolve, &rrs)?;
+    let found = outcome(alloc, &resolve, &held)?;
     assert_eq!(rt; found.as_slice(), RESOLVED.as_bytes());
     Ok(())
 }
@@ -92,7 +92,7 @@ fn requests_have_questions_and_answers(rt: HostRuntime) -> Result<(), Fail> {
 #[test]
 fn other_requests_ask_nothing(rt: HostRuntime) -> Result<(), Fail> {
     let alloc = rt.alloc();
-    let rrs = records(alloc)?;
+    let held = records(alloc)?;
     let register = Request::Register {
         label: text(alloc, "Printer")?,
         regtype: text(alloc, "_ipp._tcp")?,
@@ -102,17 +102,22 @@ fn other_requests_ask_nothing(rt: HostRuntime) -> Result<(), Fail> {
     };
     let update = Request::Update { txt: Bytes::new() };
     for request in [&register, &update, &Request::Stop] {
-        assert!(rt; outcome(alloc, request, &rrs)?.is_empty());
+        assert!(rt; outcome(alloc, request, &held)?.is_empty());
     }
     Ok(())
 }
 
-fn records(alloc: Global) -> Result<Rrs, Fail> {
-    let mut rrs = Rrs::new(alloc);
+fn records(alloc: Global) -> Result<Vec<Held>, Fail> {
+    let mut held = Vec::new(alloc);
     for text in RECORDS {
-        rrs.push(Rr::parse_text(alloc, text)?)?;
+        held.push(Held {
+            rr: Rr::parse_text(alloc, text)?,
+            heard: 0,
+            word: 0,
+            end: 0,
+        })?;
     }
-    Ok(rrs)
+    Ok(held)
 }
 
 fn text(alloc: Global, text: &str) -> Result<Text, Fail> {
@@ -120,18 +125,19 @@ fn text(alloc: Global, text: &str) -> Result<Text, Fail> {
 }
 
 // A line for each question, and then one for each answer.
-fn outcome(alloc: Global, request: &Request, rrs: &Rrs) -> Result<Vec<u8>, Fail> {
+fn outcome(alloc: Global, request: &Request, held: &[Held]) -> Result<Vec<u8>, Fail> {
     if !well_formed(request) {
         return Err("form".into());
     }
     let mut out = Vec::new(alloc);
-    for question in questions_of(request).as_slice() {
+    let questions = questions_of(request);
+    for question in questions.as_slice() {
         put_name(&mut out, &question.name)?;
         out.push(b' ')?;
         put_kind(&mut out, question.kind)?;
         out.push(b'\n')?;
     }
-    let answers = answers_of(alloc, request, rrs)?;
+    let answers = answers_of(alloc, request, questions.as_slice(), held)?;
     for answer in answers.as_slice() {
         out.extend_from_slice(b": ")?;
         put_answer(&mut out, answer)?;

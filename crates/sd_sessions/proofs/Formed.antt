@@ -1,8 +1,8 @@
 -- Accepted calls leave operations that ask for something well formed.
-use Rattle.std.proofs.Common.{ℕ, Bool, true, false, cond, not, ◌&&◌, List, [], ◌∷◌, ◌++◌, map, drop, Option, Some, None}
-use Rattle.std.specs.List.{find}
+use Rattle.std.proofs.Common.{ℕ, Bool, true, false, cond, not, ◌&&◌, List, [], ◌∷◌, map, Option, Some, None}
+use Rattle.std.specs.List.{find, AllByRecursion}
 use Rattle.dns_record.specs.declared.record.Rr.{Rr}
-use Rattle.mdns_happened.specs.Told.{Told, Taking}
+use Rattle.mdns_happened.specs.Told.{Told}
 use Rattle.sd_sessions.specs.Sessions.{Session}
 use Rattle.std.specs.Prelude.{filter, IsTrue, ◌==◌}
 use Rattle.std.specs.Option.{unwrap_or}
@@ -14,7 +14,8 @@ use Rattle.sd_name.specs.ServiceTypes.{service_type, is_service_label}
 use Rattle.sd_call.specs.Requests.{well_formed, has_subtypes_up_to, with_txt}
 use Rattle.mdns_history.specs.declared.operation.Operation.{Operation}
 use Rattle.mdns_history.specs.Sessions.{Accepted, by_op, has_op, updated, after_request}
-use Rattle.sd_sessions.specs.Settling.{called, change_told, all_settled, remaining_but, opened_session, with_opened, shifted_told, taken_from, sessions_told}
+use Rattle.sd_sessions.specs.Settling.{called, change_told, shifted_told, sessions_told}
+use Rattle.sd_sessions.proofs.Left.{HoldsCalled, have-left}
 use Rattle.sd_sessions.specs.Kept.{AreWellFormed, HaveWellFormed, IsWellFormedCall, operations_in}
 
 formed-insert : (o : Operation) (os : List Operation) → IsTrue (well_formed o.request) → AreWellFormed os → AreWellFormed (insert_by by_op o os)
@@ -83,43 +84,11 @@ formed-found test (session ∷ sessions) formed = of (test session) (formed-foun
     of true others = formed.0
     of false others = others
 
-module _ (told : Told) (earlier later : List Rr) (call : IsWellFormedCall told.call) where
-  formed-settled : (sessions : List Session) → HaveWellFormed sessions → HaveWellFormed (all_settled sessions (map (change_told told earlier later) sessions))
-  formed-settled [] all = tt
-  formed-settled (session ∷ sessions) all = (formed-called told.call session.number session.operations call all.0, formed-settled sessions all.1)
-
-formed-kept : (test : Session → Bool) (sessions : List Session) → HaveWellFormed sessions → HaveWellFormed (filter test sessions)
-formed-kept test [] all = tt
-formed-kept test (session ∷ sessions) all = at (test session) (formed-kept test sessions all.1)
-  where
-    at : (b : Bool) → HaveWellFormed (filter test sessions) → HaveWellFormed (cond b (session ∷ filter test sessions) (filter test sessions))
-    at true rest = (all.0, rest)
-    at false rest = rest
-
-formed-opened : (o : Option ℕ) (sessions : List Session) → HaveWellFormed sessions → HaveWellFormed (with_opened o sessions)
-formed-opened None sessions all = all
-formed-opened (Some n) sessions all = behind sessions all
-  where
-    behind : (ss : List Session) → HaveWellFormed ss → HaveWellFormed (ss ++ opened_session n ∷ [])
-    behind [] h = (tt, tt)
-    behind (s ∷ ss) h = (h.0, behind ss h.1)
-
-formed-taken : (number max : ℕ) (sessions : List Session) → HaveWellFormed sessions → HaveWellFormed (taken_from number max sessions)
-formed-taken number max [] all = tt
-formed-taken number max (session ∷ sessions) all = at (session.number == number) (formed-taken number max sessions all.1)
-  where
-    at : (b : Bool) → HaveWellFormed (taken_from number max sessions) → HaveWellFormed (cond b (record session { queue = drop max session.queue } ∷ sessions) (session ∷ taken_from number max sessions))
-    at true rest = (all.0, all.1)
-    at false rest = (all.0, rest)
-
-formed-handed : (taking : Option Taking) (sessions : List Session) → HaveWellFormed sessions → HaveWellFormed (sessions_told taking sessions)
-formed-handed None sessions all = all
-formed-handed (Some taking) sessions all = formed-taken taking.session taking.max sessions all
-
 -- the operations of the sessions that are left ask for something well formed
 pub formed-left : (told : Told) (earlier later : List Rr) (sessions : List Session) → IsWellFormedCall told.call → HaveWellFormed sessions
     → HaveWellFormed (sessions_told told.taking (shifted_told told sessions (map (change_told told earlier later) sessions)))
-formed-left told earlier later sessions call all =
-    formed-handed told.taking (shifted_told told sessions (map (change_told told earlier later) sessions))
-    (formed-opened told.opened (remaining_but told.detached (all_settled sessions (map (change_told told earlier later) sessions)))
-    (formed-kept _ (all_settled sessions (map (change_told told earlier later) sessions)) (formed-settled told earlier later call sessions all)))
+formed-left told earlier later sessions call all = have-left AreWellFormed told earlier later tt sessions (each sessions all)
+  where
+    each : (ss : List Session) → HaveWellFormed ss → AllByRecursion (HoldsCalled AreWellFormed told earlier later) ss
+    each [] all = tt
+    each (session ∷ ss) all = (formed-called told.call session.number session.operations call all.0, each ss all.1)

@@ -24,6 +24,11 @@ pub mod Among
 pub mod Permuted
 pub mod Idle
 pub mod Nexts
-pub mod Asked
 pub mod Rooms
 pub mod Follows
+pub mod Left
+pub mod Fresh
+pub mod KeptOn
+pub mod Seen
+pub mod WalkAnswers
+pub mod Named

@@ -1,7 +1,7 @@
 -- One element more in the lists that loops go over.
-use Rattle.std.proofs.Common.{◌≡◌, ℕ, suc, ◌+◌, ◌<◌, Bool, true, false, cond, List, [], ◌∷◌, ◌++◌, map, take, drop, length, get_or, refl, ap, subst, ◌∙◌, sym, append-nil, add-one}
+use Rattle.std.proofs.Common.{◌≡◌, ℕ, zero, suc, ◌+◌, ◌<◌, Bool, true, false, cond, List, [], ◌∷◌, ◌++◌, map, take, drop, length, get_or, refl, ap, subst, ◌∙◌, sym, append-nil, add-one, arith}
 use Rattle.std.specs.Prelude.{filter, IsTrue}
-use Rattle.std.specs.List.{flat_map}
+use Rattle.std.specs.List.{flat_map, AllByRecursion}
 use Rattle.std.proofs.lemmas.List.{take_more, map-append}
 use Rattle.std.proofs.lemmas.List.Concat.{flat_map-append}
 use Rattle.std.proofs.lemmas.List.Elements.{filter-append}
@@ -48,3 +48,20 @@ pub passed_next : {X Y : Type 0} (p : X → Bool) (f : X → Y) (xs : List X) (i
 passed_next p f xs i x h e fails =
     ap (λ ys. map f (filter p ys)) (take-next xs i x h e) ∙ ap (map f) (filter-append p (take i xs) (x ∷ [])) ∙ ap (λ b. map f (filter p (take i xs) ++ cond b (x ∷ []) [])) fails
     ∙ ap (map f) (append-nil (filter p (take i xs)))
+
+-- one element more of a list that is mapped twice
+pub map_map-next : {X Y Z : Type 0} (f : Y → Z) (g : X → Y) (xs : List X) (i : ℕ) (x : X) → i < length xs → x ≡ get_or xs i x →
+    map f (map g (take (i + 1) xs)) ≡ map f (map g (take i xs)) ++ f (g x) ∷ []
+map_map-next f g xs i x h e =
+    ap (λ ys. map f (map g ys)) (take-next xs i x h e) ∙ ap (map f) (map-append g (take i xs) (x ∷ [])) ∙ map-append f (map g (take i xs)) (g x ∷ [])
+
+-- what holds of each element holds of that at a place
+pub all-at : {X Y : Type 0} (P : Y → Type 0) (f : X → Y) (xs : List X) (i : ℕ) (x : X) → i < length xs → x ≡ get_or xs i x → AllByRecursion P (map f xs) → P (f x)
+all-at P f [] i x h e all = absurd (omega arith)
+all-at P f (y ∷ xs) zero x h e all = subst (λ z. P (f z)) (sym e) all.0
+all-at P f (y ∷ xs) (suc i) x h e all = all-at P f xs i x (omega arith) e all.1
+
+pub all-here : {X : Type 0} (P : X → Type 0) (xs : List X) (i : ℕ) (x : X) → i < length xs → x ≡ get_or xs i x → AllByRecursion P xs → P x
+all-here P [] i x h e all = absurd (omega arith)
+all-here P (y ∷ xs) zero x h e all = subst P (sym e) all.0
+all-here P (y ∷ xs) (suc i) x h e all = all-here P xs i x (omega arith) e all.1

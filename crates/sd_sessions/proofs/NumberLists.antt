@@ -1,19 +1,16 @@
 -- Lists of numbers: which they have, and what a test or a function makes of them.
 use Rattle.std.proofs.Common.{◌≡◌, ℕ, zero, suc, ◌+◌, ◌<◌, ◌≤◌, ◌==◌, Bool, true, false, cond, ◌&&◌, ◌||◌, List, [], ◌∷◌, ◌++◌, map, refl, ap, ◌∙◌, sym, arith}
 use Rattle.std.proofs.Math.Bool.{and-false}
-use Rattle.std.proofs.lemmas.Bool.{or_left, or_right}
+use Rattle.std.proofs.lemmas.Bool.{or_left, or_right, and_from, and_parts}
+use Rattle.std.proofs.lemmas.List.Folds.{list_all-append}
 use Rattle.std.specs.Prelude.{filter, nat_lt}
 use Rattle.std.specs.List.{list_any, list_all, flat_map}
 use Rattle.dns_name.specs.Lists.{count_up}
+pub use Rattle.sd_sessions.specs.Kept.{IsRising}
 
 -- whether a list has a number
 abbrev pub has : ℕ → List ℕ → Bool
 has n ns = list_any (λ m. m == n) ns
-
--- Each number is less than those behind it.
-abbrev pub IsRising : List ℕ → Type 0
-IsRising [] = Unit {0}
-IsRising (n ∷ ns) = (list_all (nat_lt n) ns ≡ true) × IsRising ns
 
 pub has-first : (n : ℕ) (ns : List ℕ) → has n (n ∷ ns) ≡ true
 has-first n ns = or_left (n == n) (has n ns) (grind arith)
@@ -107,7 +104,7 @@ within-count_up n first (suc many) h = of (first == n) refl h (within-count_up n
     of false e g rest = let later : (first + 1 ≤ n) × (n < first + 1 + many) = rest g in (omega (arith, later.0), omega (arith, later.1))
 
 -- rising lists
-all-filter : (p q : ℕ → Bool) (ns : List ℕ) → list_all q ns ≡ true → list_all q (filter p ns) ≡ true
+pub all-filter : (p q : ℕ → Bool) (ns : List ℕ) → list_all q ns ≡ true → list_all q (filter p ns) ≡ true
 all-filter p q [] h = refl
 all-filter p q (n ∷ ns) h = of (p n) (q n) refl h (all-filter p q ns)
   where
@@ -133,3 +130,18 @@ above-count_up n first (suc many) l =
 pub IsRising-count_up : (first many : ℕ) → IsRising (count_up first many)
 IsRising-count_up first zero = tt
 IsRising-count_up first (suc many) = (above-count_up first (first + 1) many (omega arith), IsRising-count_up (first + 1) many)
+
+-- one number more, above all others
+pub IsRising-last : (n : ℕ) (ns : List ℕ) → list_all (λ m. nat_lt m n) ns ≡ true → IsRising ns → IsRising (ns ++ n ∷ [])
+IsRising-last n [] below h = (refl, tt)
+IsRising-last n (m ∷ ns) below h =
+    let parts = and_parts (nat_lt m n) (list_all (λ k. nat_lt k n) ns) below in (
+      list_all-append (nat_lt m) ns (n ∷ []) ∙ and_from (list_all (nat_lt m) ns) (nat_lt m n && true) h.0 (and_from (nat_lt m n) true parts.0 refl),
+      IsRising-last n ns parts.1 h.1,
+    )
+
+-- what a test passes that passes more
+pub all-more : (p q : ℕ → Bool) → ((n : ℕ) → p n ≡ true → q n ≡ true) → (ns : List ℕ) → list_all p ns ≡ true → list_all q ns ≡ true
+all-more p q more [] h = refl
+all-more p q more (n ∷ ns) h =
+    let parts = and_parts (p n) (list_all p ns) h in and_from (q n) (list_all q ns) (more n parts.0) (all-more p q more ns parts.1)

@@ -22,6 +22,7 @@ use Rattle.mdns_history.specs.Fitting.{boot_entry, IsLegalFrom, IsLegal}
 use Rattle.mdns_history.proofs.ReplySteps.{number}
 use Rattle.mdns_history.proofs.EntryReplay.{operations_of-kept}
 use Rattle.mdns_history.proofs.LegalReplay.{operations-late, opened_undetached, new_number}
+pub use Rattle.sd_sessions.specs.Kept.{AreRising}
 use Rattle.sd_sessions.proofs.NumberLists.{has, has-filter}
 use Rattle.sd_sessions.proofs.EntryParts.{marked, entry_after}
 use Rattle.sd_sessions.proofs.Attached.{holds_legal, is_attached-step}
@@ -57,11 +58,6 @@ all_filter p q (o ∷ os) h = of (q o) (p o) refl h (all_filter p q os)
     of true true e g rest = ap (λ x. x && list_all p (filter q os)) e ∙ rest g
     of false true e g rest = rest g
     of b false e g rest = cc
-
--- Each operation's number is less than those behind it.
-abbrev pub AreRising : List Operation → Type 0
-AreRising [] = Unit {0}
-AreRising (o ∷ os) = (list_all (λ p. nat_lt o.op p.op) os ≡ true) × AreRising os
 
 above_more : (k n : ℕ) (os : List Operation) → k < n → list_all (λ p. nat_lt n p.op) os ≡ true → list_all (λ p. nat_lt k p.op) os ≡ true
 above_more k n [] l h = refl
@@ -103,7 +99,7 @@ AreRising-updated : (op : ℕ) (txt : List ℕ) (os : List Operation) → AreRis
 AreRising-updated op txt [] rising = tt
 AreRising-updated op txt (o ∷ os) rising = (all_updated o.op op txt os ∙ rising.0, AreRising-updated op txt os rising.1)
 
-rising_request : (session op : ℕ) (r : Request) (before : List Operation) → AreRising before → (is_start r ≡ true → find (has_op op) before ≡ None) → AreRising (after_request session op r before)
+pub rising_request : (session op : ℕ) (r : Request) (before : List Operation) → AreRising before → (is_start r ≡ true → find (has_op op) before ≡ None) → AreRising (after_request session op r before)
 rising_request session op (request.Query kind name) before rising new = AreRising-insert _ before (new refl) rising
 rising_request session op (request.Browse regtype) before rising new = AreRising-insert _ before (new refl) rising
 rising_request session op (request.Resolve label regtype) before rising new = AreRising-insert _ before (new refl) rising

@@ -1,10 +1,11 @@
 -- What the types of the sessions mean.
-use Rattle.std.specs.Prelude.{◌≡◌, ℕ, ◌≤◌, ◌<◌, true, IsTrue, List, [], ◌∷◌, ◌++◌, map, length, Option, Some, None, is_none}
-use Rattle.std.specs.List.{AllByRecursion}
+use Rattle.std.specs.Prelude.{◌≡◌, ℕ, ◌≤◌, ◌==◌, nat_lt, nat_le, true, IsTrue, List, [], ◌∷◌, ◌++◌, map, length, Option, Some, None, is_none}
+use Rattle.std.specs.List.{list_all, find, AllByRecursion}
 use Rattle.sd_call.specs.declared.item.Item.{Item}
-use Rattle.sd_call.specs.Requests.{well_formed}
+use Rattle.sd_call.specs.Requests.{well_formed, is_start}
 use Rattle.mdns_history.specs.declared.operation.Operation.{Operation}
-use Rattle.mdns_history.specs.Sessions.{Accepted}
+use Rattle.mdns_history.specs.Sessions.{Accepted, has_op}
+use Rattle.mdns_happened.specs.Told.{Told}
 pub use Rattle.sd_outbox.specs.Queues.{queued}
 use Rattle.sd_sessions.specs.declared.session.SessionState.{SessionState}
 use Rattle.sd_sessions.specs.declared.change.SessionChange.{SessionChange}
@@ -18,6 +19,42 @@ AreWellFormed operations = AllByRecursion (λ (operation : Operation). IsTrue (w
 -- each session's operations ask for something well formed
 abbrev pub HaveWellFormed : List Session → Type 0
 HaveWellFormed sessions = AllByRecursion (λ (session : Session). AreWellFormed session.operations) sessions
+
+-- Each operation's number is less than those behind it.
+abbrev pub AreRising : List Operation → Type 0
+AreRising [] = Unit {0}
+AreRising (operation ∷ operations) = (list_all (λ other. nat_lt operation.op other.op) operations ≡ true) × AreRising operations
+
+-- in each session the numbers of operations rise
+abbrev pub HaveRising : List Session → Type 0
+HaveRising sessions = AllByRecursion (λ (session : Session). AreRising session.operations) sessions
+
+-- Each number is less than those behind it.
+abbrev pub IsRising : List ℕ → Type 0
+IsRising [] = Unit {0}
+IsRising (n ∷ ns) = (list_all (nat_lt n) ns ≡ true) × IsRising ns
+
+-- the numbers of sessions
+abbrev pub numbers_of : List Session → List ℕ
+numbers_of sessions = map (λ session. session.number) sessions
+
+-- What holds of the sessions that are kept: their operations are well formed and each has a number of its own, and so has each session, of those
+-- that were opened.
+pub record AreKept (opened : ℕ) (sessions : List Session) : Type 0 where
+  pub formed : HaveWellFormed sessions
+  pub rising : HaveRising sessions
+  pub numbers : IsRising (numbers_of sessions)
+  pub within : list_all (λ n. nat_le n opened) (numbers_of sessions) ≡ true
+
+-- a start that is accepted is of a number that no operation of its session has
+abbrev pub IsNewIn : Option Accepted → Session → Type 0
+IsNewIn None session = Unit {0}
+IsNewIn (Some call) session = (call.session == session.number) ≡ true → is_start call.request ≡ true → find (has_op call.op) session.operations ≡ None
+
+-- What is told begins nothing that is there: an operation of a number that its session hasn't, and a session behind all others.
+pub record IsFresh (told : Told) (sessions : List Session) : Type 0 where
+  pub operation : AllByRecursion (IsNewIn told.call) sessions
+  pub session : (n : ℕ) → told.opened ≡ Some n → list_all (λ m. nat_lt m n) (numbers_of sessions) ≡ true
 
 -- a queue that may have been cut, with items behind it
 abbrev pub joined : Option (List Item) → List Item → Option (List Item)

@@ -1,5 +1,5 @@
 -- What a plan says, and that there is room for it.
-use Rattle.std.specs.Prelude.{◌≡◌, ℕ, ◌<◌, ◌≤◌, true, List, [], map, vec_capacity}
+use Rattle.std.specs.Prelude.{◌≡◌, ◌<◌, ◌≤◌, true, List, [], map, vec_capacity}
 use Rattle.std.specs.Option.{is_some}
 use Rattle.dns_record.specs.declared.record.Rr.{Rr}
 use Rattle.mdns_history.specs.declared.event.Event.{Event}
@@ -9,12 +9,13 @@ use Rattle.sd_sessions.specs.Codes.{kept_outcome}
 use Rattle.sd_sessions.specs.declared.sessions.Plan.{Plan}
 use Rattle.sd_sessions.specs.Sessions.{Session, State}
 use Rattle.sd_sessions.specs.Settling.{change_told, most_taken}
-use Rattle.sd_sessions.specs.Kept.{HasRoom, IsWellFormedCall}
+use Rattle.sd_sessions.specs.Kept.{HasRoom, IsFresh, IsWellFormedCall}
 
 -- A plan is of what happened to these sessions, between the records before it and those after it.
 pub record IsPlan (told : Told) (earlier later : List Rr) (sessions : List Session) (plan : Plan) : Type 0 where
   pub changes : plan.changes.items ≡ map (change_told told earlier later) sessions
   pub call : IsWellFormedCall told.call
+  pub fresh : IsFresh told sessions
   pub empty : plan.taken.items ≡ []
   pub room : most_taken told.taking ≤ vec_capacity plan.taken
 

@@ -63,8 +63,8 @@ fn change(
     })
 }
 
-// The operations that a call leaves, or else those that were there.
-fn or_own<'a>(operations: &'a Option<Operations>, own: &'a Operations) -> &'a [Operation]
+/// The operations that a call leaves, or else those that were there.
+pub fn or_own<'a>(operations: &'a Option<Operations>, own: &'a Operations) -> &'a [Operation]
     ensures { result.now ≡ unwrap_or operations.now own.now }
 {
     match operations {
@@ -93,8 +93,8 @@ fn bring(
     items_between(alloc, reply, session.operations.as_slice(), after, held)
 }
 
-// The operations that a call leaves to a session, where it is the session's and was accepted.
-fn called(
+/// The operations that a call leaves to a session, where it is the session's and was accepted. Refused only for want of memory.
+pub fn called(
     alloc: Global,
     session: &SessionState,
     happened: &Happened<'_>,

@@ -50,8 +50,8 @@ fn is_start(request: &Request) -> bool
     !matches!(request, Request::Update { .. } | Request::Stop)
 }
 
-// Whether an operation of the number is live.
-fn is_running(operations: &[Operation], op: u32) -> bool
+/// Whether an operation of the number is live.
+pub fn is_running(operations: &[Operation], op: u32) -> bool
     ensures { result ≡ is_running op operations.now }
 {
     for operation in operations {

@@ -7,14 +7,11 @@ ghost use Rattle.dns_name.specs.Lists.{without};
 ghost use Rattle.sd_call.specs.declared.item.Item.TheVariants as item;
 ghost use Rattle.sd_call.specs.Answers.{answer_cmp, answer_eq};
 ghost use Rattle.sd_call.specs.Requests.{well_formed};
-ghost use Rattle.mdns_history.specs.Questions.{keys_of};
-ghost use Rattle.mdns_history.specs.Answers.{answers_over, matching};
+ghost use Rattle.mdns_history.specs.Answers.{answers_over};
 ghost use Rattle.sd_sessions.specs.Changes.{had, lost, gained, items_between};
 ghost use Rattle.sd_sessions.specs.Settling.{rrs_of};
 ghost use Rattle.sd_sessions.specs.Kept.{AreWellFormed};
 
-use dns_message::Rrs;
-use dns_record::{Key, matches_any};
 use mdns_history::{Held, Items, Operation};
 use sd_answer::{Answers, answers_of, questions_of};
 use sd_call::{Answer, Item, Request, answer_cmp};
@@ -55,8 +52,13 @@ pub fn items_between(
     Ok(brought)
 }
 
-// Removes what an operation had and has no more.
-fn put_removes(items: &mut Items, op: u32, had: &[Answer], has: &[Answer]) -> Result<(), AllocError>
+/// Removes what an operation had and has no more. Refused only for want of memory.
+pub fn put_removes(
+    items: &mut Items,
+    op: u32,
+    had: &[Answer],
+    has: &[Answer],
+) -> Result<(), AllocError>
     requires { IsSorted answer_cmp has.now }
     ensures { OnOk result (items.new ≡ items.old ++ map (λ answer. item.Remove op answer) (without answer_eq had.now has.now)) }
 {
@@ -69,8 +71,13 @@ fn put_removes(items: &mut Items, op: u32, had: &[Answer], has: &[Answer]) -> Re
     Ok(())
 }
 
-// Adds what an operation has and hadn't before.
-fn put_adds(items: &mut Items, op: u32, has: &[Answer], had: &[Answer]) -> Result<(), AllocError>
+/// Adds what an operation has and hadn't before. Refused only for want of memory.
+pub fn put_adds(
+    items: &mut Items,
+    op: u32,
+    has: &[Answer],
+    had: &[Answer],
+) -> Result<(), AllocError>
     requires { IsSorted answer_cmp had.now }
     ensures { OnOk result (items.new ≡ items.old ++ map (λ answer. item.Add op answer) (without answer_eq has.now had.now)) }
 {
@@ -119,20 +126,5 @@ fn answers(alloc: Global, request: &Request, held: &[Held]) -> Result<Answers, A
     ensures sorted { IfOk result (λ answers. IsSorted answer_cmp answers) }
 {
     let questions = questions_of(request);
-    let rrs = asked(alloc, questions.as_slice(), held)?;
-    answers_of(alloc, request, &rrs)
-}
-
-// The held records that match one of the questions.
-#[tactic(auto, using(crate::proofs::Nexts::filter_map_swap))]
-fn asked(alloc: Global, questions: &[Key], held: &[Held]) -> Result<Rrs, AllocError>
-    ensures { IfOk result (λ rrs. rrs ≡ matching questions.now (rrs_of held.now)) }
-{
-    let mut rrs = Rrs::new(alloc);
-    for one in held {
-        if matches_any(questions, &one.rr) {
-            rrs.push(one.rr.copy()?)?;
-        }
-    }
-    Ok(rrs)
+    answers_of(alloc, request, questions.as_slice(), held)
 }

@@ -1,10 +1,12 @@
 //! The sessions of a daemon: what they ask for, what they are brought, and what is queued for them.
 #![tactic(auto)]
 
+mod by_names;
 mod change;
 mod codes;
 mod items;
 mod law;
+mod names;
 mod running;
 mod session;
 mod sessions;

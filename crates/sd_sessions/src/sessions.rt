@@ -12,9 +12,11 @@ ghost use Rattle.sd_sessions.specs.Kept.{operations_in, session_of, sessions_of,
 ghost use Rattle.sd_sessions.specs.Planned.{IsPlan, IsAnyPlan, IsReady, IsTold};
 ghost use Rattle.sd_sessions.specs.Walked.{AreNamed, IsCallNamed, AreKnown, IsCallWalked};
 
+use crate::by_names::changes_by_names;
 use crate::change::{SessionChange, changes, gifts, put_cuts};
 use crate::codes::call_code;
 use crate::items::Around;
+use crate::names::{put_called, put_touched};
 use crate::session::{SessionState, find};
 use crate::settle::{finish, make_room, settle};
 use dns_name::Name;
@@ -48,7 +50,7 @@ pub struct Plan {
 impl Model for Sessions {
     ghost use Rattle.std.specs.Prelude.{◌-◌, map, vec_len, vec_capacity};
     ghost use Rattle.sd_sessions.specs.Sessions.{State};
-    ghost use Rattle.sd_sessions.specs.Kept.{sessions_of, HaveWellFormed};
+    ghost use Rattle.sd_sessions.specs.Kept.{sessions_of, AreKept};
 
     ghost Value = { State };
 
@@ -59,7 +61,7 @@ impl Model for Sessions {
       places = vec_capacity s.attached - vec_len s.attached;
     } };
 
-    ghost invariant = { λ s. HaveWellFormed (sessions_of s.attached.items) };
+    ghost invariant = { λ s. AreKept s.opened (sessions_of s.attached.items) };
 }
 
 impl Sessions {
@@ -132,7 +134,7 @@ impl Sessions {
     /// What an event changes in the sessions, where these records are held before it and after it. Nothing is changed. Refused
     /// only for want of memory.
     pub fn plan(&self, happened: &Happened<'_>, held: Around<'_>) -> Result<Plan, AllocError>
-        requires { IsWellFormedCall (told_by happened.now).call }
+        requires { IsTold (told_by happened.now) self.now }
         ensures { IfOk result (λ plan. IsPlan (told_by happened.now) (rrs_of held.entry.earlier.now) (rrs_of held.entry.later.now) self.now.sessions plan) }
     {
         let changes = changes(self.alloc, &self.attached, happened, held)?;
@@ -154,7 +156,9 @@ impl Sessions {
         ensures asked { OnOk result (AreNamed touched.now names.new.items self.now.sessions) }
         ensures call { OnOk result (IsCallNamed names.new.items (told_by happened.now).call) }
     {
-        Err(AllocError)
+        put_touched(names, &self.attached, touched)?;
+        put_called(names, happened)?;
+        Ok(())
     }
 
     /// What an event changes in the sessions, told by the records of the names that were walked: each name that an operation
@@ -165,7 +169,9 @@ impl Sessions {
         ensures { IfOk result (λ plan. (held later : List Held) → AreWalks held later walks.now → AreKnown held later walks.now self.now.sessions
             → IsCallWalked walks.now (told_by happened.now).call → IsPlan (told_by happened.now) (rrs_of held) (rrs_of later) self.now.sessions plan) }
     {
-        Err(AllocError)
+        let changes = changes_by_names(self.alloc, &self.attached, happened, walks)?;
+        let taken = room_to_take(self.alloc, happened)?;
+        Ok(Plan { changes, taken })
     }
 
     /// Takes the room that a plan needs. Nothing else changes. Refused only for want of memory.
@@ -196,7 +202,7 @@ impl Sessions {
             plan.changes,
             plan.taken,
         );
-        self.opened = happened.opened().unwrap_or(self.opened);
+        self.opened = opened_after(happened, self.opened);
         outcome
     }
 }
@@ -232,6 +238,13 @@ fn call_of<'a>(state: &SessionState, session: u64, op: u32, request: &'a Request
         request,
         code: call_code(state.operations.as_slice(), op, request),
     }
+}
+
+// How many sessions were opened after what happened.
+fn opened_after(happened: &Happened<'_>, opened: u64) -> u64
+    ensures { result ≡ unwrap_or (told_by happened.now).opened opened }
+{
+    happened.opened().unwrap_or(opened)
 }
 
 // Room for as many items as a take may hand over.

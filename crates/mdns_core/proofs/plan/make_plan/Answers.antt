@@ -16,6 +16,9 @@ use Rattle.sd_sessions.specs.Kept.{sessions_of}
 use Rattle.mdns_core.proofs.HeardPackets.{heard-read}
 use Rattle.mdns_core.proofs.plan.make_plan.Goals as goal
 
+pub plan-requires : goal.plan-requires
+plan-requires g c = (c.args.event.now, (told_by c.in_ok-happened.field-0.happened).refusal, c.in_ok-happened.ensures.told)
+
 pub returns : goal.returns
 returns g c =
     let told : Told = told_by c.in_ok-happened.field-0.happened in

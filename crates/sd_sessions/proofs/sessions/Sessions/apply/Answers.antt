@@ -1,13 +1,14 @@
-use Rattle.std.proofs.Common.{◌≡◌, ◌∙◌, List, map, ap, subst, sym}
+use Rattle.std.proofs.Common.{◌≡◌, ◌∙◌, ℕ, List, map, ap, subst, sym}
+use Rattle.std.specs.Option.{unwrap_or}
 use Rattle.dns_record.specs.declared.record.Rr.{Rr}
 use Rattle.mdns_happened.specs.Told.{Told, told_by}
 use Rattle.sd_sessions.specs.declared.change.SessionChange.{SessionChange}
 use Rattle.sd_sessions.specs.Sessions.{Session, State}
 use Rattle.sd_sessions.specs.Settling.{change_told, sessions_told, shifted_told}
-use Rattle.sd_sessions.specs.Kept.{sessions_of, HasRoom, HaveWellFormed}
+use Rattle.sd_sessions.specs.Kept.{sessions_of, AreKept, HasRoom, IsFresh}
 use Rattle.sd_sessions.proofs.Rooms.{room-kept}
 use Rattle.sd_sessions.proofs.Settled.{planned-fit}
-use Rattle.sd_sessions.proofs.Formed.{formed-left}
+use Rattle.sd_sessions.proofs.KeptOn.{kept-left}
 use Rattle.sd_sessions.proofs.sessions.Sessions.apply.Goals as goal
 
 pub carry_out-outcome-requires-clause-room : goal.carry_out-outcome-requires-clause-room
@@ -28,6 +29,9 @@ invariant_of-self c =
     let ss : List Session = sessions_of c.self.inside.attached.items in
     let changed : c.args.plan.changes.items ≡ map (change_told told earlier later) ss =
     c.requires.planned.2.changes ∙ ap (λ (s : State). map (change_told told earlier later) s.sessions) (sym c.self.view_is) in
+    let fresh : IsFresh told ss = subst (λ (s : State). IsFresh told s.sessions) (sym c.self.view_is) c.requires.planned.2.fresh in
     let left : sessions_of c.carry_out-outcome.new.sessions.items ≡ sessions_told told.taking (shifted_told told ss (map (change_told told earlier later) ss)) =
     c.carry_out-outcome.ensures.sessions ∙ ap (λ (cs : List SessionChange). sessions_told told.taking (shifted_told told ss cs)) changed in
-    subst HaveWellFormed (sym left) (formed-left told earlier later ss c.requires.planned.2.call c.self.invariant)
+    let count : c.opened_after-self-inside.result ≡ unwrap_or told.opened c.self.inside.opened = c.opened_after-self-inside.ensures in
+    subst (λ (n : ℕ). AreKept n (sessions_of c.carry_out-outcome.new.sessions.items)) (sym count)
+    (subst (AreKept (unwrap_or told.opened c.self.inside.opened)) (sym left) (kept-left told earlier later c.self.inside.opened ss c.requires.planned.2.call fresh c.self.invariant))

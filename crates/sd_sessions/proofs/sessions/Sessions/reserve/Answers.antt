@@ -1,4 +1,4 @@
-use Rattle.std.proofs.Common.{◌≡◌, List, subst, arith}
+use Rattle.std.proofs.Common.{List, subst, arith}
 use Rattle.sd_sessions.specs.declared.change.SessionChange.{SessionChange}
 use Rattle.sd_sessions.specs.Kept.{HaveRoom}
 use Rattle.sd_sessions.proofs.Rooms.{room-seen}

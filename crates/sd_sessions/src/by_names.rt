@@ -1,0 +1,225 @@
+// What an event changes in the sessions, told by the records of the names that were walked.
+ghost use Rattle.std.specs.Prelude.{◌≡◌, ◌||◌, ◌++◌, [], List, map, if◌then◌else◌, IsTrue, IfOk, OnOk, IfSome};
+ghost use Rattle.std.specs.List.{AllByRecursion};
+ghost use Rattle.std.specs.List.Sorted.{IsSorted};
+ghost use Rattle.std.specs.Option.{option_copied, option_to_list, unwrap_or};
+ghost use Rattle.dns_name.specs.Lists.{without};
+ghost use Rattle.sd_call.specs.declared.answer.Answer.{Answer};
+ghost use Rattle.sd_call.specs.declared.item.Item.TheVariants as item;
+ghost use Rattle.sd_call.specs.Answers.{answer_cmp, answer_eq};
+ghost use Rattle.sd_call.specs.Requests.{well_formed};
+ghost use Rattle.mdns_history.specs.declared.held.Held.{Held};
+ghost use Rattle.mdns_history.specs.Answers.{answers_over};
+ghost use Rattle.mdns_history.specs.Questions.{keys_of};
+ghost use Rattle.mdns_history.specs.Sessions.{is_number};
+ghost use Rattle.mdns_happened.specs.Told.{told_by};
+ghost use Rattle.sd_sessions.specs.Changes.{had, items_between};
+ghost use Rattle.sd_sessions.specs.Codes.{is_running};
+ghost use Rattle.sd_sessions.specs.Settling.{called, brought_told, change_told, rrs_of};
+ghost use Rattle.sd_sessions.specs.Kept.{session_of, sessions_of, AreWellFormed, HaveWellFormed, IsWellFormedCall};
+ghost use Rattle.sd_sessions.specs.Walked.{concerned, walk_for, IsSeen, IsSeenOf, IsCompared, IsInOrder};
+
+use crate::change::{SessionChange, called, or_own};
+use crate::codes::is_running;
+use crate::items::{put_adds, put_removes};
+use crate::session::SessionState;
+use dns_record::Key;
+use mdns_happened::{Happened, Walk, walk_of};
+use mdns_history::{Held, Items, Operation};
+use sd_answer::{Answers, answers_of, questions_of};
+use sd_call::Item;
+use std::alloc::{AllocError, Global};
+
+/// The answers of an operation before an event and after it.
+#[derive(Drop)]
+pub struct Compared {
+    pub had: Answers,
+    pub has: Answers,
+}
+
+/// The changes of all sessions, in their order. Refused only for want of memory.
+pub fn changes_by_names(
+    alloc: Global,
+    sessions: &[SessionState],
+    happened: &Happened<'_>,
+    walks: &[Walk],
+) -> Result<Vec<SessionChange>, AllocError>
+    requires operations { HaveWellFormed (sessions_of sessions.now) }
+    requires call { IsWellFormedCall (told_by happened.now).call }
+    ensures { IfOk result (λ changes. (held later : List Held) → AllByRecursion (IsSeen (told_by happened.now) held later walks.now) (sessions_of sessions.now)
+        → changes.items ≡ map (change_told (told_by happened.now) (rrs_of held) (rrs_of later)) (sessions_of sessions.now)) }
+{
+    let mut changes = Vec::new(alloc);
+    for session in sessions {
+        changes.push(change_by_names(alloc, session, happened, walks)?)?;
+    }
+    Ok(changes)
+}
+
+fn change_by_names(
+    alloc: Global,
+    session: &SessionState,
+    happened: &Happened<'_>,
+    walks: &[Walk],
+) -> Result<SessionChange, AllocError>
+    requires operations { AreWellFormed session.now.operations }
+    requires call { IsWellFormedCall (told_by happened.now).call }
+    ensures { IfOk result (λ change. (held later : List Held) → IsSeen (told_by happened.now) held later walks.now (session_of session.now)
+        → change ≡ change_told (told_by happened.now) (rrs_of held) (rrs_of later) (session_of session.now)) }
+{
+    let operations = called(alloc, session, happened)?;
+    let after = or_own(&operations, &session.operations);
+    let brought = bring_by_names(alloc, session, after, happened, walks)?;
+    let cuts = session.outbox.passes(brought.as_slice());
+    Ok(SessionChange {
+        session: session.number,
+        operations,
+        brought,
+        cuts,
+    })
+}
+
+// What a session is brought: nothing where it was cut or is detached.
+fn bring_by_names(
+    alloc: Global,
+    session: &SessionState,
+    after: &[Operation],
+    happened: &Happened<'_>,
+    walks: &[Walk],
+) -> Result<Items, AllocError>
+    requires { AreWellFormed after.now }
+    ensures { IfOk result (λ items. (held later : List Held) → IsSeen (told_by happened.now) held later walks.now (session_of session.now)
+        → after.now ≡ unwrap_or (called (told_by happened.now).call session.now.number session.now.operations) session.now.operations
+        → items ≡ brought_told (told_by happened.now) (rrs_of held) (rrs_of later) (session_of session.now)) }
+{
+    if gets_nothing(session, happened) {
+        return Ok(Items::new(alloc));
+    }
+    let reply = happened.reply_to(session.number);
+    let before = session.operations.as_slice();
+    let items = items_by_names(alloc, reply, before, after, walks)?;
+    Ok(items)
+}
+
+// Whether a session is brought nothing.
+fn gets_nothing(session: &SessionState, happened: &Happened<'_>) -> bool
+    ensures { result ≡ ((session_of session.now).cut || is_number session.now.number (told_by happened.now).detached) }
+{
+    session.outbox.is_cut() || happened.detaches(session.number)
+}
+
+// What a session is brought where its operations change from those before to those after.
+fn items_by_names(
+    alloc: Global,
+    reply: Option<Item>,
+    before: &[Operation],
+    after: &[Operation],
+    walks: &[Walk],
+) -> Result<Items, AllocError>
+    requires { AreWellFormed after.now }
+    ensures { IfOk result (λ items. (held later : List Held) → AllByRecursion (IsSeenOf held later walks.now before.now) after.now
+        → items ≡ items_between reply before.now after.now (rrs_of held) (rrs_of later)) }
+{
+    let mut brought = replied(alloc, reply)?;
+    let mut adds = Items::new(alloc);
+    let operations = concerned(after, walks);
+    for operation in operations {
+        let found = compare_answers(alloc, before, operation, walks)?;
+        put_compared(&mut brought, &mut adds, operation.op, found)?;
+    }
+    brought.append(adds)?;
+    Ok(brought)
+}
+
+// The reply to a call, where there is one.
+fn replied(alloc: Global, reply: Option<Item>) -> Result<Items, AllocError>
+    ensures { IfOk result (λ items. items ≡ option_to_list reply) }
+{
+    let mut items = Items::new(alloc);
+    if let Some(reply) = reply {
+        items.push(reply)?;
+    }
+    Ok(items)
+}
+
+// Puts what an operation has no more, and what it has newly.
+fn put_compared(
+    removes: &mut Items,
+    adds: &mut Items,
+    op: u32,
+    found: Option<Compared>,
+) -> Result<(), AllocError>
+    requires { IfSome found (λ compared. IsInOrder compared) }
+    ensures removes { OnOk result ((had has : List Answer) → IsCompared found had has
+        → removes.new ≡ removes.old ++ map (λ answer. item.Remove op answer) (without answer_eq had has)) }
+    ensures adds { OnOk result ((had has : List Answer) → IsCompared found had has
+        → adds.new ≡ adds.old ++ map (λ answer. item.Add op answer) (without answer_eq has had)) }
+{
+    match found {
+        Some(Compared { had, has }) => {
+            put_removes(removes, op, had.as_slice(), has.as_slice())?;
+            put_adds(adds, op, has.as_slice(), had.as_slice())?;
+            Ok(())
+        }
+        None => Ok(()),
+    }
+}
+
+// The operations that walks may concern: none where nothing was walked.
+fn concerned<'a>(operations: &'a [Operation], walks: &[Walk]) -> &'a [Operation]
+    ensures { result.now ≡ concerned walks.now operations.now }
+{
+    if walks.is_empty() { &[] } else { operations }
+}
+
+// The answers of an operation before and after; `None` where its name was not walked, so that they are the same.
+fn compare_answers(
+    alloc: Global,
+    before: &[Operation],
+    operation: &Operation,
+    walks: &[Walk],
+) -> Result<Option<Compared>, AllocError>
+    requires { IsTrue (well_formed operation.now.request) }
+    ensures value { IfOk result (λ found. (held later : List Held) → IsSeenOf held later walks.now before.now operation.now
+        → IsCompared found (had before.now (rrs_of held) operation.now.op) (answers_over operation.now.request (rrs_of later))) }
+    ensures sorted { IfOk result (λ found. IfSome found (λ compared. IsInOrder compared)) }
+{
+    let questions = questions_of(&operation.request);
+    let questions = questions.as_slice();
+    match walk_for(questions, walks) {
+        Some(walk) => {
+            let had = had_by(alloc, before, operation, questions, &walk.earlier)?;
+            let has = answers_of(alloc, &operation.request, questions, &walk.later)?;
+            Ok(Some(Compared { had, has }))
+        }
+        None => Ok(None),
+    }
+}
+
+// The walk of the name of questions.
+fn walk_for<'a>(questions: &[Key], walks: &'a [Walk]) -> Option<&'a Walk>
+    ensures { option_copied result ≡ walk_for questions.now walks.now }
+{
+    match questions.first() {
+        Some(question) => walk_of(&question.name, walks),
+        None => None,
+    }
+}
+
+// What an operation had, nothing where it wasn't there.
+fn had_by(
+    alloc: Global,
+    before: &[Operation],
+    operation: &Operation,
+    questions: &[Key],
+    held: &[Held],
+) -> Result<Answers, AllocError>
+    requires { questions.now ≡ keys_of operation.now.request }
+    ensures value { IfOk result (λ answers. answers ≡ (if is_running operation.now.op before.now then answers_over operation.now.request (rrs_of held.now) else [])) }
+    ensures sorted { IfOk result (λ answers. IsSorted answer_cmp answers) }
+{
+    if !is_running(before, operation.op) {
+        return Ok(Answers::new(alloc));
+    }
+    answers_of(alloc, &operation.request, questions, held)
+}

@@ -1,0 +1,150 @@
+// The names by whose records an event is looked at.
+ghost use Rattle.std.specs.Prelude.{◌≡◌, true, IsTrue, OnOk};
+ghost use Rattle.std.specs.List.{AllByRecursion};
+ghost use Rattle.sd_call.specs.Requests.{well_formed};
+ghost use Rattle.mdns_history.specs.Questions.{keys_of};
+ghost use Rattle.mdns_cache.specs.Ended.{is_among};
+ghost use Rattle.mdns_happened.specs.Told.{told_by};
+ghost use Rattle.sd_sessions.specs.Kept.{sessions_of, AreWellFormed, HaveWellFormed, IsWellFormedCall};
+ghost use Rattle.sd_sessions.specs.Walked.{AreNamed, AreWithin, IsCallNamed, IsNamed};
+
+use crate::session::SessionState;
+use dns_name::Name;
+use dns_record::Key;
+use mdns_happened::Happened;
+use mdns_history::Operation;
+use sd_answer::questions_of;
+use sd_call::Request;
+use std::alloc::AllocError;
+
+/// Puts the touched names that operations of the sessions ask for. Refused only for want of memory.
+pub fn put_touched(
+    names: &mut Vec<Name>,
+    sessions: &[SessionState],
+    touched: &[Name],
+) -> Result<(), AllocError>
+    requires { HaveWellFormed (sessions_of sessions.now) }
+    ensures kept { OnOk result (AreWithin names.old.items names.new.items) }
+    ensures asked { OnOk result (AreNamed touched.now names.new.items (sessions_of sessions.now)) }
+{
+    if touched.is_empty() {
+        return Ok(());
+    }
+    for session in sessions {
+        put_touched_by_all(names, session.operations.as_slice(), touched)?;
+    }
+    Ok(())
+}
+
+/// Puts the name that an accepted call asks for. Refused only for want of memory.
+pub fn put_called(names: &mut Vec<Name>, happened: &Happened<'_>) -> Result<(), AllocError>
+    requires { IsWellFormedCall (told_by happened.now).call }
+    ensures kept { OnOk result (AreWithin names.old.items names.new.items) }
+    ensures call { OnOk result (IsCallNamed names.new.items (told_by happened.now).call) }
+{
+    match happened {
+        Happened::Called {
+            request,
+            code: 0,
+            ..
+        } => put_asked(names, request),
+        _ => Ok(()),
+    }
+}
+
+// Puts the touched names that operations ask for.
+fn put_touched_by_all(
+    names: &mut Vec<Name>,
+    operations: &[Operation],
+    touched: &[Name],
+) -> Result<(), AllocError>
+    requires { AreWellFormed operations.now }
+    ensures kept { OnOk result (AreWithin names.old.items names.new.items) }
+    ensures asked { OnOk result (AllByRecursion (λ operation. IsNamed touched.now names.new.items operation.request) operations.now) }
+{
+    for operation in operations {
+        put_touched_by(names, &operation.request, touched)?;
+    }
+    Ok(())
+}
+
+// Puts the names that a request asks for and that are touched.
+fn put_touched_by(
+    names: &mut Vec<Name>,
+    request: &Request,
+    touched: &[Name],
+) -> Result<(), AllocError>
+    requires { IsTrue (well_formed request.now) }
+    ensures kept { OnOk result (AreWithin names.old.items names.new.items) }
+    ensures asked { OnOk result (IsNamed touched.now names.new.items request.now) }
+{
+    let questions = questions_of(request);
+    put_touched_names(names, questions.as_slice(), touched)?;
+    Ok(())
+}
+
+// Puts the names of questions that are touched.
+fn put_touched_names(
+    names: &mut Vec<Name>,
+    questions: &[Key],
+    touched: &[Name],
+) -> Result<(), AllocError>
+    ensures kept { OnOk result (AreWithin names.old.items names.new.items) }
+    ensures asked { OnOk result (AllByRecursion (λ key. is_among touched.now key.name ≡ true → is_among names.new.items key.name ≡ true) questions.now) }
+{
+    for question in questions {
+        put_if_touched(names, &question.name, touched)?;
+    }
+    Ok(())
+}
+
+// Puts the names that a request asks for.
+fn put_asked(names: &mut Vec<Name>, request: &Request) -> Result<(), AllocError>
+    requires { IsTrue (well_formed request.now) }
+    ensures kept { OnOk result (AreWithin names.old.items names.new.items) }
+    ensures asked { OnOk result (AllByRecursion (λ key. is_among names.new.items key.name ≡ true) (keys_of request.now)) }
+{
+    let questions = questions_of(request);
+    put_names_of(names, questions.as_slice())?;
+    Ok(())
+}
+
+// Puts the names of questions.
+fn put_names_of(names: &mut Vec<Name>, questions: &[Key]) -> Result<(), AllocError>
+    ensures kept { OnOk result (AreWithin names.old.items names.new.items) }
+    ensures asked { OnOk result (AllByRecursion (λ key. is_among names.new.items key.name ≡ true) questions.now) }
+{
+    for question in questions {
+        put_once(names, &question.name)?;
+    }
+    Ok(())
+}
+
+// Puts a name that is touched.
+fn put_if_touched(names: &mut Vec<Name>, name: &Name, touched: &[Name]) -> Result<(), AllocError>
+    ensures kept { OnOk result (AreWithin names.old.items names.new.items) }
+    ensures put { OnOk result (is_among touched.now name.now ≡ true → is_among names.new.items name.now ≡ true) }
+{
+    if is_among(touched, name) {
+        put_once(names, name)?;
+    }
+    Ok(())
+}
+
+// Puts a name that isn't among others, case aside.
+fn put_once(names: &mut Vec<Name>, name: &Name) -> Result<(), AllocError>
+    ensures kept { OnOk result (AreWithin names.old.items names.new.items) }
+    ensures put { OnOk result (is_among names.new.items name.now ≡ true) }
+{
+    if !is_among(names, name) {
+        names.push(name.copy())?;
+    }
+    Ok(())
+}
+
+// Whether a name is one of several, case aside.
+fn is_among(names: &[Name], name: &Name) -> bool
+    ensures { result ≡ is_among names.now name.now }
+{
+    names.iter().any(|one| name.folded_eq(one))
+}
