@@ -4,7 +4,6 @@ use Rattle.std.specs.Prelude.{filter, IsTrue}
 use Rattle.std.specs.List.{flat_map, AllByRecursion}
 use Rattle.std.proofs.lemmas.List.{take_more, map-append}
 use Rattle.std.proofs.lemmas.List.Concat.{flat_map-append}
-use Rattle.std.proofs.lemmas.List.Elements.{filter-append}
 use Rattle.std.proofs.Math.Seq.{drop-cons}
 use Rattle.mdns_history.specs.declared.operation.Operation.{Operation}
 use Rattle.sd_call.specs.Requests.{well_formed}
@@ -35,19 +34,6 @@ filter_map_swap p f (x ∷ xs) = at (p (f x)) (filter_map_swap p f xs)
         cond b (f x ∷ filter p (map f xs)) (filter p (map f xs)) ≡ map f (cond b (x ∷ filter (λ y. p (f y)) xs) (filter (λ y. p (f y)) xs))
     at true ih = ap (λ ys. f x ∷ ys) ih
     at false ih = ih
-
--- one element more of those that pass a test, as they are mapped
-pub kept_next : {X Y : Type 0} (p : X → Bool) (f : X → Y) (xs : List X) (i : ℕ) (x : X) → i < length xs → x ≡ get_or xs i x → p x ≡ true →
-    map f (filter p (take (i + 1) xs)) ≡ map f (filter p (take i xs)) ++ f x ∷ []
-kept_next p f xs i x h e passes =
-    ap (λ ys. map f (filter p ys)) (take-next xs i x h e) ∙ ap (map f) (filter-append p (take i xs) (x ∷ [])) ∙ ap (λ b. map f (filter p (take i xs) ++ cond b (x ∷ []) [])) passes
-    ∙ map-append f (filter p (take i xs)) (x ∷ [])
-
-pub passed_next : {X Y : Type 0} (p : X → Bool) (f : X → Y) (xs : List X) (i : ℕ) (x : X) → i < length xs → x ≡ get_or xs i x → p x ≡ false →
-    map f (filter p (take (i + 1) xs)) ≡ map f (filter p (take i xs))
-passed_next p f xs i x h e fails =
-    ap (λ ys. map f (filter p ys)) (take-next xs i x h e) ∙ ap (map f) (filter-append p (take i xs) (x ∷ [])) ∙ ap (λ b. map f (filter p (take i xs) ++ cond b (x ∷ []) [])) fails
-    ∙ ap (map f) (append-nil (filter p (take i xs)))
 
 -- one element more of a list that is mapped twice
 pub map_map-next : {X Y Z : Type 0} (f : Y → Z) (g : X → Y) (xs : List X) (i : ℕ) (x : X) → i < length xs → x ≡ get_or xs i x →

@@ -3,10 +3,8 @@ ghost use Rattle.std.specs.Prelude.{◌≡◌, ◌++◌, map, IfOk, OnOk};
 ghost use Rattle.std.specs.Option.{unwrap_or};
 ghost use Rattle.mdns_history.specs.Items.{given_to};
 ghost use Rattle.mdns_happened.specs.Told.{told_by};
-ghost use Rattle.sd_sessions.specs.Settling.{called, brought_told, change_told, cuts_of, gifts_of, rrs_of};
-ghost use Rattle.sd_sessions.specs.Kept.{session_of, sessions_of, HaveWellFormed, AreWellFormed, IsWellFormedCall};
+ghost use Rattle.sd_sessions.specs.Settling.{called, cuts_of, gifts_of};
 
-use crate::items::{Around, items_between};
 use crate::running::operations_after;
 use crate::session::SessionState;
 use mdns_happened::Happened;
@@ -23,46 +21,6 @@ pub struct SessionChange {
     pub cuts: bool,
 }
 
-/// The changes of all sessions, in their order. Refused only for want of memory.
-pub fn changes(
-    alloc: Global,
-    sessions: &[SessionState],
-    happened: &Happened<'_>,
-    held: Around<'_>,
-) -> Result<Vec<SessionChange>, AllocError>
-    requires operations { HaveWellFormed (sessions_of sessions.now) }
-    requires call { IsWellFormedCall (told_by happened.now).call }
-    ensures { IfOk result (λ changes. changes.items ≡ map (change_told (told_by happened.now) (rrs_of held.entry.earlier.now) (rrs_of held.entry.later.now)) (sessions_of sessions.now)) }
-{
-    let mut changes = Vec::new(alloc);
-    for session in sessions {
-        changes.push(change(alloc, session, happened, held)?)?;
-    }
-    Ok(changes)
-}
-
-fn change(
-    alloc: Global,
-    session: &SessionState,
-    happened: &Happened<'_>,
-    held: Around<'_>,
-) -> Result<SessionChange, AllocError>
-    requires operations { AreWellFormed session.now.operations }
-    requires call { IsWellFormedCall (told_by happened.now).call }
-    ensures { IfOk result (λ change. change ≡ change_told (told_by happened.now) (rrs_of held.entry.earlier.now) (rrs_of held.entry.later.now) (session_of session.now)) }
-{
-    let operations = called(alloc, session, happened)?;
-    let after = or_own(&operations, &session.operations);
-    let brought = bring(alloc, session, after, happened, held)?;
-    let cuts = session.outbox.passes(brought.as_slice());
-    Ok(SessionChange {
-        session: session.number,
-        operations,
-        brought,
-        cuts,
-    })
-}
-
 /// The operations that a call leaves, or else those that were there.
 pub fn or_own<'a>(operations: &'a Option<Operations>, own: &'a Operations) -> &'a [Operation]
     ensures { result.now ≡ unwrap_or operations.now own.now }
@@ -71,26 +29,6 @@ pub fn or_own<'a>(operations: &'a Option<Operations>, own: &'a Operations) -> &'
         Some(operations) => operations.as_slice(),
         None => own.as_slice(),
     }
-}
-
-// What a session is brought: nothing where it was cut or is detached.
-fn bring(
-    alloc: Global,
-    session: &SessionState,
-    after: &[Operation],
-    happened: &Happened<'_>,
-    held: Around<'_>,
-) -> Result<Items, AllocError>
-    requires before { AreWellFormed session.now.operations }
-    requires after { AreWellFormed after.now }
-    ensures { IfOk result (λ items. after.now ≡ unwrap_or (called (told_by happened.now).call session.now.number session.now.operations) session.now.operations
-        → items ≡ brought_told (told_by happened.now) (rrs_of held.entry.earlier.now) (rrs_of held.entry.later.now) (session_of session.now)) }
-{
-    if session.outbox.is_cut() || happened.detaches(session.number) {
-        return Ok(Items::new(alloc));
-    }
-    let reply = happened.reply_to(session.number);
-    items_between(alloc, reply, session.operations.as_slice(), after, held)
 }
 
 /// The operations that a call leaves to a session, where it is the session's and was accepted. Refused only for want of memory.

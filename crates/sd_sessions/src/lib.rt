@@ -13,6 +13,5 @@ mod sessions;
 mod settle;
 
 pub use change::SessionChange;
-pub use items::Around;
 pub use law::sessions_follow_the_history;
 pub use sessions::{Plan, Sessions};

@@ -13,9 +13,8 @@ ghost use Rattle.sd_sessions.specs.Planned.{IsPlan, IsAnyPlan, IsReady, IsTold};
 ghost use Rattle.sd_sessions.specs.Walked.{AreNamed, IsCallNamed, AreKnown, IsCallWalked};
 
 use crate::by_names::changes_by_names;
-use crate::change::{SessionChange, changes, gifts, put_cuts};
+use crate::change::{SessionChange, gifts, put_cuts};
 use crate::codes::call_code;
-use crate::items::Around;
 use crate::names::{put_called, put_touched};
 use crate::session::{SessionState, find};
 use crate::settle::{finish, make_room, settle};
@@ -131,17 +130,6 @@ impl Sessions {
         }
     }
 
-    /// What an event changes in the sessions, where these records are held before it and after it. Nothing is changed. Refused
-    /// only for want of memory.
-    pub fn plan(&self, happened: &Happened<'_>, held: Around<'_>) -> Result<Plan, AllocError>
-        requires { IsTold (told_by happened.now) self.now }
-        ensures { IfOk result (λ plan. IsPlan (told_by happened.now) (rrs_of held.entry.earlier.now) (rrs_of held.entry.later.now) self.now.sessions plan) }
-    {
-        let changes = changes(self.alloc, &self.attached, happened, held)?;
-        let taken = room_to_take(self.alloc, happened)?;
-        Ok(Plan { changes, taken })
-    }
-
     /// Puts behind others the names by whose records an event is looked at for the operations: of the touched names those
     /// that an operation asks for, and the name that an accepted call asks for. A name that is among them is put no second
     /// time, case aside. Refused only for want of memory.
@@ -164,7 +152,7 @@ impl Sessions {
     /// What an event changes in the sessions, told by the records of the names that were walked: each name that an operation
     /// asks for was, or its records stay as they are, and what an accepted call asks for was. Nothing is changed. Refused only
     /// for want of memory.
-    pub fn plan_by_names(&self, happened: &Happened<'_>, walks: &[Walk]) -> Result<Plan, AllocError>
+    pub fn plan(&self, happened: &Happened<'_>, walks: &[Walk]) -> Result<Plan, AllocError>
         requires { IsTold (told_by happened.now) self.now }
         ensures { IfOk result (λ plan. (held later : List Held) → AreWalks held later walks.now → AreKnown held later walks.now self.now.sessions
             → IsCallWalked walks.now (told_by happened.now).call → IsPlan (told_by happened.now) (rrs_of held) (rrs_of later) self.now.sessions plan) }
