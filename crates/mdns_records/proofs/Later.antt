@@ -1,6 +1,6 @@
 -- What an event makes of the records of one name.
-use Rattle.std.proofs.Common.{◌≡◌, ℕ, ◌<◌, ◌≤◌, Bool, true, false, cond, ◌||◌, nat_lt, List, [], ◌∷◌, ◌++◌, map, filter, refl, sym, ap, ◌∙◌, true≢false, arith}
-use Rattle.std.specs.List.{AllByRecursion, list_any}
+use Rattle.std.proofs.Common.{◌≡◌, ℕ, Bool, true, false, cond, ◌||◌, List, [], ◌∷◌, filter, refl, sym, ap, ◌∙◌, true≢false, arith}
+use Rattle.std.specs.List.{AllByRecursion}
 use Rattle.std.proofs.lemmas.Bool.{false_from_ne_true}
 use Rattle.std.proofs.lemmas.Bool.Decides.{nat_tests}
 use Rattle.dns_name.specs.Names.{folded_eq}
@@ -11,7 +11,7 @@ use Rattle.mdns_history.specs.Lifetimes.{is_live_at}
 use Rattle.mdns_cache.specs.Ended.{is_among, HasEnded}
 use Rattle.mdns_cache.specs.Lifetimes.{held_of, is_of}
 use Rattle.mdns_records.specs.After.{held_after, is_named, AreTouched}
-use Rattle.mdns_records.proofs.Named.{after_of, filters_turned}
+use Rattle.mdns_records.proofs.Named.{after_of}
 
 -- names that are one, case aside, are alike to a third
 alike_to : (name one other : List (List ℕ)) → folded_eq one other ≡ true → folded_eq one name ≡ folded_eq other name

@@ -9,3 +9,6 @@ mod records;
 
 pub use law::records_follow_hearings;
 pub use records::Records;
+
+#[cfg(test)]
+mod tests;

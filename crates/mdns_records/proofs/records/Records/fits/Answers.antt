@@ -1,6 +1,5 @@
-use Rattle.std.proofs.Common.{◌≡◌, ◌≤◌, ◌++◌, ◌↔◌, ℕ, List, IsTrue, length, ap, sym, subst}
+use Rattle.std.proofs.Common.{◌≤◌, ◌++◌, ◌↔◌, ℕ, List, IsTrue, length, ap, sym, subst}
 use Rattle.mdns_history.specs.declared.held.Held.{Held}
-use Rattle.mdns_history.specs.Hearings.{Hearing}
 use Rattle.mdns_history.specs.Lifetimes.{live_of}
 use Rattle.mdns_cache.specs.Lifetimes.{hearings_at, Stands}
 use Rattle.mdns_cache.proofs.Hearing.{Stands-from_held}

@@ -1,4 +1,4 @@
-use Rattle.std.proofs.Common.{◌≡◌, ◌∙◌, ◌++◌, true, ap, sym, subst, map}
+use Rattle.std.proofs.Common.{◌∙◌, ◌++◌, ap, sym, subst, map}
 use Rattle.std.specs.List.{list_all, IsDistinct}
 use Rattle.std.proofs.lemmas.Result.{IfOk-weaker}
 use Rattle.dns_name.specs.Names.{folded_eq}

@@ -1,5 +1,4 @@
-use Rattle.std.proofs.Common.{◌≡◌, ◌∙◌, sym, ap, filter, List}
-use Rattle.mdns_history.specs.declared.held.Held.{Held}
+use Rattle.std.proofs.Common.{◌∙◌, sym, ap, filter}
 use Rattle.mdns_records.specs.After.{held_after, is_named}
 use Rattle.mdns_records.proofs.Later.{later_of}
 use Rattle.mdns_records.proofs.records.Records.walk_one.Goals as goal
