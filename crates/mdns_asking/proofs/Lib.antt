@@ -4,7 +4,7 @@ pub mod Gaps
 pub mod KnownBy
 pub mod Heards
 pub mod WalksTell
-pub mod EnoughNames
+pub mod PutNames
 pub mod Timed
 pub mod Waiting
 pub mod Settled

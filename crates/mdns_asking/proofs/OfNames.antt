@@ -1,13 +1,13 @@
 -- What is asked of a question, and when, is seen on the records of its name, so on the walk of that name. (RFC 6762 5.2 and 7.1)
 use Rattle.std.proofs.Common.{◌≡◌, ℕ, Bool, true, false, cond, ◌&&◌, ◌||◌, List, [], ◌∷◌, ◌++◌, map, filter, Option, Some, None, refl, sym, ap, ◌∙◌, true≢false}
-use Rattle.std.specs.List.{list_any, flat_map, find}
+use Rattle.std.specs.List.{flat_map}
 use Rattle.std.proofs.lemmas.Bool.{and_left, and_parts, false_from_ne_true}
 use Rattle.dns_name.specs.Names.{folded_eq}
 use Rattle.dns_name.specs.Lists.{least, sorted_by}
 use Rattle.dns_name.proofs.Folding.{folded_eq-equivalence}
 use Rattle.dns_record.specs.declared.record.Rr.{Rr}
 use Rattle.dns_record.specs.declared.record.Key.{Key}
-use Rattle.dns_record.specs.Records.{matches, record_cmp, any_kind, kind_of}
+use Rattle.dns_record.specs.Records.{matches, record_cmp}
 use Rattle.mdns_history.specs.declared.held.Held.{Held}
 use Rattle.mdns_history.specs.Lifetimes.{is_live_at, is_uncut}
 use Rattle.mdns_history.specs.Asking.{refresh_points, is_half_fresh, listed, fits_alone}

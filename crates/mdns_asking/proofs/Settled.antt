@@ -1,6 +1,6 @@
 -- After a tick no question is due by then: each that was due has been asked.
-use Rattle.std.proofs.Common.{◌≡◌, ℕ, ◌+◌, ◌*◌, ◌<◌, ◌==◌, min, max, Bool, true, false, cond, not, ◌&&◌, ◌||◌, ◌⊎◌, inl, inr, List, [], ◌∷◌, ◌++◌, map, nat_le, Some, None, IfSome, refl, ap, ◌∙◌, sym, arith, Option}
-use Rattle.std.specs.Prelude.{filter, nat_lt}
+use Rattle.std.proofs.Common.{◌≡◌, ℕ, ◌+◌, ◌*◌, ◌<◌, ◌==◌, min, max, Bool, true, false, cond, not, ◌&&◌, ◌||◌, ◌⊎◌, inl, inr, List, [], ◌∷◌, ◌++◌, map, nat_le, Some, None, IfSome, refl, ap, ◌∙◌, sym, arith}
+use Rattle.std.specs.Prelude.{nat_lt}
 use Rattle.std.specs.List.{list_any, list_all, flat_map, filter_map, cons_option, AllByRecursion}
 use Rattle.std.specs.Option.{option_map}
 use Rattle.std.proofs.lemmas.Slice.Eq.{bytes_eq-Decides}
@@ -21,7 +21,7 @@ use Rattle.mdns_question.specs.Tracking.{active_of, is_for, longest_gap, asked_a
 use Rattle.mdns_question.specs.Next.{next_of}
 use Rattle.mdns_asking.specs.State.{asker_of}
 use Rattle.mdns_asking.specs.Asked.{all_asked}
-use Rattle.mdns_asking.specs.Timed.{timed, all_timed}
+use Rattle.mdns_asking.specs.Timed.{all_timed}
 use Rattle.mdns_asking.specs.Kept.{HaveGaps}
 use Rattle.mdns_asking.proofs.Gaps.{asked_gap}
 use Rattle.mdns_asking.proofs.Waiting.{below_least, quiet_before}

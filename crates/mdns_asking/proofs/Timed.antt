@@ -1,5 +1,5 @@
 -- What is the same of questions that are told refresh points.
-use Rattle.std.proofs.Common.{◌≡◌, ℕ, List, [], ◌∷◌, map, refl, ap, ◌∙◌}
+use Rattle.std.proofs.Common.{◌≡◌, List, [], ◌∷◌, map, refl, ap, ◌∙◌}
 use Rattle.std.specs.List.{AllByRecursion}
 use Rattle.mdns_history.specs.declared.held.Held.{Held}
 use Rattle.mdns_history.specs.declared.entry.Entry.{Entry}
@@ -16,11 +16,6 @@ use Rattle.mdns_asking.specs.Timed.{timed, all_timed}
 pub are_timed : (held : List Held) (questions : List Tracked) → AreTimed held (all_timed held questions)
 are_timed held [] = tt
 are_timed held (one ∷ questions) = (refl, are_timed held questions)
-
--- They are first due when they were over any records.
-pub next_timed : (later held : List Held) (questions : List Tracked) → map (next_of held) (all_timed later questions) ≡ map (next_of held) questions
-next_timed later held [] = refl
-next_timed later held (one ∷ questions) = ap (λ (l : List ℕ). next_of held one ∷ l) (next_timed later held questions)
 
 -- What is kept says when questions are first due.
 pub moments_timed : (held : List Held) (questions : List Tracked) → AreTimed held questions → map moment_of questions ≡ map (next_of held) questions

@@ -1,5 +1,5 @@
 -- What is asked, sent and told by walks is what is asked and sent over the records that are held after an event, and what is then kept of questions.
-use Rattle.std.proofs.Common.{◌≡◌, ℕ, ◌+◌, ◌*◌, ◌<◌, ◌==◌, min, Bool, true, false, cond, not, ◌&&◌, ◌||◌, nat_le, List, [], ◌∷◌, ◌++◌, map, filter, Option, Some, None, is_some, refl, sym, ap, subst, ◌∙◌, true≢false}
+use Rattle.std.proofs.Common.{◌≡◌, ℕ, ◌+◌, ◌*◌, ◌==◌, min, Bool, true, false, cond, not, ◌&&◌, ◌||◌, nat_le, List, [], ◌∷◌, ◌++◌, map, filter, Option, Some, None, is_some, refl, sym, ap, subst, ◌∙◌, true≢false}
 use Rattle.std.specs.List.{list_any, list_all, flat_map, filter_map, cons_option, AllByRecursion}
 use Rattle.std.specs.Option.{option_map}
 use Rattle.std.proofs.lemmas.Bool.{and_parts}
@@ -11,28 +11,25 @@ use Rattle.dns_record.specs.declared.record.Key.{Key}
 use Rattle.dns_record.specs.Records.{key_eq, matches, same, record_cmp}
 use Rattle.dns_message.specs.Packing.{pack_query}
 use Rattle.mdns_history.specs.declared.mark.Cause.{Cause}
-use Rattle.mdns_history.specs.declared.mark.Cause.TheVariants as cause
 use Rattle.mdns_history.specs.declared.held.Held.{Held}
 use Rattle.mdns_history.specs.Hearings.{Heard}
 use Rattle.mdns_history.specs.Asking.{is_counted, asks_openly}
 use Rattle.mdns_history.specs.Sending.{to_all}
 use Rattle.mdns_cache.specs.Lifetimes.{AllLive}
-use Rattle.mdns_cache.proofs.ListLemmas.{each-weaker}
 use Rattle.mdns_happened.specs.declared.walk.Walk.{Walk}
 use Rattle.mdns_happened.specs.Told.{Told}
-use Rattle.mdns_happened.specs.Walks.{is_walked, AreWalks, IsKnown}
+use Rattle.mdns_happened.specs.Walks.{is_walked, AreWalks}
 use Rattle.mdns_known.specs.Known.{known_of, all_known_of}
 use Rattle.mdns_question.specs.declared.tracked.Tracked.{Tracked}
-use Rattle.mdns_question.specs.Tracking.{is_for, begun, asked_at, due_cause, due_with, due_at, longest_gap}
+use Rattle.mdns_question.specs.Tracking.{is_for, begun, due_cause, due_with, longest_gap}
 use Rattle.mdns_question.specs.Refreshing.{IsTimed, AreTimed, cause_of}
 use Rattle.mdns_question.proofs.FirstRefresh.{cause_kept}
 use Rattle.sd_sessions.specs.Sessions.{Session}
 use Rattle.mdns_asking.specs.declared.plan.Plan.{Plan}
-use Rattle.mdns_asking.specs.State.{asker_of}
-use Rattle.mdns_asking.specs.Asked.{is_asked_by, heard_for, asked_told, sent_told, begun_keys, ended_told, all_begun, all_ended, all_asked}
+use Rattle.mdns_asking.specs.Asked.{is_asked_by, asked_told, sent_told, begun_keys, ended_told, all_begun, all_ended, all_asked}
 use Rattle.mdns_asking.specs.Timed.{timed, all_timed}
-use Rattle.mdns_asking.specs.Walked.{may_stand_for, may_be_heard, may_be_asked, AreWalked, AreKnown, AreEnough}
-use Rattle.mdns_asking.specs.ByWalks.{later_of, timed_by, due_by, is_heard_by, heard_by, asked_by, known_by, sent_by}
+use Rattle.mdns_asking.specs.Walked.{may_stand_for, may_be_heard, AreWalked, AreKnown, AreEnough}
+use Rattle.mdns_asking.specs.ByWalks.{later_of, timed_by, due_by, is_heard_by, asked_by, known_by, sent_by}
 use Rattle.mdns_asking.specs.Planned.{IsPlan}
 use Rattle.mdns_asking.proofs.Heards.{heard_one}
 use Rattle.mdns_asking.proofs.OfNames.{walked_alike, known_walked, timed_kept, timed_unwalked, timed_either, timed_known}

@@ -1,7 +1,7 @@
-use Rattle.std.proofs.Common.{◌≡◌, ◌∙◌, ℕ, List, true, ap}
+use Rattle.std.proofs.Common.{◌≡◌, ℕ, List, true}
 use Rattle.dns_record.specs.declared.record.Key.{Key}
 use Rattle.mdns_cache.specs.Ended.{is_among}
-use Rattle.mdns_asking.proofs.EnoughNames.{put-next}
+use Rattle.mdns_asking.proofs.PutNames.{put-next}
 use Rattle.mdns_asking.proofs.names.put_key_names.Goals as goal
 
 pub loop-key-preserved : goal.loop-key-preserved

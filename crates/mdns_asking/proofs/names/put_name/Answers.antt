@@ -1,6 +1,4 @@
-use Rattle.std.proofs.Common.{◌≡◌, ◌∙◌, ap, List, ℕ}
-use Rattle.mdns_cache.specs.Ended.{is_among}
-use Rattle.mdns_asking.proofs.EnoughNames.{put_last}
+use Rattle.mdns_asking.proofs.PutNames.{put_last}
 use Rattle.mdns_asking.proofs.names.put_name.Goals as goal
 
 pub returns-clause-put : goal.returns-clause-put

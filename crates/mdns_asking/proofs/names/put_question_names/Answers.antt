@@ -1,9 +1,9 @@
-use Rattle.std.proofs.Common.{◌≡◌, ◌∙◌, ◌+◌, ◌||◌, ℕ, Bool, List, true, false, ap, sym, subst, true≢false}
+use Rattle.std.proofs.Common.{◌≡◌, ◌∙◌, ◌||◌, ℕ, Bool, List, true, false, ap, sym, true≢false}
 use Rattle.mdns_cache.specs.Ended.{is_among}
 use Rattle.mdns_happened.specs.Told.{told_by}
 use Rattle.mdns_question.specs.declared.tracked.Tracked.{Tracked}
 use Rattle.mdns_asking.specs.Walked.{may_be_asked}
-use Rattle.mdns_asking.proofs.EnoughNames.{put-next}
+use Rattle.mdns_asking.proofs.PutNames.{put-next}
 use Rattle.mdns_asking.proofs.names.put_question_names.Goals as goal
 use Rattle.mdns_asking.proofs.names.put_question_names.Goals.{then-is_among+in_ok-put_name, else-is_among+else-may_be_asked}
 

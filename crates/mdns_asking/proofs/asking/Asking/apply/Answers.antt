@@ -1,7 +1,5 @@
-use Rattle.std.proofs.Common.{◌≡◌, ◌∙◌, ℕ, List, map, ap, sym, subst}
+use Rattle.std.proofs.Common.{◌≡◌, ◌∙◌, List, map, ap, sym, subst}
 use Rattle.dns_record.specs.declared.record.Key.{Key}
-use Rattle.mdns_history.specs.declared.mark.Cause.{Cause}
-use Rattle.mdns_happened.specs.declared.walk.Walk.{Walk}
 use Rattle.mdns_question.specs.declared.tracked.Tracked.{Tracked}
 use Rattle.mdns_asking.specs.State.{State}
 use Rattle.mdns_asking.specs.Asked.{all_begun, all_ended, all_asked}

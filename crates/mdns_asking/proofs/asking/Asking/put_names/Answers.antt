@@ -1,9 +1,9 @@
-use Rattle.std.proofs.Common.{◌≡◌, ◌∙◌, ℕ, List, true, ap, subst}
+use Rattle.std.proofs.Common.{◌∙◌, List, ap, subst}
 use Rattle.mdns_happened.specs.Told.{told_by}
 use Rattle.mdns_question.specs.declared.tracked.Tracked.{Tracked}
 use Rattle.mdns_asking.specs.State.{State}
 use Rattle.mdns_asking.specs.Walked.{AreNamed}
-use Rattle.mdns_asking.proofs.EnoughNames.{named_both}
+use Rattle.mdns_asking.proofs.PutNames.{named_both}
 use Rattle.mdns_asking.proofs.asking.Asking.put_names.Goals as goal
 
 pub returns-clause-named : goal.returns-clause-named
