@@ -1,6 +1,5 @@
 -- The entry of an event and what is kept after it, told of what is kept before it.
-use Rattle.std.specs.Prelude.{◌≡◌, ℕ, ◌==◌, Bool, true, false, List, [], ◌∷◌, ◌++◌, map, drop, take, nat_lt, length, Option, Some, None, if◌then◌else◌}
-use Rattle.std.specs.List.{find}
+use Rattle.std.specs.Prelude.{◌≡◌, ℕ, Bool, true, false, List, [], ◌∷◌, ◌++◌, map, nat_lt, length, if◌then◌else◌}
 use Rattle.std.specs.Option.{unwrap_or}
 use Rattle.std.specs.List.Sorted.{IsPermutation}
 use Rattle.dns_record.specs.declared.record.Rr.{Rr}
@@ -11,22 +10,19 @@ use Rattle.mdns_history.specs.declared.held.Held.{Held}
 use Rattle.mdns_history.specs.declared.mark.Mark.{Mark}
 use Rattle.mdns_history.specs.declared.mark.Mark.TheVariants as mark
 use Rattle.mdns_history.specs.declared.mark.Cause.{Cause}
-use Rattle.mdns_history.specs.declared.entry.Outcome.{Outcome}
-use Rattle.mdns_history.specs.declared.entry.Outcome.TheVariants as outcome
 use Rattle.mdns_history.specs.declared.entry.Entry.{Entry}
 use Rattle.mdns_history.specs.Hearings.{Hearing, counted_records, brought}
 use Rattle.mdns_history.specs.Lifetimes.{is_too_full, live_of, room_for_records}
 use Rattle.mdns_history.specs.Sessions.{opened}
-use Rattle.mdns_history.specs.Outcomes.{items_or_empty}
 use Rattle.mdns_history.specs.Fitting.{bad_mark}
-use Rattle.mdns_happened.specs.Told.{Taking, taking_of}
 use Rattle.mdns_cache.specs.Lifetimes.{hearings_at}
 use Rattle.mdns_question.specs.Standing.{mark_of}
 use Rattle.sd_sessions.specs.declared.change.SessionChange.{SessionChange}
 use Rattle.mdns_core.specs.State.{State}
 use Rattle.sd_sessions.specs.Sessions.{Session}
-use Rattle.sd_sessions.specs.Codes.{kept_outcome, has_number}
-use Rattle.mdns_core.specs.Asked.{asked_for, sent_for, questions_after}
+use Rattle.sd_sessions.specs.Codes.{kept_outcome}
+use Rattle.mdns_asking.specs.Asked.{asked_for, sent_for, questions_after}
+use Rattle.mdns_asking.specs.Timed.{all_timed}
 use Rattle.sd_sessions.specs.Settling.{rrs_of, change_for, cuts_of, gifts_of, all_settled, remaining, with_opened, outcome_then, sessions_after}
 
 -- the changes that an event brings to the sessions, where these records are live after it
@@ -67,7 +63,7 @@ state_after state moment word event refusal later =
       opened = unwrap_or (opened (kept_outcome state.opened state.sessions event)) state.opened;
       sessions = sessions_after event (sessions_then state event (changes_for state event later));
       held = later;
-      questions = questions_after state.sessions moment word event (kept_outcome state.opened state.sessions event) (asked_then state moment event refusal later) state.questions;
+      questions = all_timed later (questions_after state.sessions moment word event (kept_outcome state.opened state.sessions event) (asked_then state moment event refusal later) state.questions);
     }
 
 -- the mark of a packet that is refused: there would be too many records, or it spells no message

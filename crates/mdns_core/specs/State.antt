@@ -1,9 +1,8 @@
 -- What a daemon keeps, and the histories that it stands for.
-use Rattle.std.specs.Prelude.{◌≡◌, ℕ, ◌++◌, max, Bool, true, List, map, Option, None}
+use Rattle.std.specs.Prelude.{◌≡◌, ℕ, ◌++◌, max, true, List, map, Option, None}
 use Rattle.std.specs.List.Sorted.{IsPermutation}
 use Rattle.std.specs.Option.{option_map}
 use Rattle.dns_name.specs.Lists.{least}
-use Rattle.sd_call.specs.declared.item.Item.{Item}
 use Rattle.mdns_history.specs.declared.config.HostConfig.{HostConfig}
 use Rattle.mdns_history.specs.declared.held.Held.{Held}
 use Rattle.mdns_history.specs.declared.entry.Entry.{Entry}
@@ -11,15 +10,13 @@ use Rattle.mdns_history.specs.History.{now}
 use Rattle.mdns_core.specs.InForce.{in_force}
 use Rattle.sd_sessions.specs.Sessions.{Session, sessions_in}
 use Rattle.mdns_history.specs.Lifetimes.{live_records}
-use Rattle.mdns_history.specs.declared.operation.Operation.{Operation}
-use Rattle.mdns_history.specs.Sessions.{opened_count, attached_sessions, operations_of, is_cut}
+use Rattle.mdns_history.specs.Sessions.{opened_count}
 use Rattle.mdns_history.specs.Groups.{host_of}
-use Rattle.mdns_history.specs.Items.{queue}
 use Rattle.mdns_history.specs.Fitting.{IsLegal}
 use Rattle.mdns_question.specs.declared.tracked.Tracked.{Tracked}
-use Rattle.mdns_question.specs.Contents.{Contents}
 use Rattle.mdns_question.specs.Next.{next_of}
 use Rattle.mdns_question.specs.Standing as asking
+use Rattle.mdns_asking.specs.State.{asker_of}
 use Rattle.sd_answer.specs.Laws.{have_data}
 
 -- what contracts see of a daemon
@@ -29,10 +26,6 @@ pub record State : Type 0 where
   pub sessions : List Session
   pub held : List Held
   pub questions : List Tracked
-
--- what an asker keeps that has these questions and was told of these records
-abbrev pub asker_of : List Tracked → List Held → Contents
-asker_of questions held = record { questions = questions; held = held; spare = 0 }
 
 -- the first moment, from the last one on, at which a held record ends or a question is due
 abbrev pub due_of : State → Option ℕ

@@ -16,42 +16,39 @@ ghost use Rattle.dns_name.specs.Lists.{least};
 ghost use Rattle.sd_sessions.specs.Codes.{has_number};
 
 use crate::plan::{Kept, Plan, make_plan};
-use mdns_cache::{Cache, Steps};
+use mdns_asking::Asking;
+use mdns_cache::Steps;
 use mdns_happened::When;
 use mdns_history::{Config, Entry, Event, Gifts, Marks, Outcome, Sends};
-use mdns_question::{Asker, next_due};
+use mdns_records::Records;
 use sd_sessions::Sessions;
 use std::alloc::{AllocError, Global};
 use std::marker::Model;
 use std::sync::ledger::Ledger;
-
-/// The most records that are live at a time.
-const ROOM_FOR_RECORDS: usize = 32_768;
 
 /// A daemon without a host.
 #[derive(Drop)]
 pub struct Daemon {
     alloc: Global,
     last: u64,
+    records: Records,
+    asking: Asking,
     sessions: Sessions,
-    cache: Cache,
-    asker: Asker,
 }
 
 impl Model for Daemon {
-    ghost use Rattle.std.specs.Prelude.{◌≡◌, ◌≤◌, length};
+    ghost use Rattle.std.specs.Prelude.{◌≤◌, length};
     ghost use Rattle.mdns_history.specs.Lifetimes.{room_for_records};
     ghost use Rattle.mdns_cache.specs.Lifetimes.{AllLive, AllHeard};
+    ghost use Rattle.mdns_question.specs.Refreshing.{AreTimed};
     ghost use Rattle.mdns_core.specs.State.{State};
 
     ghost Value = { State };
 
-    ghost use Rattle.mdns_core.specs.Kept.{HaveGaps};
+    ghost view = { λ d. record { last = d.last; opened = d.sessions.opened; sessions = d.sessions.sessions; held = d.records.held; questions = d.asking.questions } };
 
-    ghost view = { λ d. record { last = d.last; opened = d.sessions.opened; sessions = d.sessions.sessions; held = d.cache.held; questions = d.asker.questions } };
-
-    ghost invariant = { λ d. (d.cache.limit ≡ room_for_records) × (length d.cache.held ≤ room_for_records)
-        × AllLive d.last d.cache.held × AllHeard d.last d.cache.held × HaveGaps d.asker.questions };
+    ghost invariant = { λ d. (length d.records.held ≤ room_for_records) × AllLive d.last d.records.held × AllHeard d.last d.records.held
+        × AreTimed d.records.held d.asking.questions };
 }
 
 impl Daemon {
@@ -74,9 +71,9 @@ impl Daemon {
         let daemon = Daemon {
             alloc,
             last: now,
+            records: Records::new(alloc, word)?,
+            asking: Asking::new(alloc),
             sessions: Sessions::new(alloc),
-            cache: Cache::new(alloc, ROOM_FOR_RECORDS)?,
-            asker: Asker::new(alloc),
         };
         let entry = Entry {
             moment: now,
@@ -111,8 +108,7 @@ impl Daemon {
         ensures value { result ≡ due_of self.now }
         ensures due { (history : List Entry) → Stands self.now history → NextDue in_force history result }
     {
-        let asked = next_due(self.asker.questions(), self.cache.held());
-        let due = earlier(self.cache.next_end(), asked);
+        let due = earlier(self.records.next_end(), self.asking.first_due());
         not_before(self.last, due)
     }
 
@@ -148,35 +144,36 @@ impl Daemon {
         ensures ticked { OnOk result (event ≡ Event.Tick → IfSome (due_of self.new) (λ due. now < due)) }
         ensures err { OnErr result (self.new ≡ self.old) }
     {
-        let alloc = self.alloc;
         let when = When { moment: now, word };
         let kept = Kept {
+            records: &self.records,
+            asking: &self.asking,
             sessions: &self.sessions,
-            cache: &self.cache,
-            asker: &self.asker,
         };
-        let plan = make_plan(alloc, &kept, when, &event, steps)?;
+        let plan = make_plan(self.alloc, &kept, when, &event, steps)?;
+        self.records.reserve(plan.heard.as_slice().len())?;
+        self.asking.reserve(&plan.asking)?;
         self.sessions.reserve(&plan.happened, &plan.sessions)?;
         let Plan {
             happened,
-            cache,
-            asker,
-            marks,
-            sent,
-            given,
+            heard,
+            walks,
+            asking,
             sessions,
+            marks,
+            given,
         } = plan;
+        self.last = now;
+        self.records.apply(when, heard, steps);
+        self.asking.apply(when, &asking, &walks);
         let outcome = self.sessions.apply(&happened, sessions);
         drop(happened);
-        self.last = now;
-        self.cache = cache;
-        self.asker = asker;
         Ok(Entry {
             moment: now,
             word,
             event,
             marks,
-            sent,
+            sent: asking.sent,
             given,
             outcome,
         })

@@ -3,45 +3,43 @@ ghost use Rattle.std.specs.Prelude.{◌≡◌, ◌≤◌, ◌++◌, map, length,
 ghost use Rattle.mdns_history.specs.Lifetimes.{room_for_records};
 ghost use Rattle.mdns_happened.specs.Told.{told_by};
 ghost use Rattle.mdns_cache.specs.Lifetimes.{AllHeard};
-ghost use Rattle.mdns_core.specs.Asked.{asked_told, sent_told, questions_told};
+ghost use Rattle.mdns_records.specs.After.{held_after};
+ghost use Rattle.mdns_question.specs.Refreshing.{AreTimed};
 ghost use Rattle.mdns_question.specs.Standing.{mark_of};
 ghost use Rattle.sd_sessions.specs.Settling.{cuts_of};
 ghost use Rattle.sd_sessions.specs.Kept.{IsWellFormedCall};
-ghost use Rattle.mdns_core.specs.Planned.{IsPlan};
+ghost use Rattle.mdns_core.specs.Planned.{AreEnough, IsPlan};
 
-use crate::asking::{asked_questions, put_askings};
-use crate::hear::hear;
-use crate::queries::queries;
 use crate::reading::{Reading, read_event};
-use crate::tracking::follow;
-use dns_record::Key;
-use mdns_cache::{Cache, Steps};
-use mdns_happened::{Happened, When};
-use mdns_history::{Cause, Event, Gifts, Held, Marks, Sends};
-use mdns_question::Asker;
-use sd_sessions::{Around, Plan as SessionsPlan, Sessions};
+use dns_message::Rrs;
+use mdns_asking::{Asking, Plan as AskingPlan};
+use mdns_cache::Steps;
+use mdns_happened::{Happened, Walk, When};
+use mdns_history::{Event, Gifts, Marks};
+use mdns_records::Records;
+use sd_sessions::{Plan as SessionsPlan, Sessions};
 use std::alloc::{AllocError, Global};
 use std::sync::ledger::Ledger;
 
-/// What an event leads to: what happened, the records that are then live, the questions that then have users, its marks, what it
-/// sends and gives, and the plan of the sessions.
+/// What an event leads to: what happened, the records that are heard, those of the names that it concerns, before it and after
+/// it, the plans of the questions and of the sessions, and the marks and the gifts of the entry.
 #[derive(Drop)]
 pub struct Plan<'a> {
     pub happened: Happened<'a>,
-    pub cache: Cache,
-    pub asker: Asker,
-    pub marks: Marks,
-    pub sent: Sends,
-    pub given: Gifts,
+    pub heard: Rrs,
+    pub walks: Vec<Walk>,
+    pub asking: AskingPlan,
     pub sessions: SessionsPlan,
+    pub marks: Marks,
+    pub given: Gifts,
 }
 
-/// What a daemon keeps before an event: its sessions, the records that are live, and the questions that have users.
+/// What a daemon keeps before an event: the records that it holds, the questions that have users, and its sessions.
 #[derive(Drop)]
 pub struct Kept<'a> {
+    pub records: &'a Records,
+    pub asking: &'a Asking,
     pub sessions: &'a Sessions,
-    pub cache: &'a Cache,
-    pub asker: &'a Asker,
 }
 
 /// What an event leads to. Nothing is changed. Refused only for want of memory.
@@ -52,61 +50,50 @@ pub fn make_plan<'a, L: Ledger>(
     event: &'a Event,
     steps: &mut Steps<L>,
 ) -> Result<Plan<'a>, AllocError>
-    requires limit { kept.now.cache.now.limit ≡ room_for_records }
-    requires within { length kept.now.cache.now.held ≤ room_for_records }
-    requires past { AllHeard when.moment kept.now.cache.now.held }
-    ensures { IfOk result (λ plan. IsPlan kept.now.sessions.now.opened kept.now.sessions.now.sessions kept.now.cache.now.held kept.now.asker.now.questions when.moment when.word event.now plan) }
+    requires within { length kept.now.records.now.held ≤ room_for_records }
+    requires past { AllHeard when.moment kept.now.records.now.held }
+    requires timed { AreTimed kept.now.records.now.held kept.now.asking.now.questions }
+    ensures { IfOk result (λ plan. IsPlan kept.now.sessions.now.opened kept.now.sessions.now.sessions kept.now.records.now.held kept.now.asking.now.questions when.moment when.word event.now plan) }
 {
-    let Reading { happened, records } = read_event(alloc, kept, when, event)?;
-    let cache = hear(alloc, kept.cache, when, records, steps)?;
-    let held = Around {
-        earlier: kept.cache.held(),
-        later: cache.held(),
-    };
-    let asking = make_asking(alloc, kept, when, &happened, held.later)?;
-    let sessions = kept.sessions.plan(&happened, held)?;
-    let marks = make_marks(alloc, &happened, &asking.asked, &sessions)?;
+    let reading = read_event(alloc, kept, when, event)?;
+    let walks = walk(alloc, kept, when, &reading, steps)?;
+    let Reading { happened, heard } = reading;
+    let asking = kept.asking.plan(when, &happened, &walks, kept.sessions)?;
+    let sessions = kept.sessions.plan(&happened, &walks)?;
+    let marks = make_marks(alloc, &happened, &asking, &sessions)?;
     let given = sessions.gifts(alloc)?;
     Ok(Plan {
         happened,
-        cache,
-        asker: asking.asker,
-        marks,
-        sent: asking.sent,
-        given,
+        heard,
+        walks,
+        asking,
         sessions,
+        marks,
+        given,
     })
 }
 
-/// What is asked: the questions with their causes, the queries, and the questions that then have users.
-#[derive(Drop)]
-struct Asking {
-    asker: Asker,
-    asked: Vec<(Key, Cause)>,
-    sent: Sends,
-}
-
-// What is asked, where these records are held after the event. Nothing is changed. Refused only for want of memory.
-fn make_asking(
+// The records of the names that an event concerns, before it and after it: of those of which records end or are heard, those that
+// an operation or a question asks for, and those that asking by itself needs. No other record is looked at. Refused only for want
+// of memory.
+fn walk<L: Ledger>(
     alloc: Global,
     kept: &Kept<'_>,
     when: When,
-    happened: &Happened<'_>,
-    held: &[Held],
-) -> Result<Asking, AllocError>
-    requires heard { AllHeard when.moment held.now }
-    requires call { IsWellFormedCall (told_by happened.now).call }
-    ensures asked { IfOk result (λ asking. asking.asked.items
-        ≡ asked_told (told_by happened.now).ticks (told_by happened.now).heard kept.now.asker.now.questions held.now when.moment) }
-    ensures sent { IfOk result (λ asking. asking.sent ≡ sent_told (told_by happened.now).ticks held.now when.moment asking.asked.items) }
-    ensures questions { IfOk result (λ asking. asking.asker.questions
-        ≡ questions_told (told_by happened.now).call (told_by happened.now).detached kept.now.sessions.now.sessions when.moment when.word asking.asked.items kept.now.asker.now.questions) }
+    reading: &Reading<'_>,
+    steps: &mut Steps<L>,
+) -> Result<Vec<Walk>, AllocError>
+    requires call { IsWellFormedCall (told_by reading.now.happened).call }
+    ensures { IfOk result (λ walks. AreEnough (told_by reading.now.happened) when.moment kept.now.records.now.held
+        (held_after when.moment when.word reading.now.heard kept.now.records.now.held) kept.now.asking.now.questions kept.now.sessions.now.sessions walks.items) }
 {
-    let mut asker = kept.asker.copy_untold(alloc)?;
-    let asked = asked_questions(alloc, asker.questions(), held, when, happened)?;
-    let sent = queries(alloc, held, when, happened, &asked)?;
-    follow(&mut asker, kept.sessions, when, happened, &asked)?;
-    Ok(Asking { asker, asked, sent })
+    let happened = &reading.happened;
+    let heard = reading.heard.as_slice();
+    let touched = kept.records.touched(when.moment, heard)?;
+    let mut names = Vec::new(alloc);
+    kept.sessions.put_names(&mut names, happened, &touched)?;
+    kept.asking.put_names(&mut names, when, happened, &touched)?;
+    kept.records.walk(when, heard, names, steps)
 }
 
 // The marks of an entry: that of a packet that was refused, those of the questions that are asked, and those of the sessions that
@@ -114,14 +101,14 @@ fn make_asking(
 fn make_marks(
     alloc: Global,
     happened: &Happened<'_>,
-    asked: &[(Key, Cause)],
+    asking: &AskingPlan,
     sessions: &SessionsPlan,
 ) -> Result<Marks, AllocError>
-    ensures { IfOk result (λ marks. marks ≡ (told_by happened.now).refusal ++ map mark_of asked.now ++ cuts_of sessions.now.changes.items) }
+    ensures { IfOk result (λ marks. marks ≡ (told_by happened.now).refusal ++ map mark_of asking.now.asked.items ++ cuts_of sessions.now.changes.items) }
 {
     let mut marks = Marks::new(alloc);
     put_refusal(&mut marks, happened)?;
-    put_askings(&mut marks, asked)?;
+    asking.put_askings(&mut marks)?;
     sessions.put_cuts(&mut marks)?;
     Ok(marks)
 }

@@ -6,6 +6,7 @@ ghost use Rattle.mdns_history.specs.Hearings.{Hearing, is_ignored, counted, coun
 ghost use Rattle.mdns_history.specs.Lifetimes.{room_for_records};
 ghost use Rattle.mdns_happened.specs.Told.{told_of, told_by, packet_told};
 ghost use Rattle.mdns_cache.specs.Lifetimes.{Holds};
+ghost use Rattle.mdns_records.specs.After.{held_after};
 ghost use Rattle.sd_sessions.specs.Codes.{kept_outcome};
 ghost use Rattle.mdns_core.specs.Next.{refusal_of, is_full, are_too_many};
 ghost use Rattle.sd_sessions.specs.Kept.{IsWellFormedCall};
@@ -15,18 +16,18 @@ use crate::plan::Kept;
 use dns_message::{Message, MessageError, Rrs, read};
 use dns_record::Rr;
 use mdns_base::Host;
-use mdns_cache::Cache;
 use mdns_happened::{Happened, Heard, Idle, Refusal, When};
 use mdns_history::{Event, Mark};
+use mdns_records::Records;
 use std::alloc::{AllocError, Global};
 
 const MDNS_PORT: u16 = 5353;
 
-/// An event, read once: what happened, and the records that it brings.
+/// An event, read once: what happened, and the records that are heard with it.
 #[derive(Drop)]
 pub struct Reading<'a> {
     pub happened: Happened<'a>,
-    pub records: Rrs,
+    pub heard: Rrs,
 }
 
 /// Reads an event, told of what is kept before it. Nothing else reads it. Refused only for want of memory.
@@ -37,19 +38,19 @@ pub fn read_event<'a>(
     when: When,
     event: &'a Event,
 ) -> Result<Reading<'a>, AllocError>
-    requires limit { kept.now.cache.now.limit ≡ room_for_records }
-    requires within { length kept.now.cache.now.held ≤ room_for_records }
+    requires within { length kept.now.records.now.held ≤ room_for_records }
     ensures told { IfOk result (λ reading. told_by reading.happened
         ≡ told_of event.now (kept_outcome kept.now.sessions.now.opened kept.now.sessions.now.sessions event.now) (told_by reading.happened).refusal) }
-    ensures refused { IfOk result (λ reading. (past : List Hearing) (before : ℕ) → before ≤ when.moment → Holds kept.now.cache.now.held past before
+    ensures refused { IfOk result (λ reading. (past : List Hearing) (before : ℕ) → before ≤ when.moment → Holds kept.now.records.now.held past before
         → (told_by reading.happened).refusal ≡ refusal_of (is_full when.moment when.word event.now past) event.now) }
-    ensures records { IfOk result (λ reading. reading.records ≡ counted_records (told_by reading.happened).heard) }
+    ensures records { IfOk result (λ reading. reading.heard ≡ counted_records (told_by reading.happened).heard) }
+    ensures room { IfOk result (λ reading. length (held_after when.moment when.word reading.heard kept.now.records.now.held) ≤ room_for_records) }
     ensures parts { IfOk result (λ _. have_data (counted_records (brought event.now)) ≡ true) }
     ensures well_formed { IfOk result (λ reading. IsWellFormedCall (told_by reading.happened).call) }
 {
     match event {
         Event::Hear { from, bytes } => {
-            read_packet(alloc, kept.cache, when, from, bytes.as_slice())
+            read_packet(alloc, kept.records, when, from, bytes.as_slice())
         }
         Event::Attach => brings_nothing(alloc, kept.sessions.attach()),
         Event::Detach { session } => brings_nothing(alloc, kept.sessions.detach(*session)),
@@ -67,32 +68,32 @@ pub fn read_event<'a>(
 // What happened, where it brings no record. It takes no memory.
 fn brings_nothing(alloc: Global, happened: Happened<'_>) -> Result<Reading<'_>, AllocError>
     ensures told { IfOk result (λ reading. told_by reading.happened ≡ told_by happened.entry) }
-    ensures records { IfOk result (λ reading. reading.records ≡ []) }
+    ensures records { IfOk result (λ reading. reading.heard ≡ []) }
 {
     Ok(Reading {
         happened,
-        records: Rrs::new(alloc),
+        heard: Rrs::new(alloc),
     })
 }
 
 // Reads a packet.
 fn read_packet<'a>(
     alloc: Global,
-    cache: &Cache,
+    records: &Records,
     when: When,
     from: &'a Host,
     bytes: &[u8],
 ) -> Result<Reading<'a>, AllocError>
-    requires limit { cache.now.limit ≡ room_for_records }
-    requires within { length cache.now.held ≤ room_for_records }
+    requires within { length records.now.held ≤ room_for_records }
     ensures told { IfOk result (λ reading. told_by reading.happened ≡ packet_told (brought (Event.Hear from.now bytes.now)) (told_by reading.happened).refusal) }
-    ensures refused { IfOk result (λ reading. (past : List Hearing) (before : ℕ) → before ≤ when.moment → Holds cache.now.held past before
+    ensures refused { IfOk result (λ reading. (past : List Hearing) (before : ℕ) → before ≤ when.moment → Holds records.now.held past before
         → (told_by reading.happened).refusal ≡ refusal_of (is_full when.moment when.word (Event.Hear from.now bytes.now) past) (Event.Hear from.now bytes.now)) }
-    ensures records { IfOk result (λ reading. reading.records ≡ counted_records (told_by reading.happened).heard) }
+    ensures records { IfOk result (λ reading. reading.heard ≡ counted_records (told_by reading.happened).heard) }
+    ensures room { IfOk result (λ reading. length (held_after when.moment when.word reading.heard records.now.held) ≤ room_for_records) }
     ensures parts { IfOk result (λ _. have_data (counted_records (brought (Event.Hear from.now bytes.now))) ≡ true) }
 {
     match read(alloc, bytes) {
-        Ok(message) => read_message(alloc, cache, when, from, message),
+        Ok(message) => read_message(alloc, records, when, from, message),
         Err(fault) => read_fault(alloc, fault),
     }
 }
@@ -101,7 +102,7 @@ fn read_packet<'a>(
 fn read_fault<'a>(alloc: Global, fault: MessageError) -> Result<Reading<'a>, AllocError>
     ensures found { IfOk result (λ _. fault ≢ MessageError.NoMemory) }
     ensures told { IfOk result (λ reading. told_by reading.happened ≡ packet_told None (Mark.Bad (fault_number fault) ∷ [])) }
-    ensures records { IfOk result (λ reading. reading.records ≡ []) }
+    ensures records { IfOk result (λ reading. reading.heard ≡ []) }
 {
     match fault {
         MessageError::NoMemory => Err(AllocError),
@@ -117,28 +118,28 @@ fn read_fault<'a>(alloc: Global, fault: MessageError) -> Result<Reading<'a>, All
 // Reads a message: it is ignored, or refused where there would be too many records with those that it brings, or else heard.
 fn read_message<'a>(
     alloc: Global,
-    cache: &Cache,
+    records: &Records,
     when: When,
     from: &'a Host,
     message: Message,
 ) -> Result<Reading<'a>, AllocError>
-    requires limit { cache.now.limit ≡ room_for_records }
-    requires within { length cache.now.held ≤ room_for_records }
+    requires within { length records.now.held ≤ room_for_records }
     ensures told { IfOk result (λ reading. told_by reading.happened ≡ packet_told (counted from.now (Ok message)) (told_by reading.happened).refusal) }
-    ensures refused { IfOk result (λ reading. (past : List Hearing) (before : ℕ) → before ≤ when.moment → Holds cache.now.held past before
+    ensures refused { IfOk result (λ reading. (past : List Hearing) (before : ℕ) → before ≤ when.moment → Holds records.now.held past before
         → (told_by reading.happened).refusal ≡ (if are_too_many when.moment when.word (counted_records (counted from.now (Ok message))) past then Mark.Full ∷ [] else [])) }
-    ensures records { IfOk result (λ reading. reading.records ≡ counted_records (told_by reading.happened).heard) }
+    ensures records { IfOk result (λ reading. reading.heard ≡ counted_records (told_by reading.happened).heard) }
+    ensures room { IfOk result (λ reading. length (held_after when.moment when.word reading.heard records.now.held) ≤ room_for_records) }
 {
     if is_ignored(from, &message) {
         return brings_nothing(alloc, Happened::Nothing { why: Idle::Ignored });
     }
-    let records = records_of(alloc, &message)?;
-    if !cache.fits(when.moment, records.as_slice()) {
+    let heard = records_of(alloc, &message)?;
+    if !records.fits(when.moment, heard.as_slice()) {
         return brings_nothing(alloc, Happened::Refused { why: Refusal::Full });
     }
     Ok(Reading {
         happened: Happened::Heard(Heard { from, message }),
-        records,
+        heard,
     })
 }
 

@@ -1,5 +1,5 @@
 use Rattle.std.proofs.Common.{◌∙◌, Some, ap, sym}
-use Rattle.mdns_core.proofs.Waiting.{least-both}
+use Rattle.mdns_asking.proofs.Waiting.{least-both}
 use Rattle.mdns_core.proofs.daemon.earlier.Goals as goal
 
 pub returns-in-Some-Some : goal.returns-in-Some-Some

@@ -8,8 +8,8 @@ use Rattle.mdns_history.specs.declared.event.Event.TheVariants as event
 use Rattle.mdns_question.specs.declared.tracked.Tracked.{Tracked}
 use Rattle.sd_sessions.specs.Sessions.{Session}
 use Rattle.mdns_core.specs.State.{Stands}
-use Rattle.mdns_core.proofs.Standing.{stands-boot}
-use Rattle.mdns_core.proofs.Carried.{told_entry, kept}
+use Rattle.mdns_core.proofs.step.Standing.{stands-boot}
+use Rattle.mdns_core.proofs.step.Carried.{told_entry, kept}
 use Rattle.mdns_core.proofs.daemon.Daemon.new.Goals as goal
 
 pub returns-clause-stands : goal.returns-clause-stands
@@ -25,4 +25,4 @@ returns-clause-stands c =
     (subst (λ (l : List Held). Stands (kept c.args.now 0 [] l questions) (told_entry c.args.now c.args.word (event.Boot c.args.config) [] [] [] outcome.Done ∷ [])) (sym h)
     (subst (λ (l : List Tracked). Stands (kept c.args.now 0 [] [] l) (told_entry c.args.now c.args.word (event.Boot c.args.config) [] [] [] outcome.Done ∷ [])) (sym q)
     (stands-boot c.args.now c.args.word c.args.config c.requires.bound c.requires.hostless))))))) in
-    at_marks c.new-4.result c.new-5.result c.new-6.result c.new.result.opened c.new.result.sessions c.in_ok-new.field-0.held c.new-3.result.questions c.new-4.ensures c.new-5.ensures c.new-6.ensures c.new.ensures.opened c.new.ensures.sessions c.in_ok-new.ensures.held c.new-3.ensures.questions
+    at_marks c.new-4.result c.new-5.result c.new-6.result c.new-3.result.opened c.new-3.result.sessions c.in_ok-new.field-0.held c.new-2.result.questions c.new-4.ensures c.new-5.ensures c.new-6.ensures c.new-3.ensures.opened c.new-3.ensures.sessions c.in_ok-new.ensures.held c.new-2.ensures

@@ -3,19 +3,20 @@ use Rattle.std.specs.Prelude.{ℕ}
 use Rattle.std.specs.Option.{option_map}
 use Rattle.dns_name.specs.Lists.{least}
 use Rattle.mdns_core.specs.InForce.{in_force}
+use Rattle.mdns_history.specs.declared.held.Held.{Held}
 use Rattle.mdns_history.specs.Due.{NextDue}
 use Rattle.mdns_question.specs.Next.{next_of}
 use Rattle.mdns_core.specs.State.{due_of}
-use Rattle.mdns_core.proofs.Standing.{due-stands}
+use Rattle.mdns_core.proofs.step.Standing.{due-stands}
 use Rattle.mdns_core.proofs.daemon.Daemon.next_due.Goals as goal
 
 pub returns-clause-value : goal.returns-clause-value
 returns-clause-value c =
-    let ends : List ℕ = map (λ one. one.end) c.self.inside.cache.held in
-    let nexts : List ℕ = map (next_of c.self.inside.cache.held) c.self.inside.asker.questions in
+    let held : List Held = c.self.inside.records.held in
+    let ends : List ℕ = map (λ (one : Held). one.end) held in
+    let nexts : List ℕ = map (next_of held) c.self.inside.asking.questions in
     let least_is : c.earlier-due.result ≡ least (ends ++ nexts) =
-    c.earlier-due.ensures ends nexts c.next_end.ensures.least
-    (c.next_due-asked.ensures ∙ (λ i. least (map (next_of (c.held.ensures i)) (c.questions.ensures i)))) in
+    c.earlier-due.ensures ends nexts c.next_end.ensures.least (c.first_due.ensures.due held c.self.invariant.3) in
     c.not_before.ensures ∙ ap (option_map (max c.self.inside.last)) least_is ∙ ap due_of c.self.view_is
 
 pub returns-clause-due : goal.returns-clause-due

@@ -1,66 +1,62 @@
-use Rattle.std.proofs.Common.{◌≡◌, ◌∙◌, ◌≤◌, ℕ, ap, subst, sym, map, length, List, Option}
-use Rattle.std.proofs.lemmas.List.{length-map}
+use Rattle.std.proofs.Common.{◌∙◌, ◌≤◌, ℕ, ap, subst, sym, length, List}
+use Rattle.std.proofs.lemmas.List.Sorted.{length_permutation}
+use Rattle.std.specs.List.Sorted.{IsPermutation}
 use Rattle.std.specs.Option.{unwrap_or}
 use Rattle.dns_record.specs.declared.record.Rr.{Rr}
-use Rattle.mdns_history.specs.declared.event.Event.{Event}
+use Rattle.mdns_history.specs.declared.held.Held.{Held}
 use Rattle.mdns_asserts.proofs.Earned.{are_earned}
-use Rattle.mdns_core.specs.InForce.{in_force}
-use Rattle.mdns_history.specs.declared.event.Event.TheVariants as event
-use Rattle.mdns_history.specs.declared.entry.Outcome.{Outcome}
 use Rattle.mdns_question.specs.declared.tracked.Tracked.{Tracked}
-use Rattle.mdns_happened.specs.Told.{Told, told_by, told_of}
+use Rattle.mdns_question.specs.Refreshing.{AreTimed}
+use Rattle.mdns_cache.specs.Lifetimes.{AllHeard}
+use Rattle.mdns_happened.specs.Told.{Told, told_by}
+use Rattle.mdns_records.specs.After.{held_after}
+use Rattle.mdns_records.proofs.Holding.{after-live}
 use Rattle.sd_sessions.specs.declared.change.SessionChange.{SessionChange}
 use Rattle.sd_sessions.specs.Sessions.{Session}
 use Rattle.sd_sessions.specs.Planned as sessions
-use Rattle.sd_sessions.specs.Codes.{kept_outcome}
-use Rattle.sd_sessions.specs.Settling.{change_told, rrs_of, shifted_told, outcome_told, sessions_told}
+use Rattle.sd_sessions.specs.Settling.{rrs_of, shifted_told, outcome_told, sessions_told}
+use Rattle.mdns_core.specs.InForce.{in_force}
 use Rattle.mdns_core.specs.State.{State, Stands}
-use Rattle.mdns_core.specs.Asked.{questions_told}
-use Rattle.mdns_core.specs.Planned.{chosen_for}
-use Rattle.mdns_core.specs.Kept.{HaveGaps}
-use Rattle.mdns_core.proofs.Ticked.{gaps_kept, due-ticked}
-use Rattle.mdns_core.proofs.Standing.{replayed-stands, queued-stands}
-use Rattle.mdns_core.proofs.Carried.{IsCarriedOut, carried, kept}
+use Rattle.mdns_core.proofs.step.Standing.{replayed-stands, queued-stands}
+use Rattle.mdns_asking.proofs.Timed.{are_timed}
+use Rattle.mdns_core.proofs.step.Moved.{timed-moved, heard-since}
+use Rattle.mdns_core.proofs.step.Plans.{IsMade, asked_of_plan, applied, carried-plan, ticked-plan}
 use Rattle.mdns_core.proofs.daemon.Daemon.step.Goals as goal
 
-pub reserve-requires : goal.reserve-requires
-reserve-requires g c =
-    let earlier : List Rr = rrs_of c.self.inside.cache.held in
-    let later : List Rr = rrs_of c.in_ok-plan.plan.cache.held in
-    sym (ap (λ (changes : List SessionChange). length changes) c.in_ok-plan.ensures.sessions.changes ∙ length-map c.self.inside.sessions.sessions (change_told (told_by c.in_ok-plan.plan.happened) earlier later))
+pub apply-requires-clause-fits : goal.apply-requires-clause-fits
+apply-requires-clause-fits g c =
+    subst (λ (held : List Held). length (held_after c.args.now c.args.word c.in_ok-plan.plan.heard held) ≤ 32768) (sym c.reserve.ensures.held) c.in_ok-plan.ensures.within
 
 pub apply-outcome-requires-clause-planned : goal.apply-outcome-requires-clause-planned
-apply-outcome-requires-clause-planned g c = (
-  rrs_of c.self.inside.cache.held,
-  rrs_of c.in_ok-plan.plan.cache.held,
-  subst (λ (ss : List Session). sessions.IsPlan (told_by c.in_ok-plan.plan.happened) (rrs_of c.self.inside.cache.held) (rrs_of c.in_ok-plan.plan.cache.held) ss c.in_ok-plan.plan.sessions)
-      (sym c.reserve.ensures.sessions) c.in_ok-plan.ensures.sessions,
-)
+apply-outcome-requires-clause-planned g c =
+    let earlier : List Rr = rrs_of c.self.inside.records.held in
+    let later : List Rr = rrs_of (held_after c.args.now c.args.word c.in_ok-plan.plan.heard c.self.inside.records.held) in (
+      earlier,
+      later,
+      subst (λ (ss : List Session). sessions.IsPlan (told_by c.in_ok-plan.plan.happened) earlier later ss c.in_ok-plan.plan.sessions) (sym c.reserve-3.ensures.sessions) c.in_ok-plan.ensures.sessions,
+    )
 
 pub returns-clause-fits : goal.returns-clause-fits
 returns-clause-fits g c = λ history stands.
+    let held : List Held = c.self.inside.records.held in
+    let later : List Held = held_after c.args.now c.args.word c.in_ok-plan.plan.heard held in
     let ss : List Session = c.self.inside.sessions.sessions in
+    let questions : List Tracked = c.self.inside.asking.questions in
     let told : Told = told_by c.in_ok-plan.plan.happened in
     let changes : List SessionChange = c.in_ok-plan.plan.sessions.changes.items in
-    let state : State = kept c.self.inside.last c.self.inside.sessions.opened ss c.self.inside.cache.held c.self.inside.asker.questions in
-    let out : IsCarriedOut state c.args.now c.args.word c.args.event c.in_ok-plan.plan.cache.held c.in_ok-plan.plan.marks c.in_ok-plan.plan.sent c.in_ok-plan.plan.given c.apply-outcome.result c.apply-outcome.new.self.opened c.apply-outcome.new.self.sessions c.in_ok-plan.plan.asker.questions =
+    let moved : IsPermutation c.apply.new.self.held later =
+    subst (λ (hs : List Held). IsPermutation c.apply.new.self.held (held_after c.args.now c.args.word c.in_ok-plan.plan.heard hs)) c.reserve.ensures.held c.apply.ensures.held in
+    let made : IsMade c.self.inside.sessions.opened ss held later questions c.args.now c.args.word c.args.event c.in_ok-plan.plan c.in_ok-plan.ensures c.apply-outcome.result c.apply-outcome.new.self.opened c.apply-outcome.new.self.sessions c.apply-2.new.self.questions =
     record {
-      told = told;
-      changes = changes;
-      reads = c.in_ok-plan.ensures.told;
-      heard = c.in_ok-plan.ensures.heard;
-      parts = c.in_ok-plan.ensures.data;
-      changed = c.in_ok-plan.ensures.sessions.changes;
-      marked = c.in_ok-plan.ensures.marks;
-      sends = c.in_ok-plan.ensures.sent;
-      gifts = c.in_ok-plan.ensures.given;
-      late = c.apply-outcome.ensures.outcome ∙ ap (λ (xs : List Session). outcome_told told.taking told.outcome (shifted_told told xs changes)) c.reserve.ensures.sessions;
-      remains = c.apply-outcome.ensures.sessions ∙ ap (λ (xs : List Session). sessions_told told.taking (shifted_told told xs changes)) c.reserve.ensures.sessions;
-      counted = c.apply-outcome.ensures.opened ∙ ap (λ (n : ℕ). unwrap_or told.opened n) c.reserve.ensures.opened;
-      follows = c.in_ok-plan.ensures.tracked;
+      went = c.apply-outcome.ensures.outcome ∙ ap (λ (xs : List Session). outcome_told told.taking told.outcome (shifted_told told xs changes)) c.reserve-3.ensures.sessions;
+      remain = c.apply-outcome.ensures.sessions ∙ ap (λ (xs : List Session). sessions_told told.taking (shifted_told told xs changes)) c.reserve-3.ensures.sessions;
+      counted = c.apply-outcome.ensures.opened ∙ ap (λ (n : ℕ). unwrap_or told.opened n) c.reserve-3.ensures.opened;
+      follow = applied c.self.inside.sessions.opened ss held later questions c.args.now c.args.word c.args.event c.in_ok-plan.plan c.in_ok-plan.ensures
+          c.deref.result.now c.reserve-2.new.self.questions c.apply-2.new.self.questions c.deref.ensures.value c.reserve-2.ensures.questions c.self.invariant.3 c.apply-2.ensures;
     } in
-    carried state c.args.now c.args.word c.args.event c.in_ok-plan.plan.cache.held c.in_ok-plan.plan.marks c.in_ok-plan.plan.sent c.in_ok-plan.plan.given c.apply-outcome.result c.apply-outcome.new.self.opened c.apply-outcome.new.self.sessions c.in_ok-plan.plan.asker.questions
-    out (subst (λ (s : State). s.last ≤ c.args.now) (sym c.self.view_is) c.requires.later) c.requires.bound c.requires.no_boot history (subst (λ (s : State). Stands s history) (sym c.self.view_is) stands)
+    carried-plan c.self.inside.sessions.opened ss held later questions c.args.now c.args.word c.args.event c.in_ok-plan.plan c.in_ok-plan.ensures
+    c.self.inside.last c.apply-outcome.result c.apply-outcome.new.self.opened c.apply-outcome.new.self.sessions c.apply-2.new.self.questions c.apply.new.self.held made moved
+    (subst (λ (s : State). s.last ≤ c.args.now) (sym c.self.view_is) c.requires.later) c.requires.bound c.requires.no_boot history (subst (λ (s : State). Stands s history) (sym c.self.view_is) stands)
 
 pub returns-clause-replayed : goal.returns-clause-replayed
 returns-clause-replayed g c = λ history session stands attached uncut.
@@ -76,22 +72,30 @@ pub returns-clause-asserts : goal.returns-clause-asserts
 returns-clause-asserts g c = λ history stands. are_earned in_force _ history (returns-clause-fits g c history stands).1.legal
 
 pub invariant_of-self-2 : goal.invariant_of-self-2
-invariant_of-self-2 g c = (
-  c.in_ok-plan.ensures.limit,
-  c.in_ok-plan.ensures.within,
-  c.in_ok-plan.ensures.live,
-  c.in_ok-plan.ensures.past,
-  subst HaveGaps (sym c.in_ok-plan.ensures.tracked) (gaps_kept (told_by c.in_ok-plan.plan.happened).call (told_by c.in_ok-plan.plan.happened).detached _ c.args.now c.args.word _ c.self.inside.asker.questions c.self.invariant.4),
-)
+invariant_of-self-2 g c =
+    let held : List Held = c.self.inside.records.held in
+    let later : List Held = held_after c.args.now c.args.word c.in_ok-plan.plan.heard held in
+    let questions : List Tracked = c.self.inside.asking.questions in
+    let moved : IsPermutation c.apply.new.self.held later =
+    subst (λ (hs : List Held). IsPermutation c.apply.new.self.held (held_after c.args.now c.args.word c.in_ok-plan.plan.heard hs)) c.reserve.ensures.held c.apply.ensures.held in (
+      subst (λ (n : ℕ). n ≤ 32768) (length_permutation c.apply.new.self.held later moved) c.in_ok-plan.ensures.within,
+      c.apply.ensures.live,
+      c.apply.ensures.heard (subst (AllHeard c.args.now) (sym c.reserve.ensures.held)
+          (heard-since c.self.inside.last c.args.now (subst (λ (s : State). s.last ≤ c.args.now) (sym c.self.view_is) c.requires.later) held c.self.invariant.2)),
+      timed-moved c.apply.new.self.held later moved c.apply-2.new.self.questions
+          (subst (AreTimed later) (sym (applied c.self.inside.sessions.opened c.self.inside.sessions.sessions held later questions c.args.now c.args.word c.args.event c.in_ok-plan.plan c.in_ok-plan.ensures
+          c.deref.result.now c.reserve-2.new.self.questions c.apply-2.new.self.questions c.deref.ensures.value c.reserve-2.ensures.questions c.self.invariant.3 c.apply-2.ensures))
+          (are_timed later (asked_of_plan c.self.inside.sessions.opened c.self.inside.sessions.sessions held later questions c.args.now c.args.word c.args.event c.in_ok-plan.plan c.in_ok-plan.ensures questions))),
+    )
 
 pub returns-clause-ticked : goal.returns-clause-ticked
 returns-clause-ticked g c = λ tick.
-    let told : Told = told_by c.in_ok-plan.plan.happened in
-    let ss : List Session = c.self.inside.sessions.sessions in
-    let state : State = kept c.args.now c.apply-outcome.new.self.opened c.apply-outcome.new.self.sessions c.in_ok-plan.plan.cache.held c.in_ok-plan.plan.asker.questions in
-    let outcome : Outcome = kept_outcome c.self.inside.sessions.opened ss c.args.event in
-    let reads : told ≡ told_of event.Tick outcome told.refusal = c.in_ok-plan.ensures.told ∙ ap (λ (ev : Event). told_of ev outcome told.refusal) tick in
-    let followed : Told → List Tracked = λ t. questions_told t.call t.detached ss c.args.now c.args.word
-    (chosen_for t c.self.inside.asker.questions c.in_ok-plan.plan.cache.held c.args.now) c.self.inside.asker.questions in
-    due-ticked state ss c.args.word outcome told.refusal c.self.inside.asker.questions c.in_ok-plan.ensures.live c.self.invariant.4
-    (c.in_ok-plan.ensures.tracked ∙ ap followed reads)
+    let held : List Held = c.self.inside.records.held in
+    let later : List Held = held_after c.args.now c.args.word c.in_ok-plan.plan.heard held in
+    let moved : IsPermutation c.apply.new.self.held later =
+    subst (λ (hs : List Held). IsPermutation c.apply.new.self.held (held_after c.args.now c.args.word c.in_ok-plan.plan.heard hs)) c.reserve.ensures.held c.apply.ensures.held in
+    ticked-plan c.self.inside.sessions.opened c.self.inside.sessions.sessions held later c.self.inside.asking.questions c.args.now c.args.word c.args.event c.in_ok-plan.plan c.in_ok-plan.ensures
+    c.apply-outcome.new.self.opened c.apply-outcome.new.self.sessions c.apply-2.new.self.questions c.apply.new.self.held
+    (applied c.self.inside.sessions.opened c.self.inside.sessions.sessions held later c.self.inside.asking.questions c.args.now c.args.word c.args.event c.in_ok-plan.plan c.in_ok-plan.ensures
+    c.deref.result.now c.reserve-2.new.self.questions c.apply-2.new.self.questions c.deref.ensures.value c.reserve-2.ensures.questions c.self.invariant.3 c.apply-2.ensures)
+    moved (after-live c.args.now c.args.word c.in_ok-plan.plan.heard held) tick

@@ -1,0 +1,2 @@
+pub mod AskedFor
+pub mod AskedAfter

@@ -1,5 +1,0 @@
-use Rattle.std.proofs.Common.{◌≡◌, take, map}
-use Rattle.mdns_core.proofs.queries.keys_in.Given as goal
-
-abbrev pub invariant-loop-one : goal.invariant-loop-one
-invariant-loop-one l = l.keys.items ≡ map (λ due. due.0) (take l.one-index l.asked)

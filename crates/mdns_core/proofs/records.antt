@@ -1,0 +1,6 @@
+pub mod Heard
+pub mod Hears
+pub mod HeardPackets
+pub mod QuietRecords
+pub mod HeldData
+pub mod Walked

@@ -1,0 +1,9 @@
+pub mod Stage
+pub mod Duties
+pub mod Hostless
+pub mod WithoutHost
+pub mod Standing
+pub mod Moved
+pub mod Stepped
+pub mod Carried
+pub mod Plans

@@ -1,0 +1,133 @@
+-- When a tick does nothing: where no live record has ended by then and no question is asked, if it settles no group and leaves the answers.
+use Rattle.std.proofs.Common.{◌≡◌, ℕ, ◌≤◌, Bool, true, false, not, ◌&&◌, List, [], ◌∷◌, ◌++◌, map, None, refl, ap, ◌∙◌, arith, append-nil}
+use Rattle.std.proofs.Math.Bool.{and-false}
+use Rattle.std.specs.Prelude.{filter, nat_lt}
+use Rattle.std.specs.List.{flat_map}
+use Rattle.dns_message.specs.Packing.{pack_query}
+use Rattle.sd_call.specs.Answers.{frames_len}
+use Rattle.mdns_history.specs.declared.event.Event.TheVariants as event
+use Rattle.mdns_history.specs.declared.mark.Mark.{Mark}
+use Rattle.mdns_history.specs.declared.mark.Mark.TheVariants as mark
+use Rattle.mdns_history.specs.declared.entry.Given.{Given}
+use Rattle.mdns_history.specs.declared.entry.Sent.{Sent}
+use Rattle.mdns_history.specs.declared.entry.Entry.{Entry}
+use Rattle.mdns_core.specs.InForce.{in_force}
+use Rattle.mdns_history.specs.declared.operation.Operation.{Operation}
+use Rattle.mdns_history.specs.Sessions.{is_cut, operations_of}
+use Rattle.mdns_history.specs.Asking.{tick_askings}
+use Rattle.mdns_history.specs.Sending.{sent_queries}
+use Rattle.mdns_history.specs.Items.{given_to, queue}
+use Rattle.mdns_history.specs.Outcomes.{early_outcome}
+use Rattle.mdns_history.specs.Fitting.{IsLegal}
+use Rattle.mdns_history.specs.Due.{is_nothing, settles_none, ends_none, is_idle}
+use Rattle.sd_sessions.specs.Changes.{passes}
+use Rattle.sd_sessions.proofs.NumberLists.{filter-same, flat_map-same}
+use Rattle.sd_sessions.proofs.EntryParts.{marked}
+use Rattle.mdns_core.proofs.step.Stage.{entry_after, entry_is, marks_are, sent-next}
+use Rattle.sd_sessions.specs.Answered.{items_by}
+use Rattle.sd_sessions.proofs.Brought.{change_items-marked}
+use Rattle.sd_sessions.specs.Laws.{answers_in}
+use Rattle.sd_sessions.proofs.Shape.{attached, brought_to, passes_now, marks-next, given-next}
+use Rattle.sd_sessions.proofs.Operations.{operations-rising}
+use Rattle.sd_sessions.proofs.Limits.{queue-within}
+use Rattle.sd_sessions.proofs.Idle.{items_by-same}
+
+filter-never : (ns : List ℕ) → filter (λ n. false) ns ≡ []
+filter-never [] = refl
+filter-never (n ∷ ns) = filter-never ns
+
+flat_map-never : (ns : List ℕ) → ◌≡◌ {A = List Given} (flat_map (λ n. []) ns) []
+flat_map-never [] = refl
+flat_map-never (n ∷ ns) = flat_map-never ns
+
+-- nothing is noted, sent or given, and two tests pass
+abbrev all_quiet : List Mark → List Sent → List Given → Bool → Bool → Bool
+all_quiet marks sent given b c = is_nothing marks && is_nothing sent && is_nothing given && b && c
+
+never_quiet : (marks : List Mark) (sent : List Sent) (given : List Given) (b : Bool) → all_quiet marks sent given b false ≡ false
+never_quiet marks sent given b = of (is_nothing marks) (is_nothing sent) (is_nothing given) b
+  where
+    of : (p q r s : Bool) → (p && q && r && s && false) ≡ false
+    of true true true true = refl
+    of true true true false = refl
+    of true true false s = refl
+    of true false r s = refl
+    of false q r s = refl
+
+-- where no question is asked no query is sent
+quiet_askings : (askings : List Mark) (past : List Entry) (moment : ℕ) → all_quiet askings (sent_queries askings past moment) [] true true ≡ is_nothing askings
+unfolding pack_query
+quiet_askings [] past moment = refl
+quiet_askings (m ∷ ms) past moment = refl
+
+module _ (past : List Entry) (moment word : ℕ) (legal : IsLegal in_force past) (settled : settles_none (entry_after past moment word event.Tick) past ≡ true)
+    (kept : ends_none past moment ≡ true → (o : Operation) → answers_in (entry_after past moment word event.Tick ∷ past) o ≡ answers_in past o) where
+  same_operations : (n : ℕ) → operations_of n (marked in_force past moment word event.Tick ∷ past) ≡ operations_of n past
+  unfolding operations_of early_outcome
+  same_operations n = refl
+
+  -- a tick that ends no record brings nothing
+  brought_none : ends_none past moment ≡ true → (n : ℕ) → brought_to in_force past moment word event.Tick n ≡ []
+  unfolding early_outcome
+  brought_none none n =
+      change_items-marked in_force past moment word event.Tick n
+      ∙ (λ i. items_by (answers_in past) (λ o. kept none o i) None (operations_of n past) (same_operations n i))
+      ∙ items_by-same (operations_of n past) (answers_in past) (operations-rising in_force past legal n)
+
+  -- so its marks are those of the questions that it asks
+  marks_asked : ends_none past moment ≡ true → (entry_after past moment word event.Tick).marks ≡ tick_askings past moment
+  marks_asked none =
+      marks-next in_force past moment word event.Tick
+      ∙ ap (λ ms. ms ++ map (λ n. mark.Cut n) (filter cutting (attached in_force past moment word event.Tick))) (marks_are past moment word event.Tick)
+      ∙ ap (λ ns. tick_askings past moment ++ map (λ n. mark.Cut n) ns)
+      (filter-same cutting (λ n. false) (attached in_force past moment word event.Tick) (λ n h. fits n) ∙ filter-never (attached in_force past moment word event.Tick))
+      ∙ append-nil (tick_askings past moment)
+    where
+      cutting : ℕ → Bool
+      cutting n = not (is_cut n past) && passes_now in_force past moment word event.Tick n
+
+      fits : (n : ℕ) → (not (is_cut n past) && passes_now in_force past moment word event.Tick n) ≡ false
+      fits n =
+          let few : frames_len (queue n past) ≤ 16777216 = queue-within in_force past legal n in
+          let within : nat_lt 16777216 (frames_len (queue n past)) ≡ false = grind arith in
+          ap (λ items. not (is_cut n past) && passes (queue n past) items) (brought_none none n)
+          ∙ ap (λ items. not (is_cut n past) && nat_lt 16777216 (frames_len items)) (append-nil (queue n past))
+          ∙ ap (λ b. not (is_cut n past) && b) within ∙ and-false (not (is_cut n past))
+
+  given_none : ends_none past moment ≡ true → (entry_after past moment word event.Tick).given ≡ []
+  given_none none =
+      let ns : List ℕ = filter (λ n. not (is_cut n past) && not (passes_now in_force past moment word event.Tick n)) (attached in_force past moment word event.Tick) in
+      given-next in_force past moment word event.Tick
+      ∙ flat_map-same (λ n. map (given_to n) (brought_to in_force past moment word event.Tick n)) (λ n. []) ns (λ n h. ap (map (given_to n)) (brought_none none n))
+      ∙ flat_map-never ns
+
+  at_moment : (entry_after past moment word event.Tick).moment ≡ moment
+  at_moment = ap (λ e. e.moment) (entry_is past moment word event.Tick)
+
+  quiet_where : (b : Bool) → ends_none past moment ≡ b →
+      all_quiet (entry_after past moment word event.Tick).marks (entry_after past moment word event.Tick).sent (entry_after past moment word event.Tick).given
+      (settles_none (entry_after past moment word event.Tick) past) (ends_none past (entry_after past moment word event.Tick).moment)
+      ≡ (b && is_nothing (tick_askings past moment))
+  quiet_where true none =
+      let e : Entry = entry_after past moment word event.Tick in
+      let asked : List Mark = tick_askings past moment in
+      let queries : List Sent = sent_queries asked past moment in
+      ap (λ ms. all_quiet ms e.sent e.given (settles_none e past) (ends_none past e.moment)) (marks_asked none)
+      ∙ ap (λ ss. all_quiet asked ss e.given (settles_none e past) (ends_none past e.moment)) (sent-next past moment word event.Tick)
+      ∙ ap (λ gs. all_quiet asked queries gs (settles_none e past) (ends_none past e.moment)) (given_none none)
+      ∙ ap (λ b. all_quiet asked queries [] b (ends_none past e.moment)) settled
+      ∙ ap (λ k. all_quiet asked queries [] true (ends_none past k)) at_moment
+      ∙ ap (all_quiet asked queries [] true) none
+      ∙ quiet_askings asked past moment
+  quiet_where false some =
+      let e : Entry = entry_after past moment word event.Tick in
+      ap (λ k. all_quiet e.marks e.sent e.given (settles_none e past) (ends_none past k)) at_moment
+      ∙ ap (all_quiet e.marks e.sent e.given (settles_none e past)) some
+      ∙ never_quiet e.marks e.sent e.given (settles_none e past)
+
+-- A tick that settles no group is idle where it ends no record and asks no question, where answers stay in an entry that ends no record.
+pub is_idle-tick : (past : List Entry) (moment : ℕ) → IsLegal in_force past → settles_none (entry_after past moment 0 event.Tick) past ≡ true
+    → (ends_none past moment ≡ true → (o : Operation) → answers_in (entry_after past moment 0 event.Tick ∷ past) o ≡ answers_in past o)
+    → is_idle in_force past moment ≡ (ends_none past moment && is_nothing (tick_askings past moment))
+unfolding is_idle
+is_idle-tick past moment legal settled kept = quiet_where past moment 0 legal settled kept (ends_none past moment) refl
