@@ -4,3 +4,15 @@ pub mod Hearing
 pub mod Counting
 pub mod Ending
 pub mod Names
+pub mod Paths
+pub mod Mending
+pub mod Played
+pub mod Root
+pub mod Visiting
+pub mod Once
+pub mod Turns
+pub mod EndsFirst
+pub mod AfterHearings
+pub mod Kept
+pub mod Below
+pub mod NewOnes

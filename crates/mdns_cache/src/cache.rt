@@ -1,48 +1,63 @@
-// The cache: the heard records that are live.
-ghost use Rattle.std.specs.Prelude.{◌≡◌, ◌↔◌, ℕ, ◌+◌, ◌-◌, ◌<◌, ◌≤◌, ◌^◌, List, [], ◌∷◌, ◌++◌, map, length, slice_get, IsTrue, IsOk, IfOk, OnOk, OnErr, IfErr, IfNone, IfSome, MatchOption};
+// The cache: the heard records that are live, by name.
+ghost use Rattle.std.specs.Prelude.{◌≡◌, ◌↔◌, ℕ, ◌+◌, ◌-◌, ◌<◌, ◌≤◌, ◌^◌, List, [], ◌∷◌, ◌++◌, map, filter, length, slice_get, IsTrue, IsOk, IfOk, OnOk, OnErr, IfErr, IfNone, IfSome, Err};
 ghost use Rattle.std.specs.Option.{option_copied};
 ghost use Rattle.std.specs.List.Sorted.{IsPermutation};
-ghost use Rattle.mdns_history.specs.Hearings.{Hearing};
-ghost use Rattle.mdns_history.specs.Lifetimes.{live_of};
+ghost use Rattle.mdns_cache.specs.Ends.{IsPlayed};
 ghost use Rattle.mdns_cache.specs.Ended.{HasEnded, AreOfEnded};
+ghost use Rattle.mdns_history.specs.Hearings.{Hearing};
+ghost use Rattle.mdns_history.specs.Lifetimes.{is_live_at, live_of};
 ghost use Rattle.mdns_cache.specs.Lifetimes.{hearing_at, hearings_at, after_hearings, Holds, Stands, AllLive, AllHeard, IsFirstEnded, held_of, next_end_of};
 
 use crate::count::is_room;
 use crate::ended::ended_names;
-use crate::hear::hear_all;
-use crate::look::{first_ended, held_at, least_end};
-use crate::{HearError, Steps};
+use crate::ends::played;
+use crate::expiry::{expire_from, least_end};
+use crate::heard::hear_all;
+use crate::look::held_at;
+use by_name::ByName;
 use dns_message::Rrs;
 use dns_name::Name;
 use dns_record::Rr;
+use crate::error::HearError;
+use crate::steps::Steps;
 use mdns_history::Held;
 use std::alloc::{AllocError, Global};
 use std::marker::Model;
 use std::sync::ledger::Ledger;
 
-/// How many records more than are held a copy has room for: mostly all of the packet that comes next.
-const MORE: usize = 32;
+// More than fit into memory.
+const MOST: usize = 1 << 40;
 
 /// The records that were heard and are live, with room for a limited number. A moment is in ms. (RFC 6762 10)
 #[derive(Drop)]
 pub struct Cache {
     alloc: Global,
     limit: usize,
-    held: Vec<Held>,
+    records: ByName<Held>,
+    // Which record ends first: a tournament over the records' indexes.
+    nodes: Vec<usize>,
 }
 
 impl Model for Cache {
-    ghost use Rattle.std.specs.Prelude.{◌-◌, vec_len, vec_capacity};
+    ghost use Rattle.std.specs.Prelude.{◌+◌, ◌<◌, ◌≤◌, ◌^◌, [], length};
+    ghost use Rattle.std.specs.Map.{values_of};
+    ghost use Rattle.by_name.specs.Filed.{in_layers};
     ghost use Rattle.mdns_cache.specs.Contents.{Contents};
+    ghost use Rattle.mdns_cache.specs.Ends.{IsPlayed};
+    ghost use Rattle.mdns_cache.specs.Named.{AreFiled, AreOnce};
 
     ghost Value = { Contents };
 
-    ghost view = { λ c. record { held = c.held.items; limit = c.limit; spare = vec_capacity c.held - vec_len c.held } };
+    ghost view = { λ c. record { held = in_layers c.records.entries; limit = c.limit; spare = c.records.spare } };
+
+    ghost invariant = { λ c. AreFiled c.records.entries × AreOnce (values_of c.records.entries) × IsPlayed (values_of c.records.entries) [] c.nodes.items
+        × (length c.records.entries + c.records.spare ≤ length c.nodes.items) × (length c.nodes.items < 2 ^ 60) };
 }
 
 impl Cache {
     /// A cache that holds nothing, in which at most `limit` records may be live. It takes no memory, and is never refused.
-    pub fn new(alloc: Global, limit: usize) -> Result<Cache, AllocError>
+    /// Names can't be chosen to collide by who doesn't know the key.
+    pub fn new(alloc: Global, limit: usize, key: u64) -> Result<Cache, AllocError>
         ensures held { IfOk result (λ cache. cache.held ≡ []) }
         ensures limit { IfOk result (λ cache. cache.limit ≡ limit) }
         ensures made { IsOk result }
@@ -51,22 +66,8 @@ impl Cache {
         Ok(Cache {
             alloc,
             limit,
-            held: Vec::new(alloc),
-        })
-    }
-
-    /// An equal cache, but for its room. Refused only for want of memory.
-    pub fn copy(&self, alloc: Global) -> Result<Cache, AllocError>
-        ensures held { IfOk result (λ copy. copy.held ≡ self.now.held) }
-        ensures limit { IfOk result (λ copy. copy.limit ≡ self.now.limit) }
-        // Where the records held were exactly the live ones, the copy stands for their hearings at each later moment.
-        ensures stands { IfOk result (λ copy. (heard : List Hearing) (before moment : ℕ) → before ≤ moment → Holds self.now.held heard before
-            → Stands copy.held heard moment) }
-    {
-        Ok(Cache {
-            alloc,
-            limit: self.limit,
-            held: copied(alloc, &self.held)?,
+            records: ByName::new(alloc, key),
+            nodes: Vec::new(alloc),
         })
     }
 
@@ -79,29 +80,20 @@ impl Cache {
         ensures enough { more ≤ self.old.spare → IsOk result }
         ensures err { OnErr result (self.new ≡ self.old) }
     {
-        self.held.reserve(more)?;
-        Ok(())
-    }
-
-    /// The held records, in no promised order.
-    pub fn held(&self) -> &[Held]
-        ensures { result.now ≡ self.now.held }
-    {
-        self.held.as_slice()
-    }
-
-    /// How many records are held.
-    pub fn len(&self) -> usize
-        ensures { result ≡ length self.now.held }
-    {
-        self.held.len()
-    }
-
-    /// Whether no record is held.
-    pub fn is_empty(&self) -> bool
-        ensures { IsTrue result ↔ (self.now.held ≡ []) }
-    {
-        self.held.is_empty()
+        if more <= self.records.spare() {
+            return Ok(());
+        }
+        let len = self.records.len();
+        if more > MOST || len > MOST {
+            return Err(AllocError);
+        }
+        grow(
+            self.alloc,
+            self.records.values(),
+            &mut self.nodes,
+            len + more,
+        )?;
+        self.records.reserve(more)
     }
 
     /// Whether as many records may be live as would be after `hear` of these at `now`.
@@ -111,8 +103,11 @@ impl Cache {
         // The same, told of what is then held.
         ensures held { (word : ℕ) → AllLive now self.now.held
             → IsTrue result ↔ (length (after_hearings self.now.held (map (hearing_at now word) heard.now)) ≤ self.now.limit) }
+        // And where some of what is held has ended.
+        ensures ended { (word : ℕ) → IsTrue result
+            ↔ (length (after_hearings (filter (is_live_at now) self.now.held) (map (hearing_at now word) heard.now)) ≤ self.now.limit) }
     {
-        is_room(&self.held, self.limit, now, heard)
+        is_room(&self.records, self.next_end(), self.limit, now, heard)
     }
 
     /// Hears the records of a packet, in their order, at `now` with the packet's random word. `Full` where more records
@@ -128,6 +123,9 @@ impl Cache {
         ensures live { OnOk result (AllLive now self.new.held) }
         ensures heard { OnOk result (AllHeard now self.old.held → AllHeard now self.new.held) }
         ensures within { OnOk result (length self.new.held ≤ self.new.limit) }
+        // The same, told of what is held.
+        ensures held { OnOk result (IsPermutation self.new.held (after_hearings self.old.held (map (hearing_at now word) heard))) }
+        ensures over { (result ≡ Err HearError.Full) ↔ (self.old.limit < length (after_hearings self.old.held (map (hearing_at now word) heard))) }
 
         ensures full { (past : List Hearing) → Holds self.old.held past now
             → (result ≡ Err HearError.Full) ↔ (self.old.limit < length (live_of (hearings_at now word heard ++ past) now)) }
@@ -141,9 +139,50 @@ impl Cache {
             return Err(HearError::Full);
         }
         let records = heard.into_vec();
-        self.held.reserve(records.len())?;
-        hear_all(&mut self.held, now, word, records);
+        self.reserve(records.len())?;
+        hear_all(&mut self.records, &mut self.nodes, now, word, records);
         Ok(())
+    }
+
+    /// How many records are held.
+    pub fn len(&self) -> usize
+        ensures { result ≡ length self.now.held }
+    {
+        self.records.len()
+    }
+
+    /// Whether no record is held.
+    pub fn is_empty(&self) -> bool
+        ensures { IsTrue result ↔ (self.now.held ≡ []) }
+    {
+        self.records.is_empty()
+    }
+
+    /// The held record at a place, counted from 0, among those of a name, case aside; `None` exactly past the last.
+    pub fn visit<L: Ledger>(&self, name: &Name, place: usize, steps: &mut Steps<L>) -> Option<&Held>
+        ensures visited { option_copied result ≡ slice_get (held_of name.now self.now.held) place }
+        ensures steps { steps.new ≡ steps.old + 1 }
+    {
+        steps.tick();
+        held_at(&self.records, name, place)
+    }
+
+    /// The owners of all held records that have ended at `now`, in no promised order. Nothing is changed. Refused only for
+    /// want of memory.
+    pub fn ended(&self, now: u64) -> Result<Vec<Name>, AllocError>
+        ensures all { IfOk result (λ names. HasEnded self.now.held now names.items) }
+        ensures only { IfOk result (λ names. AreOfEnded self.now.held now names.items) }
+    {
+        ended_names(self.alloc, &self.records, &self.nodes, now)
+    }
+
+    /// The least end of the held records; `None` exactly where nothing is held.
+    pub fn next_end(&self) -> Option<u64>
+        ensures least { result ≡ next_end_of self.now.held }
+        ensures live { (heard : List Hearing) (moment : ℕ) → Holds self.now.held heard moment
+            → result ≡ next_end_of (live_of heard moment) }
+    {
+        least_end(&self.records, &self.nodes)
     }
 
     /// Takes out the first record that has ended at `now`, by end and then by record, `None` exactly where none has ended.
@@ -165,44 +204,37 @@ impl Cache {
         ensures steps { steps.new ≡ steps.old + 1 }
     {
         steps.tick();
-        let place = first_ended(&self.held, now)?;
-        Some(self.held.remove(place))
-    }
-
-    /// The held record at a place, counted from 0, among those of a name, case aside; `None` exactly past the last.
-    pub fn visit<L: Ledger>(&self, name: &Name, place: usize, steps: &mut Steps<L>) -> Option<&Held>
-        ensures visited { option_copied result ≡ slice_get (held_of name.now self.now.held) place }
-        ensures steps { steps.new ≡ steps.old + 1 }
-    {
-        steps.tick();
-        held_at(&self.held, name, place)
-    }
-
-    /// The owners of all held records that have ended at `now`, in no promised order. Nothing is changed. Refused only for
-    /// want of memory.
-    pub fn ended(&self, now: u64) -> Result<Vec<Name>, AllocError>
-        ensures all { IfOk result (λ names. HasEnded self.now.held now names.items) }
-        ensures only { IfOk result (λ names. AreOfEnded self.now.held now names.items) }
-    {
-        ended_names(self.alloc, &self.held, now)
-    }
-
-    /// The least end of the held records; `None` exactly where nothing is held.
-    pub fn next_end(&self) -> Option<u64>
-        ensures least { result ≡ next_end_of self.now.held }
-        ensures live { (heard : List Hearing) (moment : ℕ) → Holds self.now.held heard moment
-            → result ≡ next_end_of (live_of heard moment) }
-    {
-        least_end(&self.held)
+        expire_from(&mut self.records, &mut self.nodes, now)
     }
 }
 
-fn copied(alloc: Global, held: &[Held]) -> Result<Vec<Held>, AllocError>
-    ensures { IfOk result (λ copy. copy.items ≡ held.now) }
+// Makes a tournament of at least so many places, and no smaller than it was. Refused only for want of memory.
+fn grow(alloc: Global, held: &[Held], nodes: &mut Vec<usize>, room: usize) -> Result<(), AllocError>
+    requires played { IsPlayed held.now [] nodes.old.items }
+    requires size { length nodes.old.items < 2 ^ 60 }
+    requires room { room < 2 ^ 60 }
+    ensures played { IsPlayed held.now [] nodes.new.items }
+    ensures size { length nodes.new.items < 2 ^ 60 }
+    ensures kept { length nodes.old.items ≤ length nodes.new.items }
+    ensures room { OnOk result (room ≤ length nodes.new.items) }
 {
-    let mut copy = Vec::with_capacity(alloc, held.len().saturating_add(MORE))?;
-    for one in held {
-        copy.push(one.copy()?)?;
+    if room <= nodes.len() {
+        return Ok(());
     }
-    Ok(copy)
+    let size = larger(room, nodes.len());
+    *nodes = played(alloc, held, size)?;
+    Ok(())
+}
+
+// A size of at least so many, and twice as many as before where that may be.
+fn larger(room: usize, before: usize) -> usize
+    requires { room < 2 ^ 60 }
+    ensures least { room ≤ result }
+    ensures bound { result < 2 ^ 60 }
+{
+    if before < 1 << 58 {
+        room.max(2 * before)
+    } else {
+        room
+    }
 }

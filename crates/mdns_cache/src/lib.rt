@@ -1,13 +1,16 @@
-//! The records that were heard and are live, each until its end. (RFC 6762 10)
+//! The records that were heard and are live, each until its end, by the names of their owners. (RFC 6762 10)
 #![tactic(auto)]
 
 mod cache;
 mod count;
 mod ended;
+mod ends;
 mod error;
-mod hear;
+mod expiry;
+mod heard;
 mod law;
 mod look;
+mod removal;
 mod steps;
 #[cfg(test)]
 mod tests;

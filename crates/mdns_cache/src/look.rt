@@ -1,64 +1,46 @@
-// Looking among the records that are held.
-ghost use Rattle.std.specs.Prelude.{◌≡◌, ◌<◌, ◌≤◌, length, slice_get, MatchOption, HoldsAt};
-ghost use Rattle.std.specs.Option.{option_copied, ForSome};
-ghost use Rattle.mdns_cache.specs.Lifetimes.{AllLive, IsFirstEnded, comes_first, ending_cmp, held_of, next_end_of};
+// Looking among the records that are filed by name.
+ghost use Rattle.std.specs.Prelude.{◌≡◌, ◌≤◌, ℕ, suc, slice_get, true, false, Some, None, IsSome, IfOk, IfErr};
+ghost use Rattle.std.specs.Option.{option_copied};
+ghost use Rattle.std.specs.List.{AllByRecursion};
+ghost use Rattle.std.specs.Map.{values_of};
+ghost use Rattle.dns_record.specs.Records.{same};
+ghost use Rattle.by_name.specs.At.{at, owner_of};
+ghost use Rattle.by_name.specs.Filed.{found, in_layers};
+ghost use Rattle.mdns_cache.specs.Lifetimes.{held_of};
+ghost use Rattle.mdns_cache.specs.Named.{AreFiled};
 
+use by_name::{ByName, Place};
 use dns_name::Name;
-use dns_record::record_cmp;
+use dns_record::Rr;
 use mdns_history::Held;
-use std::cmp::Ordering;
-
-/// The place of the first record that has ended at `now`, in ms: by end, then by record.
-pub fn first_ended(held: &[Held], now: u64) -> Option<usize>
-    ensures { MatchOption result (AllLive now held.now)
-        (λ place. (place < length held.now) × HoldsAt (IsFirstEnded now held.now) held.now place) }
-{
-    let mut first = None;
-    for (place, one) in held.iter().enumerate() {
-        if comes_first(held, now, one, first) {
-            first = Some(place);
-        }
-    }
-    first
-}
-
-// Whether a record has ended, and comes before the one at a place, if there is a place.
-fn comes_first(held: &[Held], now: u64, one: &Held, first: Option<usize>) -> bool
-    requires { ForSome first (λ place. place < length held.now) }
-    ensures { result ≡ comes_first now held.now one.now first }
-{
-    match first {
-        Some(place) => one.end <= now && ending_cmp(one, &held[place]).is_lt(),
-        None => one.end <= now,
-    }
-}
-
-fn ending_cmp(left: &Held, right: &Held) -> Ordering
-    ensures { result ≡ ending_cmp left.now right.now }
-{
-    match left.end.cmp(&right.end) {
-        Ordering::Equal => record_cmp(&left.rr, &right.rr),
-        unequal => unequal,
-    }
-}
 
 /// The held record of a name at a place among those of that name, counted from 0.
-pub fn held_at<'a>(held: &'a [Held], name: &Name, place: usize) -> Option<&'a Held>
-    ensures { option_copied result ≡ slice_get (held_of name.now held.now) place }
+#[tactic(auto, using(crate::proofs::Visiting::visited_of))]
+pub fn held_at<'a>(records: &'a ByName<Held>, name: &Name, place: usize) -> Option<&'a Held>
+    requires { AreFiled records.now.entries }
+    ensures { option_copied result ≡ slice_get (held_of name.now (in_layers records.now.entries)) place }
 {
-    held.iter()
-        .filter(|one| one.rr.owner.folded_eq(name))
-        .nth(place)
+    records.get(&Place::new(name, place))
 }
 
-/// The least end, in ms.
-pub fn least_end(held: &[Held]) -> Option<u64>
-    ensures { result ≡ next_end_of held.now }
+/// The index of a record that is the same as this one, or the place behind the last of its name.
+pub fn same_of(records: &ByName<Held>, rr: &Rr) -> Result<usize, Place>
+    requires { AreFiled records.now.entries }
+    ensures found { IfOk result (λ index. (one : Held) × (slice_get (values_of records.now.entries) index ≡ Some one) × (same one.rr rr.now ≡ true)) }
+    ensures none { IfErr result (λ _. AllByRecursion (λ (one : Held). same one.rr rr.now ≡ false) (values_of records.now.entries)) }
+    ensures owner { IfErr result (λ place. place.owner ≡ owner_of rr.now.owner) }
+    ensures absent { IfErr result (λ place. found place.owner place.number records.now.entries ≡ None) }
+    ensures next { IfErr result (λ place. (number : ℕ) → suc number ≡ place.number → IsSome (found place.owner number records.now.entries)) }
 {
-    let (first, rest) = held.split_first()?;
-    let mut least = first.end;
-    for one in rest {
-        least = least.min(one.end);
+    let _len = records.len();
+    let mut number = 0;
+    let mut place = Place::new(&rr.owner, 0);
+    while let Some(index) = records.index_of(&place) {
+        if records.values()[index].rr.same(rr) {
+            return Ok(index);
+        }
+        number += 1;
+        place.go(number);
     }
-    Some(least)
+    Err(place)
 }

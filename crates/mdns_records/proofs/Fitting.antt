@@ -8,7 +8,7 @@ use Rattle.mdns_history.specs.Lifetimes.{is_live_at}
 use Rattle.mdns_cache.specs.declared.error.HearError.{HearError}
 use Rattle.mdns_cache.specs.declared.error.HearError.TheVariants.{Full, NoMemory}
 use Rattle.mdns_cache.specs.Lifetimes.{hearing_at, after_hearings}
-use Rattle.cache_by_name.proofs.AfterHearings.{after_hearings-permuted}
+use Rattle.mdns_cache.proofs.AfterHearings.{after_hearings-permuted}
 use Rattle.mdns_records.specs.After.{held_after}
 
 -- what is said of Ok, where nothing is refused

@@ -10,7 +10,7 @@ use Rattle.mdns_history.specs.Lifetimes.{is_live_at, is_other}
 use Rattle.mdns_cache.specs.Lifetimes.{Holds, AllLive, AllHeard, hearing_at, hearings_at, renewed, shortened, after_hearing, after_hearings}
 use Rattle.mdns_cache.proofs.Hearing.{Stands-from_held, AllLive-filter_live, AllLive-after_hearings, AllHeard-after_hearings, Holds-after_hearings}
 use Rattle.mdns_cache.proofs.ListLemmas.{each-append, each-filter, each-map}
-use Rattle.cache_by_name.proofs.AfterHearings.{after_hearings-permuted}
+use Rattle.mdns_cache.proofs.AfterHearings.{after_hearings-permuted}
 use Rattle.mdns_records.specs.After.{held_after}
 
 module _ (moment word : ℕ) (heard : List Rr) where

@@ -1,7 +1,7 @@
 use Rattle.std.proofs.Common.{◌≤◌, IsPermutation}
 use Rattle.std.proofs.lemmas.List.Sorted.{IsPermutation-sym, IsPermutation-trans}
 use Rattle.mdns_history.specs.declared.held.Held.{Held}
-use Rattle.cache_by_name.proofs.EndsFirst.{each-permuted}
+use Rattle.mdns_cache.proofs.EndsFirst.{each-permuted}
 use Rattle.mdns_records.specs.After.{held_after}
 use Rattle.mdns_records.proofs.Fitting.{moved, is_heard}
 use Rattle.mdns_records.proofs.Holding.{after-holds, after-heard}

@@ -6,5 +6,5 @@ use Rattle.mdns_cache.proofs.cache.Cache.next_end.Goals as goal
 
 pub returns-clause-live : goal.returns-clause-live
 returns-clause-live c = λ heard moment holds.
-    c.least_end.ensures ∙ ap next_end_of c.deref.ensures.value ∙ ap (λ v. next_end_of v.held) c.self.view_is
+    c.least_end.ensures ∙ ap (λ v. next_end_of v.held) c.self.view_is
     ∙ next_end_of-permutation c.args.self.now.held (live_of heard moment) holds

@@ -1,4 +1,0 @@
-pub mod Ends
-pub mod Named
-pub mod Ended
-pub mod Counted

@@ -1,0 +1,227 @@
+// What hearings do to the records that are filed by name.
+ghost use Rattle.std.specs.Prelude.{◌≡◌, ℕ, suc, ◌+◌, ◌<◌, ◌≤◌, ◌^◌, [], ◌∷◌, ◌++◌, List, length, map, filter, min, slice_get, true, Some, None, IsSome};
+ghost use Rattle.std.specs.List.Sorted.{IsPermutation};
+ghost use Rattle.std.specs.Map.{keys_of, values_of};
+ghost use Rattle.indexmap.specs.Layout.{set_value_at};
+ghost use Rattle.mdns_history.specs.Lifetimes.{cuts, is_other};
+ghost use Rattle.dns_record.specs.Records.{same};
+ghost use Rattle.by_name.specs.At.{at, owner_of};
+ghost use Rattle.by_name.specs.Filed.{found};
+ghost use Rattle.mdns_cache.specs.Lifetimes.{hearing_at, shortened, renewed, after_hearing, after_hearings};
+ghost use Rattle.mdns_cache.specs.Ends.{IsPlayed};
+ghost use Rattle.mdns_cache.specs.Named.{AreFiled, AreOnce};
+
+use crate::ends::mend;
+use crate::look::same_of;
+use by_name::{ByName, Place};
+use dns_record::Rr;
+use mdns_history::Held;
+use std::mem::replace;
+
+/// Hears records one after another, where there is room for as many.
+pub fn hear_all(
+    records: &mut ByName<Held>,
+    nodes: &mut [usize],
+    now: u64,
+    word: u32,
+    mut heard: Vec<Rr>,
+)
+    requires bound { now ≤ 2 ^ 53 }
+    requires filed { AreFiled records.old.entries }
+    requires once { AreOnce (values_of records.old.entries) }
+    requires played { IsPlayed (values_of records.old.entries) [] nodes.old }
+    requires room { length records.old.entries + records.old.spare ≤ length nodes.old }
+    requires size { length nodes.old < 2 ^ 60 }
+    requires spare { length heard.items ≤ records.old.spare }
+    ensures held { IsPermutation (after_hearings (values_of records.old.entries) (map (hearing_at now word) heard.items)) (values_of records.new.entries) }
+    ensures filed { AreFiled records.new.entries }
+    ensures once { AreOnce (values_of records.new.entries) }
+    ensures played { IsPlayed (values_of records.new.entries) [] nodes.new }
+    ensures room { length records.new.entries + records.new.spare ≡ length records.old.entries + records.old.spare }
+    ensures spare { records.old.spare ≤ records.new.spare + length heard.items }
+{
+    heard.reverse();
+    while let Some(rr) = heard.pop() {
+        hear_one(records, nodes, now, word, rr);
+    }
+}
+
+// Hears one record: lives of its name are cut, what it is the same as gives way to it, and it is held itself.
+fn hear_one(records: &mut ByName<Held>, nodes: &mut [usize], now: u64, word: u32, rr: Rr)
+    requires bound { now ≤ 2 ^ 53 }
+    requires filed { AreFiled records.old.entries }
+    requires once { AreOnce (values_of records.old.entries) }
+    requires played { IsPlayed (values_of records.old.entries) [] nodes.old }
+    requires room { length records.old.entries + records.old.spare ≤ length nodes.old }
+    requires size { length nodes.old < 2 ^ 60 }
+    requires spare { 0 < records.old.spare }
+    ensures held { IsPermutation (after_hearing (values_of records.old.entries) (hearing_at now word rr)) (values_of records.new.entries) }
+    ensures filed { AreFiled records.new.entries }
+    ensures played { IsPlayed (values_of records.new.entries) [] nodes.new }
+    ensures room { length records.new.entries + records.new.spare ≡ length records.old.entries + records.old.spare }
+    ensures spare { records.old.spare ≤ records.new.spare + 1 }
+{
+    shorten(records, nodes, now, &rr);
+    if rr.ttl > 0 {
+        renew(records, nodes, renewed(now, word, rr));
+    }
+}
+
+// Cuts the lives of records to a second where a hearing does so: a goodbye or a flush alone does.
+fn shorten(records: &mut ByName<Held>, nodes: &mut [usize], now: u64, rr: &Rr)
+    requires bound { now ≤ 2 ^ 53 }
+    requires filed { AreFiled records.old.entries }
+    requires played { IsPlayed (values_of records.old.entries) [] nodes.old }
+    requires room { length records.old.entries ≤ length nodes.old }
+    requires size { length nodes.old < 2 ^ 60 }
+    ensures values { values_of records.new.entries ≡ map (shortened (hearing_at now 0 rr.now)) (values_of records.old.entries) }
+    ensures filed { AreFiled records.new.entries }
+    ensures played { IsPlayed (values_of records.new.entries) [] nodes.new }
+    ensures len { length records.new.entries ≡ length records.old.entries }
+    ensures spare { records.new.spare ≡ records.old.spare }
+{
+    if rr.ttl == 0 || rr.flush {
+        shorten_all(records, nodes, now, rr);
+    }
+}
+
+// The same, going over all records of the name.
+fn shorten_all(records: &mut ByName<Held>, nodes: &mut [usize], now: u64, rr: &Rr)
+    requires bound { now ≤ 2 ^ 53 }
+    requires filed { AreFiled records.old.entries }
+    requires played { IsPlayed (values_of records.old.entries) [] nodes.old }
+    requires room { length records.old.entries ≤ length nodes.old }
+    requires size { length nodes.old < 2 ^ 60 }
+    ensures values { values_of records.new.entries ≡ map (shortened (hearing_at now 0 rr.now)) (values_of records.old.entries) }
+    ensures filed { AreFiled records.new.entries }
+    ensures played { IsPlayed (values_of records.new.entries) [] nodes.new }
+    ensures len { length records.new.entries ≡ length records.old.entries }
+    ensures spare { records.new.spare ≡ records.old.spare }
+{
+    let mut number = 0;
+    let mut place = Place::new(&rr.owner, 0);
+    while let Some(index) = records.index_of(&place) {
+        shorten_at(records, nodes, index, now, rr);
+        number += 1;
+        place.go(number);
+    }
+}
+
+// Cuts the life of the record at an index to a second where a hearing does so.
+fn shorten_at(records: &mut ByName<Held>, nodes: &mut [usize], index: usize, now: u64, rr: &Rr)
+    requires bound { now ≤ 2 ^ 53 }
+    requires index { index < length records.old.entries }
+    requires played { IsPlayed (values_of records.old.entries) [] nodes.old }
+    requires room { length records.old.entries ≤ length nodes.old }
+    requires size { length nodes.old < 2 ^ 60 }
+    ensures entries { (one : Held) → slice_get (values_of records.old.entries) index ≡ Some one
+        → records.new.entries ≡ set_value_at records.old.entries index (shortened (hearing_at now 0 rr.now) one) }
+    ensures played { IsPlayed (values_of records.new.entries) [] nodes.new }
+    ensures spare { records.new.spare ≡ records.old.spare }
+{
+    if is_cut(&records.values()[index], now, rr) {
+        cut_at(records, nodes, index, now);
+    }
+}
+
+// Whether a hearing cuts the life of a record: a goodbye, or a flush more than a second after it was heard.
+fn is_cut(one: &Held, now: u64, rr: &Rr) -> bool
+    ensures { result ≡ cuts one.now.rr one.now.heard (hearing_at now 0 rr.now) }
+{
+    if rr.ttl == 0 && one.rr.same(rr) {
+        return true;
+    }
+    rr.flush
+        && one.rr.owner.folded_eq(&rr.owner)
+        && one.rr.rdata.kind() == rr.rdata.kind()
+        && one.heard < now.saturating_sub(1000)
+}
+
+// Cuts the life of the record at an index to a second.
+fn cut_at(records: &mut ByName<Held>, nodes: &mut [usize], index: usize, now: u64)
+    requires bound { now ≤ 2 ^ 53 }
+    requires index { index < length records.old.entries }
+    requires played { IsPlayed (values_of records.old.entries) [] nodes.old }
+    requires room { length records.old.entries ≤ length nodes.old }
+    requires size { length nodes.old < 2 ^ 60 }
+    ensures entries { (one : Held) → slice_get (values_of records.old.entries) index ≡ Some one
+        → records.new.entries ≡ set_value_at records.old.entries index (record one { end = min (now + 1000) one.end }) }
+    ensures played { IsPlayed (values_of records.new.entries) [] nodes.new }
+    ensures spare { records.new.spare ≡ records.old.spare }
+{
+    let one = records.at_mut(index);
+    one.end = (now + 1000).min(one.end);
+    mend(nodes, records.values(), index);
+}
+
+fn renewed(now: u64, word: u32, rr: Rr) -> Held
+    requires { now ≤ 2 ^ 53 }
+    ensures { result ≡ renewed (hearing_at now word rr) }
+{
+    let end = now + 1000 * u64::from(rr.ttl);
+    Held {
+        rr,
+        heard: now,
+        word,
+        end,
+    }
+}
+
+// Puts a record in place of the one that is the same, or behind the others of its name.
+fn renew(records: &mut ByName<Held>, nodes: &mut [usize], one: Held)
+    requires filed { AreFiled records.old.entries }
+    requires once { AreOnce (values_of records.old.entries) }
+    requires played { IsPlayed (values_of records.old.entries) [] nodes.old }
+    requires room { length records.old.entries < length nodes.old }
+    requires size { length nodes.old < 2 ^ 60 }
+    requires spare { 0 < records.old.spare }
+    ensures held { IsPermutation (filter (is_other one.rr) (values_of records.old.entries) ++ one ∷ []) (values_of records.new.entries) }
+    ensures filed { AreFiled records.new.entries }
+    ensures played { IsPlayed (values_of records.new.entries) [] nodes.new }
+    ensures room { length records.new.entries + records.new.spare ≡ length records.old.entries + records.old.spare }
+    ensures spare { records.old.spare ≤ records.new.spare + 1 }
+{
+    match same_of(records, &one.rr) {
+        Ok(index) => put_at(records, nodes, index, one),
+        Err(place) => push(records, nodes, place, one),
+    }
+}
+
+// Puts a record in place of the one at an index that is the same.
+fn put_at(records: &mut ByName<Held>, nodes: &mut [usize], index: usize, one: Held)
+    requires filed { AreFiled records.old.entries }
+    requires once { AreOnce (values_of records.old.entries) }
+    requires same { (old : Held) × (slice_get (values_of records.old.entries) index ≡ Some old) × (same old.rr one.rr ≡ true) }
+    requires played { IsPlayed (values_of records.old.entries) [] nodes.old }
+    requires room { length records.old.entries < length nodes.old }
+    requires size { length nodes.old < 2 ^ 60 }
+    ensures held { IsPermutation (filter (is_other one.rr) (values_of records.old.entries) ++ one ∷ []) (values_of records.new.entries) }
+    ensures filed { AreFiled records.new.entries }
+    ensures played { IsPlayed (values_of records.new.entries) [] nodes.new }
+    ensures len { length records.new.entries ≡ length records.old.entries }
+    ensures spare { records.new.spare ≡ records.old.spare }
+{
+    let _old = replace(records.at_mut(index), one);
+    let held = records.values();
+    mend(nodes, held, index);
+}
+
+// Puts a record behind the others of its name.
+fn push(records: &mut ByName<Held>, nodes: &mut [usize], place: Place, one: Held)
+    requires filed { AreFiled records.old.entries }
+    requires owner { place.owner ≡ owner_of one.rr.owner }
+    requires absent { found place.owner place.number records.old.entries ≡ None }
+    requires next { (number : ℕ) → suc number ≡ place.number → IsSome (found place.owner number records.old.entries) }
+    requires played { IsPlayed (values_of records.old.entries) [] nodes.old }
+    requires room { length records.old.entries < length nodes.old }
+    requires size { length nodes.old < 2 ^ 60 }
+    requires spare { 0 < records.old.spare }
+    ensures entries { records.new.entries ≡ records.old.entries ++ (place, one) ∷ [] }
+    ensures filed { AreFiled records.new.entries }
+    ensures played { IsPlayed (values_of records.new.entries) [] nodes.new }
+    ensures spare { records.new.spare + 1 ≡ records.old.spare }
+{
+    let index = records.len();
+    records.push(place, one);
+    mend(nodes, records.values(), index);
+}
