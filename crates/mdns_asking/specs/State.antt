@@ -11,4 +11,4 @@ pub record State : Type 0 where
 
 -- what an asker keeps that has these questions and was told of these records
 abbrev pub asker_of : List Tracked → List Held → Contents
-asker_of questions held = record { questions = questions; held = held; spare = 0 }
+asker_of questions held = record { questions = questions; held = held }

@@ -2,7 +2,6 @@ pub mod Places
 pub mod Ends
 pub mod Refreshes
 pub mod Loops
-pub mod Told
 pub mod Earliest
 pub mod Following
 pub mod FirstRefresh

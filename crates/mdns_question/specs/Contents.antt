@@ -1,10 +1,9 @@
--- What contracts see of an asker.
-use Rattle.std.specs.Prelude.{ℕ, List}
+-- Questions and the records over which they are due.
+use Rattle.std.specs.Prelude.{List}
 use Rattle.mdns_history.specs.declared.held.Held.{Held}
 use Rattle.mdns_question.specs.declared.tracked.Tracked.{Tracked}
 
--- the questions that have users, by folded name and then by type; the records that were told, in no promised order; and how many more of both there is room for
+-- the questions that have users, by folded name and then by type; and the records that are held, in no promised order
 pub record Contents : Type 0 where
   pub questions : List Tracked
   pub held : List Held
-  pub spare : ℕ

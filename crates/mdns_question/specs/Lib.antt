@@ -3,3 +3,4 @@ pub mod Tracking
 pub mod Next
 pub mod Standing
 pub mod Refreshing
+pub mod Kept

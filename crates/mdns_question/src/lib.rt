@@ -2,8 +2,6 @@
 #![tactic(auto)]
 
 mod asker;
-mod copies;
-mod due;
 mod kept;
 mod keys;
 mod law;
@@ -13,10 +11,8 @@ mod tracked;
 mod users;
 
 pub use asker::Asker;
-pub use due::due_questions;
 pub use kept::first_refresh;
 pub use law::{askings_follow_the_history, kept_points_tell_what_is_due};
-pub use next::next_due;
 pub use tracked::Tracked;
 
 #[cfg(test)]

@@ -1,36 +1,12 @@
-// When a question is next due. (RFC 6762 5.2)
-ghost use Rattle.std.specs.Prelude.{◌≡◌, map, filter, min, IsTrue, if◌then◌else◌};
-ghost use Rattle.dns_name.specs.Lists.{least_of, least};
+// The first refresh point of a record. (RFC 6762 5.2)
+ghost use Rattle.std.specs.Prelude.{◌≡◌, filter, min, IsTrue, if◌then◌else◌};
+ghost use Rattle.dns_name.specs.Lists.{least_of};
 ghost use Rattle.mdns_history.specs.Asking.{refresh_points};
-ghost use Rattle.mdns_question.specs.Next.{is_wanted, is_open, open_in, next_of};
+ghost use Rattle.mdns_question.specs.Next.{is_wanted, is_open, open_in};
 
 use crate::Tracked;
 use crate::points::{is_open, is_wanted, refresh_points};
 use mdns_history::Held;
-
-/// The first moment, in ms, at which one of the questions is due over the records that are held; `None` exactly where there is
-/// no question. (RFC 6762 5.2)
-pub fn next_due(questions: &[Tracked], held: &[Held]) -> Option<u64>
-    ensures { result ≡ least (map (next_of held.now) questions.now) }
-{
-    let (first, rest) = questions.split_first()?;
-    let mut next = next_of(first, held);
-    for one in rest {
-        next = next.min(next_of(one, held));
-    }
-    Some(next)
-}
-
-// The first moment at which a question is due.
-fn next_of(one: &Tracked, held: &[Held]) -> u64
-    ensures { result ≡ next_of held.now one.now }
-{
-    let mut next = one.next;
-    for told in held {
-        next = next_with(one, told, next);
-    }
-    next
-}
 
 /// The least of a moment and of the refresh points of a record that call for an asking.
 pub fn next_with(one: &Tracked, told: &Held, earliest: u64) -> u64

@@ -2,8 +2,7 @@
 ghost use Rattle.std.specs.Prelude.{◌≡◌, ◌+◌, ◌*◌, IsTrue};
 ghost use Rattle.std.specs.Option.{option_to_list};
 ghost use Rattle.mdns_history.specs.Lifetimes.{is_uncut};
-ghost use Rattle.mdns_history.specs.Asking.{refresh_points, calls_at, is_behind};
-ghost use Rattle.mdns_question.specs.Tracking.{active_of};
+ghost use Rattle.mdns_history.specs.Asking.{refresh_points, is_behind};
 ghost use Rattle.mdns_question.specs.Next.{is_wanted, is_open};
 
 use crate::Tracked;
@@ -41,13 +40,6 @@ pub fn refresh_points(told: &Held) -> [u64; 4]
         told.heard + ttl * 900 + jitter,
         told.heard + ttl * 950 + jitter,
     ]
-}
-
-/// Whether a refresh point has come, and is later than the start and the last asking.
-pub fn calls_at(one: &Tracked, point: u64, now: u64) -> bool
-    ensures { result ≡ calls_at (active_of one.now) (option_to_list one.now.last) now point }
-{
-    point <= now && one.start < point && is_behind(point, one.last)
 }
 
 /// Whether a refresh point lies in the record's life, and is later than the start and the last asking.

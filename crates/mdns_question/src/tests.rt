@@ -55,83 +55,92 @@ fn record(alloc: Global, end: u64) -> Result<Held, Fail> {
     })
 }
 
+// Tells the first refresh point of the question over these records.
+fn tell(asker: &mut Asker, held: &[Held]) {
+    let point = first_refresh(&asker.questions()[0], held);
+    asker.tell_at(0, point);
+}
+
 // Asks what is due, each at the first moment at which it is, and expects these moments and causes.
 fn expect_askings(
     rt: &impl Abort,
+    alloc: Global,
     asker: &mut Asker,
+    held: &[Held],
     expected: &[(u32, Cause)],
 ) -> Result<(), Fail> {
     for (moment, cause) in expected {
         let now = u64::from(*moment);
-        assert_eq!(rt; asker.next_due(), Some(now));
-        let key = match asker.due(now, 0) {
-            Some((key, found)) => {
-                assert!(rt; found == *cause, "{now}");
-                key.copy()
-            }
-            None => Err("nothing is due")?,
-        };
-        assert!(rt; asker.due(now, 1).is_none());
-        asker.asked(now, &key, *cause);
+        assert_eq!(rt; asker.first_due(), Some(now));
+        let due = asker.due_by_kept(alloc, now)?;
+        assert_eq!(rt; due.len(), 1);
+        for one in &due {
+            assert!(rt; one.1 == *cause, "{now}");
+            asker.asked(now, &one.0, *cause);
+        }
+        tell(asker, held);
     }
     Ok(())
 }
 
 #[test]
 fn the_series_of_a_question(rt: HostRuntime) -> Result<(), Fail> {
+    let alloc = rt.alloc();
     let browse = question("_ipp._tcp.local", 12)?;
-    let mut asker = Asker::new(rt.alloc());
+    let mut asker = Asker::new(alloc);
     asker.start(0, 0, &browse)?;
-    expect_askings(&rt, &mut asker, &SERIES)?;
+    expect_askings(&rt, alloc, &mut asker, &[], &SERIES)?;
     assert!(rt; asker.stop(&browse));
-    assert_eq!(rt; asker.next_due(), None);
+    assert_eq!(rt; asker.first_due(), None);
     asker.start(0, 100, &browse)?;
-    assert_eq!(rt; asker.next_due(), Some(120));
+    assert_eq!(rt; asker.first_due(), Some(120));
     Ok(())
 }
 
 #[test]
 fn the_refreshes_of_a_record(rt: HostRuntime) -> Result<(), Fail> {
-    let mut asker = Asker::new(rt.alloc());
+    let alloc = rt.alloc();
+    let mut asker = Asker::new(alloc);
     asker.reserve(2)?;
     asker.start(0, 0, &question("a.local", 1)?)?;
-    asker.held(record(rt.alloc(), 121_000)?)?;
-    expect_askings(&rt, &mut asker, &REFRESHES)?;
+    let held = [record(alloc, 121_000)?];
+    tell(&mut asker, &held);
+    expect_askings(&rt, alloc, &mut asker, &held, &REFRESHES)?;
     Ok(())
 }
 
 #[test]
 fn a_cut_or_gone_record_is_not_refreshed(rt: HostRuntime) -> Result<(), Fail> {
-    let mut asker = Asker::new(rt.alloc());
+    let alloc = rt.alloc();
+    let mut asker = Asker::new(alloc);
     asker.start(0, 0, &question("a.local", 1)?)?;
-    asker.held(record(rt.alloc(), 121_000)?)?;
-    expect_askings(&rt, &mut asker, REFRESHES.split_at(7).0)?;
-    assert_eq!(rt; asker.next_due(), Some(97_000));
-    asker.held(record(rt.alloc(), 98_000)?)?;
-    assert_eq!(rt; asker.next_due(), Some(127_020));
-    asker.held(record(rt.alloc(), 121_000)?)?;
-    assert_eq!(rt; asker.next_due(), Some(97_000));
-    asker.gone(&record(rt.alloc(), 0)?.rr);
-    assert_eq!(rt; asker.next_due(), Some(127_020));
+    let held = [record(alloc, 121_000)?];
+    tell(&mut asker, &held);
+    expect_askings(&rt, alloc, &mut asker, &held, REFRESHES.split_at(7).0)?;
+    assert_eq!(rt; asker.first_due(), Some(97_000));
+    tell(&mut asker, &[record(alloc, 98_000)?]);
+    assert_eq!(rt; asker.first_due(), Some(127_020));
+    tell(&mut asker, &held);
+    assert_eq!(rt; asker.first_due(), Some(97_000));
+    asker.tell(&question("A.LOCAL", 1)?, None);
+    assert_eq!(rt; asker.first_due(), Some(127_020));
     Ok(())
 }
 
 #[test]
 fn a_question_lasts_as_long_as_its_users(rt: HostRuntime) -> Result<(), Fail> {
+    let alloc = rt.alloc();
     let (first, again) = (question("A.local", 1)?, question("a.LOCAL", 1)?);
-    let mut asker = Asker::new(rt.alloc());
+    let mut asker = Asker::new(alloc);
     asker.start(5, 0, &question("b.local", 1)?)?;
     asker.start(7, 0, &first)?;
     asker.start(9, 3, &again)?;
-    assert_eq!(rt; asker.series_moment(&again), Some(27));
-    assert!(rt;
-        asker
-            .asks(0)
-            .is_some_and(|key| key.name.exact_eq(&first.name))
-    );
-    assert!(rt; asker.asks(1).is_some() && asker.asks(2).is_none());
-    assert!(rt; asker.due(27, 1).is_some() && asker.due(27, 2).is_none());
+    assert_eq!(rt; asker.questions().len(), 2);
+    let kept = &asker.questions()[0];
+    assert!(rt; kept.key.name.exact_eq(&first.name));
+    assert_eq!(rt; (kept.users, kept.next), (2, 27));
+    assert_eq!(rt; asker.due_by_kept(alloc, 27)?.len(), 2);
     assert!(rt; asker.stop(&again) && asker.stop(&first) && !asker.stop(&first));
-    assert_eq!(rt; asker.series_moment(&first), None);
+    assert_eq!(rt; asker.questions().len(), 1);
     Ok(())
 }
