@@ -1,0 +1,7 @@
+-- The faults of a door at a socket.
+use Rattle.std.specs.Prelude.{ℕ}
+use Rattle.mdns_real.specs.declared.door.UnixDoor.{UnixDoor}
+
+-- how often it failed
+abbrev pub door_faults : UnixDoor → ℕ
+door_faults door = door.faults
