@@ -11,15 +11,15 @@ ghost use Rattle.mdns_cache.specs.Lifetimes.{hearing_at, hearings_at, after_hear
 use crate::count::is_room;
 use crate::ended::ended_names;
 use crate::ends::played;
+use crate::error::HearError;
 use crate::expiry::{expire_from, least_end};
 use crate::heard::hear_all;
 use crate::look::held_at;
+use crate::steps::Steps;
 use by_name::ByName;
 use dns_message::Rrs;
 use dns_name::Name;
 use dns_record::Rr;
-use crate::error::HearError;
-use crate::steps::Steps;
 use mdns_history::Held;
 use std::alloc::{AllocError, Global};
 use std::marker::Model;

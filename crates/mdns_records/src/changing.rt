@@ -6,8 +6,8 @@ ghost use Rattle.mdns_history.specs.Lifetimes.{is_live_at};
 ghost use Rattle.mdns_cache.specs.Lifetimes.{hearings_at, Holds, AllLive, AllHeard};
 ghost use Rattle.mdns_records.specs.After.{held_after};
 
-use mdns_cache::{Cache, Steps};
 use dns_message::Rrs;
+use mdns_cache::{Cache, Steps};
 use mdns_happened::When;
 use std::sync::ledger::Ledger;
 
