@@ -5,10 +5,9 @@ use crate::notes::note_on;
 use crate::outside::{Input, Output};
 use mdns_base::{Failed, Sink};
 use std::alloc::{AllocError, Global};
-use std::io;
 use std::io::{ErrorKind, Read, Write, pipe};
 use std::test::Fail;
-use std::thread;
+use std::{io, thread};
 
 // Moves at most so many bytes at a time, and every other call is interrupted by a signal.
 #[derive(Drop)]
