@@ -1,0 +1,3 @@
+pub mod Ears
+pub mod Openings
+pub mod Endings

@@ -1,0 +1,32 @@
+-- The sessions that a server opens.
+use Rattle.std.specs.Prelude.{◌≡◌, ℕ, ◌+◌, Bool, true, List, [], ◌∷◌, ◌++◌, length, Option, Some}
+use Rattle.mdns_history.specs.declared.event.Event.TheVariants as event
+use Rattle.mdns_turn.specs.History.{StartsWith}
+use Rattle.mdns_turn.specs.Models.{SeatModel, IsSameSeat}
+use Rattle.mdns_serve.specs.declared.shared.Shared.{Shared}
+use Rattle.mdns_serve.specs.declared.happening.Happening.{Happening}
+use Rattle.mdns_serve.specs.Reading.{IsFor}
+
+-- each of the turns was to open a session
+abbrev pub AreOpenings : List Happening → Type 0
+AreOpenings [] = Unit {0}
+AreOpenings (turn ∷ turns) = IsFor event.Attach turn × AreOpenings turns
+
+-- A seat took turns that each were to open a session: one for each connection that was given, where all were let in.
+pub record Opens (old new : SeatModel Shared Happening) (given_old given_new : Option ℕ) (whole : Bool) : Type 0 where
+  pub same : IsSameSeat old new
+  pub joined : new.joined ≡ old.joined
+  pub seen : StartsWith new.seen old.seen
+  pub opened : List Happening
+  pub are : AreOpenings opened
+  pub mine : new.mine ≡ old.mine ++ opened
+  pub given : whole ≡ true → (n : ℕ) → given_old ≡ Some n → given_new ≡ Some (n + length opened)
+
+-- A seat took one turn that was to open a session.
+pub record OpensOne (old new : SeatModel Shared Happening) : Type 0 where
+  pub same : IsSameSeat old new
+  pub joined : new.joined ≡ old.joined
+  pub seen : StartsWith new.seen old.seen
+  pub turn : Happening
+  pub is : IsFor event.Attach turn
+  pub mine : new.mine ≡ old.mine ++ turn ∷ []

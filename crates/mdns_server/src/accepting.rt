@@ -1,0 +1,244 @@
+// Connections are accepted, one after the other.
+ghost use Rattle.std.specs.Arc.{arc_value};
+ghost use Rattle.std.specs.Prelude.{◌≡◌, ◌≢◌, ◌<◌, false, IfOk, IfSome, Some, vec_len, vec_capacity};
+ghost use Rattle.mdns_base.specs.Outside.{Rose};
+ghost use Rattle.mdns_turn.specs.Models.{IsSeatOf};
+ghost use Rattle.mdns_server.specs.Endings.{MayFault, HasStopped, is_whole};
+ghost use Rattle.mdns_server.specs.Openings.{Opens, OpensOne};
+
+use crate::chair::{Common, Half};
+use crate::making::{HalfParts, KitOf, make_halves};
+use crate::session::{attach, miss};
+use crate::slot::Slot;
+use crate::starting::{Chairs, Session, start_halves, sweep};
+use crate::stop::Stop;
+use mdns_base::Sink;
+use mdns_outside::{Door, Place};
+use mdns_serve::Shared;
+use mdns_turn::Seat;
+use std::alloc::AllocError;
+use std::sync::atomic::AtomicU64;
+use std::sync::{Arc, Wait};
+
+/// What the accepting thread works with.
+#[derive(Drop)]
+pub(crate) struct Desk<R, P: Place> {
+    pub common: Common<R>,
+    pub kit: KitOf<P>,
+    pub spawner: P::Spawner,
+    pub sessions: Vec<Session>,
+    pub slot: Arc<Slot<P::Ear>>,
+}
+
+/// Both ends of a connection.
+type Caller<P> = (
+    <<P as Place>::Door as Door>::In,
+    <<P as Place>::Door as Door>::Out,
+);
+
+// What a session was given before it was opened.
+#[derive(Drop)]
+struct Ready<R> {
+    chairs: Chairs<R>,
+    ended: Arc<AtomicU64>,
+    reading_ended: Arc<AtomicU64>,
+    writing_ended: Arc<AtomicU64>,
+}
+
+// What became of a connection.
+#[derive(Clone, Copy, PartialEq, Eq)]
+enum Welcome {
+    // It was let in, or found no room.
+    Done,
+    // Its parts couldn't be made.
+    Link,
+    // A thread couldn't be started; its session has ended.
+    Spawner,
+}
+
+/// Accepts connections, where the loops of the ear and of the ticker were started.
+pub(crate) fn accept_started<R: Wait + Copy + Send + 'static, P: Place>(
+    desk: &mut Desk<R, P>,
+    seat: &mut Seat<Shared>,
+    place: &mut P,
+    door: &mut P::Door,
+    started: bool,
+) -> Stop<P::Ear>
+    requires turn { IsSeatOf (arc_value desk.old.common.turn) seat.old }
+    requires cause { started ≡ false → 0 < P.Spawner.faults desk.old.spawner }
+    ensures opens { Opens seat.old seat.new (P.Door.given door.old) (P.Door.given door.new) (is_whole (Some result)) }
+    ensures place { MayFault (P.counted place.old) (P.counted place.new) }
+    ensures stop { HasStopped P.Ear.faults (P.Door.over door.new) (P.Door.faults door.new) (P.Spawner.faults desk.new.spawner) result }
+    ensures link { result ≡ Stop.Link → Rose (P.counted place.old).link_faults (P.counted place.new).link_faults }
+{
+    if started {
+        accept_all(desk, seat, place, door)
+    } else {
+        Stop::Spawner
+    }
+}
+
+// Accepts connections and gives each a session of two halves, until the door gives no more or something fails. A connection
+// for which there is no room or no memory is finished at once.
+fn accept_all<R: Wait + Copy + Send + 'static, P: Place>(
+    desk: &mut Desk<R, P>,
+    seat: &mut Seat<Shared>,
+    place: &mut P,
+    door: &mut P::Door,
+) -> Stop<P::Ear>
+    requires { IsSeatOf (arc_value desk.old.common.turn) seat.old }
+    ensures opens { Opens seat.old seat.new (P.Door.given door.old) (P.Door.given door.new) (is_whole (Some result)) }
+    ensures place { MayFault (P.counted place.old) (P.counted place.new) }
+    ensures stop { HasStopped P.Ear.faults (P.Door.over door.new) (P.Door.faults door.new) (P.Spawner.faults desk.new.spawner) result }
+    ensures link { result ≡ Stop.Link → Rose (P.counted place.old).link_faults (P.counted place.new).link_faults }
+{
+    let rt = desk.common.rt;
+    for _ in rt.forever() {
+        let next = accept_one(desk, seat, place, door);
+        if let Some(stop) = next {
+            return stop;
+        }
+    }
+    unreachable!()
+}
+
+// Waits for one connection and gives it a session; the answer is why no more is accepted, if so.
+fn accept_one<R: Wait + Copy + Send + 'static, P: Place>(
+    desk: &mut Desk<R, P>,
+    seat: &mut Seat<Shared>,
+    place: &mut P,
+    door: &mut P::Door,
+) -> Option<Stop<P::Ear>>
+    requires { IsSeatOf (arc_value desk.old.common.turn) seat.old }
+    ensures common { desk.new.common ≡ desk.old.common }
+    ensures opens { Opens seat.old seat.new (P.Door.given door.old) (P.Door.given door.new) (is_whole result) }
+    ensures place { MayFault (P.counted place.old) (P.counted place.new) }
+    ensures stop { IfSome result (HasStopped P.Ear.faults (P.Door.over door.new) (P.Door.faults door.new) (P.Spawner.faults desk.new.spawner)) }
+    ensures link { result ≡ Some Stop.Link → Rose (P.counted place.old).link_faults (P.counted place.new).link_faults }
+{
+    let caller = match door.next() {
+        Ok(Some(caller)) => caller,
+        Ok(None) => return Some(Stop::Over),
+        Err(_) => return Some(Stop::Door),
+    };
+    let rt = desk.common.rt;
+    if let Some(ear) = desk.slot.take_failed(&rt) {
+        turn_away::<P>(caller);
+        return Some(Stop::Ear { ear });
+    }
+    match let_in(desk, seat, place, caller) {
+        Welcome::Done => None,
+        Welcome::Link => Some(Stop::Link),
+        Welcome::Spawner => Some(Stop::Spawner),
+    }
+}
+
+// Gives a connection a session.
+fn let_in<R: Wait + Copy + Send + 'static, P: Place>(
+    desk: &mut Desk<R, P>,
+    seat: &mut Seat<Shared>,
+    place: &mut P,
+    caller: Caller<P>,
+) -> Welcome
+    requires { IsSeatOf (arc_value desk.old.common.turn) seat.old }
+    ensures common { desk.new.common ≡ desk.old.common }
+    ensures opens { result ≢ Welcome.Link → OpensOne seat.old seat.new }
+    ensures place { MayFault (P.counted place.old) (P.counted place.new) }
+    ensures link { result ≡ Welcome.Link → (seat.new ≡ seat.old) × Rose (P.counted place.old).link_faults (P.counted place.new).link_faults }
+    ensures spawner { result ≡ Welcome.Spawner → 0 < P.Spawner.faults desk.new.spawner }
+{
+    sweep(&mut desk.sessions, &desk.spawner);
+    let Ok(parts) = make_halves(place) else {
+        turn_away::<P>(caller);
+        return Welcome::Link;
+    };
+    match make_ready(desk, seat) {
+        Ok(ready) => open(desk, seat, ready, parts, caller),
+        Err(_) => {
+            miss(&desk.common, seat);
+            turn_away::<P>(caller);
+            Welcome::Done
+        }
+    }
+}
+
+// Finishes a connection.
+fn turn_away<P: Place>(caller: Caller<P>) {
+    let (_input, mut output) = caller;
+    output.finish();
+}
+
+// All that a session needs memory for, before it is opened.
+fn make_ready<R: Wait + Copy, P: Place>(
+    desk: &mut Desk<R, P>,
+    seat: &mut Seat<Shared>,
+) -> Result<Ready<R>, AllocError>
+    requires { IsSeatOf (arc_value desk.old.common.turn) seat.old }
+    ensures seat { seat.new ≡ seat.old }
+    ensures common { desk.new.common ≡ desk.old.common }
+    ensures room { IfOk result (λ _. vec_len desk.new.sessions < vec_capacity desk.new.sessions) }
+    ensures reading { IfOk result (λ r. IsSeatOf (arc_value r.chairs.reading.common.turn) r.chairs.reading.seat) }
+    ensures writing { IfOk result (λ r. IsSeatOf (arc_value r.chairs.writing.common.turn) r.chairs.writing.seat) }
+{
+    desk.sessions.reserve(1)?;
+    let reading = desk.common.chair(seat)?;
+    let writing = desk.common.chair(seat)?;
+    let ended = Arc::new(desk.common.alloc, AtomicU64::new(0))?;
+    let reading_ended = Arc::try_clone(&ended)?;
+    let writing_ended = Arc::try_clone(&ended)?;
+    Ok(Ready {
+        chairs: Chairs { reading, writing },
+        ended,
+        reading_ended,
+        writing_ended,
+    })
+}
+
+// Opens a session for a connection and starts its halves.
+fn open<R: Wait + Copy + Send + 'static, P: Place>(
+    desk: &mut Desk<R, P>,
+    seat: &mut Seat<Shared>,
+    ready: Ready<R>,
+    parts: HalfParts<P>,
+    caller: Caller<P>,
+) -> Welcome
+    requires turn { IsSeatOf (arc_value desk.old.common.turn) seat.old }
+    requires room { vec_len desk.old.sessions < vec_capacity desk.old.sessions }
+    requires reading { IsSeatOf (arc_value ready.chairs.reading.common.turn) ready.chairs.reading.seat }
+    requires writing { IsSeatOf (arc_value ready.chairs.writing.common.turn) ready.chairs.writing.seat }
+    ensures common { desk.new.common ≡ desk.old.common }
+    ensures opens { OpensOne seat.old seat.new }
+    ensures link { result ≢ Welcome.Link }
+    ensures spawner { result ≡ Welcome.Spawner → 0 < P.Spawner.faults desk.new.spawner }
+{
+    let Some(session) = attach(&desk.common, seat, &mut desk.kit) else {
+        turn_away::<P>(caller);
+        return Welcome::Done;
+    };
+    let (input, output) = caller;
+    let reading = Half {
+        session,
+        end: input,
+        kit: parts.reading,
+        gate: parts.reading_gate,
+        ended: ready.reading_ended,
+    };
+    let writing = Half {
+        session,
+        end: output,
+        kit: parts.writing,
+        gate: parts.writing_gate,
+        ended: ready.writing_ended,
+    };
+    let threads = start_halves(&mut desk.spawner, ready.chairs, reading, writing);
+    let whole = threads.whole;
+    desk.sessions.push_reserved(Session {
+        threads,
+        ended: ready.ended,
+    });
+    if whole {
+        Welcome::Done
+    } else {
+        Welcome::Spawner
+    }
+}

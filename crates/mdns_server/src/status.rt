@@ -1,0 +1,19 @@
+// The statuses of a server.
+
+/// All is done: the door gave its last connection, and all sessions ended.
+pub(crate) const DONE: u8 = 0;
+
+/// The output failed.
+pub(crate) const WRITE_FAULT: u8 = 5;
+
+/// Memory was refused before anything was accepted.
+pub(crate) const NO_MEMORY: u8 = 6;
+
+/// The door failed.
+pub(crate) const DOOR_FAULT: u8 = 9;
+
+/// A thread couldn't be started.
+pub(crate) const SPAWN_FAULT: u8 = 10;
+
+/// The link failed.
+pub(crate) const LINK_FAULT: u8 = 11;
