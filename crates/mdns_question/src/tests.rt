@@ -56,9 +56,11 @@ fn record(alloc: Global, end: u64) -> Result<Held, Fail> {
 }
 
 // Tells the first refresh point of the question over these records.
-fn tell(asker: &mut Asker, held: &[Held]) {
-    let point = first_refresh(&asker.questions()[0], held);
-    asker.tell_at(0, point);
+fn tell(asker: &mut Asker, held: &[Held]) -> Result<(), Fail> {
+    let one = asker.questions().first().ok_or("a question")?;
+    let (key, point) = (one.key.copy(), first_refresh(one, held));
+    asker.tell(&key, point);
+    Ok(())
 }
 
 // Asks what is due, each at the first moment at which it is, and expects these moments and causes.
@@ -78,7 +80,7 @@ fn expect_askings(
             assert!(rt; one.1 == *cause, "{now}");
             asker.asked(now, &one.0, *cause);
         }
-        tell(asker, held);
+        tell(asker, held)?;
     }
     Ok(())
 }
@@ -104,7 +106,7 @@ fn the_refreshes_of_a_record(rt: HostRuntime) -> Result<(), Fail> {
     asker.reserve(2)?;
     asker.start(0, 0, &question("a.local", 1)?)?;
     let held = [record(alloc, 121_000)?];
-    tell(&mut asker, &held);
+    tell(&mut asker, &held)?;
     expect_askings(&rt, alloc, &mut asker, &held, &REFRESHES)?;
     Ok(())
 }
@@ -115,12 +117,12 @@ fn a_cut_or_gone_record_is_not_refreshed(rt: HostRuntime) -> Result<(), Fail> {
     let mut asker = Asker::new(alloc);
     asker.start(0, 0, &question("a.local", 1)?)?;
     let held = [record(alloc, 121_000)?];
-    tell(&mut asker, &held);
+    tell(&mut asker, &held)?;
     expect_askings(&rt, alloc, &mut asker, &held, REFRESHES.split_at(7).0)?;
     assert_eq!(rt; asker.first_due(), Some(97_000));
-    tell(&mut asker, &[record(alloc, 98_000)?]);
+    tell(&mut asker, &[record(alloc, 98_000)?])?;
     assert_eq!(rt; asker.first_due(), Some(127_020));
-    tell(&mut asker, &held);
+    tell(&mut asker, &held)?;
     assert_eq!(rt; asker.first_due(), Some(97_000));
     asker.tell(&question("A.LOCAL", 1)?, None);
     assert_eq!(rt; asker.first_due(), Some(127_020));
