@@ -106,13 +106,18 @@ def ticks(program):
         yield f"a tick that asks one question, {count:,} records held", f"{value:,.0f} instructions", "at most 30,000"
 
 
+def short(number):
+    """An A record whose owner is one byte: 512 of them fit a packet."""
+    return record(bytes([1, 97 + number % 26, 0]), A, struct.pack(">I", number))
+
+
 def full_table(program):
     """64 packets of 512 records each, and what comes then."""
-    filling = ["daemon 1"] + packets([address(number) for number in range(32_768)], 512)
+    filling = ["daemon 1"] + packets([short(number) for number in range(32_768)], 512)
     yield "the table filled by 64 packets of 512 records", f"{seconds(program, filling):.2f} seconds", "at most 2"
     one = response(address(40_000))
     yield "one record more, which is refused", f"{cost(program, filling, [one] * 10):,.0f} instructions", ""
-    again = response(address(4711))
+    again = response(short(4711))
     yield "a held record heard again, the table full", f"{cost(program, filling, [again] * 10):,.0f} instructions", ""
 
 
