@@ -21,6 +21,7 @@ use Rattle.mdns_asking.specs.Walked as for_asking
 use Rattle.sd_sessions.specs.Sessions.{Session}
 use Rattle.sd_sessions.specs.Planned as sessions
 use Rattle.sd_sessions.specs.Walked as for_sessions
+use Rattle.sd_sessions.specs.Answered.{over}
 use Rattle.sd_sessions.specs.Codes.{kept_outcome}
 use Rattle.sd_sessions.specs.Settling.{cuts_of, gifts_of, rrs_of}
 use Rattle.mdns_core.specs.declared.plan.Plan.{Plan}
@@ -46,7 +47,7 @@ pub record IsPlanFor (opened : ℕ) (before : List Session) (held later : List H
   pub walks : AreEnough (told_by plan.happened) now held later questions before plan.walks.items
   pub asking : asking.IsPlan (told_by plan.happened) now before questions later plan.walks.items plan.asking
   pub gaps : HaveGaps questions
-  pub sessions : sessions.IsPlan (told_by plan.happened) (rrs_of held) (rrs_of later) before plan.sessions
+  pub sessions : sessions.IsPlan (told_by plan.happened) (over (rrs_of held)) (over (rrs_of later)) before plan.sessions
   pub marks : plan.marks ≡ (told_by plan.happened).refusal ++ map mark_of plan.asking.asked.items ++ cuts_of plan.sessions.changes.items
   pub given : plan.given ≡ gifts_of plan.sessions.changes.items
 

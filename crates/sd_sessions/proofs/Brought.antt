@@ -16,13 +16,13 @@ use Rattle.mdns_history.proofs.LegalReplay.{Holds}
 use Rattle.sd_sessions.proofs.EntryParts.{marked, cutting, entry_after}
 use Rattle.sd_sessions.proofs.CutAnswers.{answers-cutting, answers-after}
 use Rattle.sd_sessions.proofs.Attached.{opened-number}
-use Rattle.sd_sessions.specs.Answered.{items_by}
+use Rattle.sd_sessions.specs.Changes.{items_between}
 use Rattle.sd_sessions.specs.Laws.{answers_in}
 
 -- what any entry brings a session
 pub change_items-is : (n : ℕ) (entry : Entry) (past : List Entry) →
-    change_items n entry past ≡ items_by (answers_in past) (answers_in (entry ∷ past)) (reply_of n entry.event entry.outcome) (operations_of n past) (operations_of n (entry ∷ past))
-unfolding change_items
+    change_items n entry past ≡ items_between (answers_in past) (answers_in (entry ∷ past)) (reply_of n entry.event entry.outcome) (operations_of n past) (operations_of n (entry ∷ past))
+unfolding change_items items_between
 change_items-is n entry past = refl
 
 -- an entry that opens a session neither replies nor accepts a call
@@ -63,10 +63,10 @@ module _ (duties : Duties) (past : List Entry) (moment word : ℕ) (ev : Event) 
 
   -- What the entry brings a session, by its operations before and after, and the answers before and after.
   pub change_items-marked : (n : ℕ) → change_items n (marked duties past moment word ev) past
-      ≡ items_by (answers_in past) (answers_in (entry_after duties past moment word ev ∷ past)) (reply_of n ev early) (operations_of n past) (operations_of n (marked duties past moment word ev ∷ past))
+      ≡ items_between (answers_in past) (answers_in (entry_after duties past moment word ev ∷ past)) (reply_of n ev early) (operations_of n past) (operations_of n (marked duties past moment word ev ∷ past))
   change_items-marked n =
       change_items-is n (marked duties past moment word ev) past
-      ∙ (λ i. items_by (answers_in past) (λ o. sym (answers-after duties past moment word ev o) i) (reply_of n ev early) (operations_of n past) (operations_of n (marked duties past moment word ev ∷ past)))
+      ∙ (λ i. items_between (answers_in past) (λ o. sym (answers-after duties past moment word ev o) i) (reply_of n ev early) (operations_of n past) (operations_of n (marked duties past moment word ev ∷ past)))
 
   cutting_operations : (n : ℕ) → operations_of n (cutting duties past moment word ev ∷ past) ≡ operations_of n (marked duties past moment word ev ∷ past)
   unfolding operations_of
@@ -76,5 +76,5 @@ module _ (duties : Duties) (past : List Entry) (moment word : ℕ) (ev : Event) 
   pub change_items-cutting : (n : ℕ) → change_items n (cutting duties past moment word ev) past ≡ change_items n (marked duties past moment word ev) past
   change_items-cutting n =
       change_items-is n (cutting duties past moment word ev) past
-      ∙ (λ i. items_by (answers_in past) (λ o. answers-cutting duties past moment word ev o i) (reply_of n ev early) (operations_of n past) (cutting_operations n i))
+      ∙ (λ i. items_between (answers_in past) (λ o. answers-cutting duties past moment word ev o i) (reply_of n ev early) (operations_of n past) (cutting_operations n i))
       ∙ sym (change_items-is n (marked duties past moment word ev) past)

@@ -1,9 +1,8 @@
--- The changes of sessions by answers before and after: those over records, and that the answers of the sessions' operations alone count.
+-- The changes of sessions by answers before and after: the answers of the sessions' operations alone count.
 use Rattle.std.proofs.Common.{◌≡◌, ℕ, Bool, true, false, cond, ◌&&◌, ◌||◌, List, [], ◌∷◌, ◌++◌, map, Option, Some, refl, ap, ◌∙◌}
 use Rattle.std.specs.List.{list_all, flat_map, find}
 use Rattle.std.specs.Option.{option_map_or, option_to_list}
 use Rattle.dns_name.specs.Lists.{without}
-use Rattle.dns_record.specs.declared.record.Rr.{Rr}
 use Rattle.sd_call.specs.declared.answer.Answer.{Answer}
 use Rattle.sd_call.specs.declared.item.Item.{Item}
 use Rattle.sd_call.specs.declared.item.Item.TheVariants.{Add, Remove}
@@ -15,27 +14,17 @@ use Rattle.mdns_history.specs.Sessions.{has_op, accepted_call, detached, is_numb
 use Rattle.mdns_history.specs.Items.{reply_of}
 use Rattle.sd_sessions.specs.declared.change.SessionChange.{SessionChange}
 use Rattle.sd_sessions.specs.Sessions.{Session}
-use Rattle.sd_sessions.specs.Changes.{items_between, passes}
-use Rattle.sd_sessions.specs.Settling.{called, change_for}
-use Rattle.sd_sessions.specs.Answered.{had_by, items_by, operations_then, change_by, over}
-
--- A change that is told by records is that of the answers over them.
-pub change_for-is : (ev : Event) (outcome : Outcome) (earlier later : List Rr) (session : Session) → change_for ev outcome earlier later session ≡ change_by (over earlier) (over later) ev outcome session
-unfolding items_between
-change_for-is ev outcome earlier later session = refl
-
-pub changes_for-are : (ev : Event) (outcome : Outcome) (earlier later : List Rr) (sessions : List Session) →
-    map (change_for ev outcome earlier later) sessions ≡ map (change_by (over earlier) (over later) ev outcome) sessions
-changes_for-are ev outcome earlier later [] = refl
-changes_for-are ev outcome earlier later (session ∷ sessions) = λ i. change_for-is ev outcome earlier later session i ∷ changes_for-are ev outcome earlier later sessions i
+use Rattle.sd_sessions.specs.Answered.{Answering}
+use Rattle.sd_sessions.specs.Changes.{had, items_between, passes}
+use Rattle.sd_sessions.specs.Settling.{called, operations_then, change_for}
 
 -- Answers count on the operations of a session alone, before the event and after it.
-module _ (test : Operation → Bool) (f g : Operation → List Answer) (same : (o : Operation) → test o ≡ true → f o ≡ g o) where
-  had-same : (op : ℕ) (os : List Operation) → list_all test os ≡ true → had_by f os op ≡ had_by g os op
+module _ (test : Operation → Bool) (f g : Answering) (same : (o : Operation) → test o ≡ true → f o ≡ g o) where
+  had-same : (op : ℕ) (os : List Operation) → list_all test os ≡ true → had f os op ≡ had g os op
   had-same op [] all = refl
   had-same op (o ∷ os) all = of (test o) refl all (has_op op o) (had-same op os)
     where
-      of : (b : Bool) → test o ≡ b → (b && list_all test os) ≡ true → (c : Bool) → (list_all test os ≡ true → had_by f os op ≡ had_by g os op) →
+      of : (b : Bool) → test o ≡ b → (b && list_all test os) ≡ true → (c : Bool) → (list_all test os ≡ true → had f os op ≡ had g os op) →
           option_map_or f (cond c (Some o) (find (has_op op) os)) [] ≡ option_map_or g (cond c (Some o) (find (has_op op) os)) []
       of true e h true rest = same o e
       of true e h false rest = rest h
@@ -51,18 +40,20 @@ module _ (test : Operation → Bool) (f g : Operation → List Answer) (same : (
       of false e h rest = cc
 
   -- other answers before that are the same on the operations before
-  pub items-before : (later : Operation → List Answer) (reply : Option Item) (before after : List Operation) → list_all test before ≡ true → items_by f later reply before after ≡ items_by g later reply before after
+  pub items-before : (later : Answering) (reply : Option Item) (before after : List Operation) → list_all test before ≡ true → items_between f later reply before after ≡ items_between g later reply before after
+  unfolding items_between
   items-before later reply before after all =
-      let had : ◌≡◌ {A = ℕ → List Answer} (λ op. had_by f before op) (λ op. had_by g before op) = λ i op. had-same op before all i in
+      let same_had : ◌≡◌ {A = ℕ → List Answer} (λ op. had f before op) (λ op. had g before op) = λ i op. had-same op before all i in
       ap (λ (h : ℕ → List Answer). option_to_list reply
       ++ flat_map (λ o. map (λ answer. Remove o.op answer) (without answer_eq (h o.op) (later o))) after
-      ++ flat_map (λ o. map (λ answer. Add o.op answer) (without answer_eq (later o) (h o.op))) after) had
+      ++ flat_map (λ o. map (λ answer. Add o.op answer) (without answer_eq (later o) (h o.op))) after) same_had
 
   -- other answers after that are the same on the operations after
-  pub items-after : (earlier : Operation → List Answer) (reply : Option Item) (before after : List Operation) → list_all test after ≡ true → items_by earlier f reply before after ≡ items_by earlier g reply before after
+  pub items-after : (earlier : Answering) (reply : Option Item) (before after : List Operation) → list_all test after ≡ true → items_between earlier f reply before after ≡ items_between earlier g reply before after
+  unfolding items_between
   items-after earlier reply before after all =
-      let lost : Operation → List Answer → List Item = λ o has. map (λ answer. Remove o.op answer) (without answer_eq (had_by earlier before o.op) has) in
-      let gained : Operation → List Answer → List Item = λ o has. map (λ answer. Add o.op answer) (without answer_eq has (had_by earlier before o.op)) in
+      let lost : Operation → List Answer → List Item = λ o has. map (λ answer. Remove o.op answer) (without answer_eq (had earlier before o.op) has) in
+      let gained : Operation → List Answer → List Item = λ o has. map (λ answer. Add o.op answer) (without answer_eq has (had earlier before o.op)) in
       λ i. option_to_list reply ++ flat_map-with lost after all i ++ flat_map-with gained after all i
 
 -- Changes are the same by answers that are the same on the operations of the sessions, before and after.
@@ -70,10 +61,10 @@ abbrev pub AllThen : (Operation → Bool) → Event → Outcome → List Session
 AllThen test ev outcome [] = Unit {0}
 AllThen test ev outcome (session ∷ sessions) = (list_all test session.operations ≡ true) × (list_all test (operations_then ev outcome session) ≡ true) × AllThen test ev outcome sessions
 
-module _ (test : Operation → Bool) (earlier later other_earlier other_later : Operation → List Answer)
+module _ (test : Operation → Bool) (earlier later other_earlier other_later : Answering)
     (same_earlier : (o : Operation) → test o ≡ true → earlier o ≡ other_earlier o) (same_later : (o : Operation) → test o ≡ true → later o ≡ other_later o) (ev : Event) (outcome : Outcome) where
   change-same : (session : Session) → list_all test session.operations ≡ true → list_all test (operations_then ev outcome session) ≡ true →
-      change_by earlier later ev outcome session ≡ change_by other_earlier other_later ev outcome session
+      change_for ev outcome earlier later session ≡ change_for ev outcome other_earlier other_later session
   change-same session before after =
       let make : List Item → SessionChange = λ items. record {
         session = session.number;
@@ -85,6 +76,6 @@ module _ (test : Operation → Bool) (earlier later other_earlier other_later : 
       items-before test earlier other_earlier same_earlier later (reply_of session.number ev outcome) session.operations (operations_then ev outcome session) before
       ∙ items-after test later other_later same_later other_earlier (reply_of session.number ev outcome) session.operations (operations_then ev outcome session) after)
 
-  pub changes-same : (sessions : List Session) → AllThen test ev outcome sessions → map (change_by earlier later ev outcome) sessions ≡ map (change_by other_earlier other_later ev outcome) sessions
+  pub changes-same : (sessions : List Session) → AllThen test ev outcome sessions → map (change_for ev outcome earlier later) sessions ≡ map (change_for ev outcome other_earlier other_later) sessions
   changes-same [] all = refl
   changes-same (session ∷ sessions) all = λ i. change-same session all.0 all.1 i ∷ changes-same sessions all.2 i

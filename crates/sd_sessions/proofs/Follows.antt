@@ -11,8 +11,7 @@ use Rattle.mdns_history.specs.Outcomes.{early_outcome}
 use Rattle.mdns_history.specs.Fitting.{bare_entry, event_marks, is_boot, IsLegal}
 use Rattle.sd_sessions.specs.declared.change.SessionChange.{SessionChange}
 use Rattle.sd_sessions.specs.Sessions.{Session, State, Stands, sessions_in}
-use Rattle.sd_sessions.specs.Settling.{cuts_of, gifts_of, all_settled, remaining, with_opened, shifted, outcome_then, sessions_after}
-use Rattle.sd_sessions.specs.Answered.{change_by}
+use Rattle.sd_sessions.specs.Settling.{change_for, cuts_of, gifts_of, all_settled, remaining, with_opened, shifted, outcome_then, sessions_after}
 use Rattle.sd_sessions.specs.Laws.{answers_in, CarriesOn, SessionsFollow}
 use Rattle.sd_sessions.proofs.EntryParts.{marked, entry_after}
 use Rattle.sd_sessions.proofs.Attached.{opened_count-next, opened_count-opened, opened_count-kept}
@@ -26,7 +25,7 @@ module _ (duties : Duties) (history : List Entry) (moment word : ℕ) (ev : Even
   early = early_outcome ev history
 
   abbrev changes_of : List Session → List SessionChange
-  changes_of sessions = map (change_by (answers_in history) (answers_in (entry_after duties history moment word ev ∷ history)) ev early) sessions
+  changes_of sessions = map (change_for ev early (answers_in history) (answers_in (entry_after duties history moment word ev ∷ history))) sessions
 
   abbrev changes : List SessionChange
   changes = changes_of (sessions_in history)

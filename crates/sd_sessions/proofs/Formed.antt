@@ -1,8 +1,8 @@
 -- Accepted calls leave operations that ask for something well formed.
 use Rattle.std.proofs.Common.{ℕ, Bool, true, false, cond, not, ◌&&◌, List, [], ◌∷◌, map, Option, Some, None}
 use Rattle.std.specs.List.{find, AllByRecursion}
-use Rattle.dns_record.specs.declared.record.Rr.{Rr}
 use Rattle.mdns_happened.specs.Told.{Told}
+use Rattle.sd_sessions.specs.Answered.{Answering}
 use Rattle.sd_sessions.specs.Sessions.{Session}
 use Rattle.std.specs.Prelude.{filter, IsTrue, ◌==◌}
 use Rattle.std.specs.Option.{unwrap_or}
@@ -85,7 +85,7 @@ formed-found test (session ∷ sessions) formed = of (test session) (formed-foun
     of false others = others
 
 -- the operations of the sessions that are left ask for something well formed
-pub formed-left : (told : Told) (earlier later : List Rr) (sessions : List Session) → IsWellFormedCall told.call → HaveWellFormed sessions
+pub formed-left : (told : Told) (earlier later : Answering) (sessions : List Session) → IsWellFormedCall told.call → HaveWellFormed sessions
     → HaveWellFormed (sessions_told told.taking (shifted_told told sessions (map (change_told told earlier later) sessions)))
 formed-left told earlier later sessions call all = have-left AreWellFormed told earlier later tt sessions (each sessions all)
   where

@@ -13,7 +13,8 @@ use Rattle.sd_call.specs.declared.item.Item.TheVariants.{Add, Remove}
 use Rattle.sd_call.specs.Answers.{answer_bytes, answer_cmp, answer_eq}
 use Rattle.mdns_history.specs.declared.operation.Operation.{Operation}
 use Rattle.mdns_history.specs.Sessions.{has_op}
-use Rattle.sd_sessions.specs.Answered.{lost_by, gained_by, items_by}
+use Rattle.sd_sessions.specs.Answered.{Answering}
+use Rattle.sd_sessions.specs.Changes.{lost, gained, items_between}
 use Rattle.sd_sessions.proofs.Operations.{AreRising}
 
 answer_itself : (answer : Answer) → answer_eq answer answer ≡ true
@@ -59,21 +60,22 @@ are_found (o ∷ os) rising = (ap (λ b. cond b (Some o) (find (has_op o.op) os)
     itself : (o.op == o.op) ≡ true
     itself = grind arith
 
-lost_none : (all : List Operation) (f : Operation → List Answer) (os : List Operation) → AreFound all os → flat_map (lost_by f f all) os ≡ []
+lost_none : (all : List Operation) (f : Answering) (os : List Operation) → AreFound all os → flat_map (lost f f all) os ≡ []
 lost_none all f [] found = refl
 lost_none all f (o ∷ os) found =
-    ap (λ (x : Option Operation). map (λ answer. Remove o.op answer) (without answer_eq (option_map_or f x []) (f o)) ++ flat_map (lost_by f f all) os) found.0
-    ∙ ap (λ us. map (λ answer. Remove o.op answer) us ++ flat_map (lost_by f f all) os) (without-self (f o))
+    ap (λ (x : Option Operation). map (λ answer. Remove o.op answer) (without answer_eq (option_map_or f x []) (f o)) ++ flat_map (lost f f all) os) found.0
+    ∙ ap (λ us. map (λ answer. Remove o.op answer) us ++ flat_map (lost f f all) os) (without-self (f o))
     ∙ lost_none all f os found.1
 
-gained_none : (all : List Operation) (f : Operation → List Answer) (os : List Operation) → AreFound all os → flat_map (gained_by f f all) os ≡ []
+gained_none : (all : List Operation) (f : Answering) (os : List Operation) → AreFound all os → flat_map (gained f f all) os ≡ []
 gained_none all f [] found = refl
 gained_none all f (o ∷ os) found =
-    ap (λ (x : Option Operation). map (λ answer. Add o.op answer) (without answer_eq (f o) (option_map_or f x [])) ++ flat_map (gained_by f f all) os) found.0
-    ∙ ap (λ us. map (λ answer. Add o.op answer) us ++ flat_map (gained_by f f all) os) (without-self (f o))
+    ap (λ (x : Option Operation). map (λ answer. Add o.op answer) (without answer_eq (f o) (option_map_or f x [])) ++ flat_map (gained f f all) os) found.0
+    ∙ ap (λ us. map (λ answer. Add o.op answer) us ++ flat_map (gained f f all) os) (without-self (f o))
     ∙ gained_none all f os found.1
 
 -- With the same operations and the same answers there is no change.
-pub items_by-same : (os : List Operation) (f : Operation → List Answer) → AreRising os → items_by f f None os os ≡ []
-items_by-same os f rising =
-    ap (λ xs. xs ++ flat_map (gained_by f f os) os) (lost_none os f os (are_found os rising)) ∙ gained_none os f os (are_found os rising)
+pub items_between-same : (os : List Operation) (f : Answering) → AreRising os → items_between f f None os os ≡ []
+unfolding items_between
+items_between-same os f rising =
+    ap (λ xs. xs ++ flat_map (gained f f os) os) (lost_none os f os (are_found os rising)) ∙ gained_none os f os (are_found os rising)

@@ -3,7 +3,6 @@ use Rattle.std.proofs.Common.{◌≡◌, ℕ, ◌+◌, ◌<◌, ◌≤◌, ◌==
 use Rattle.std.specs.Prelude.{filter, nat_lt}
 use Rattle.std.specs.List.{flat_map}
 use Rattle.std.specs.Option.{option_to_list, unwrap_or}
-use Rattle.sd_call.specs.declared.answer.Answer.{Answer}
 use Rattle.sd_call.specs.declared.item.Item.{Item}
 use Rattle.sd_call.specs.Answers.{frames_len}
 use Rattle.mdns_history.specs.declared.operation.Operation.{Operation}
@@ -19,14 +18,14 @@ use Rattle.mdns_history.specs.Outcomes.{early_outcome}
 use Rattle.mdns_history.specs.Fitting.{IsLegal}
 use Rattle.sd_sessions.specs.declared.change.SessionChange.{SessionChange}
 use Rattle.sd_sessions.specs.Sessions.{session_in, sessions_in}
-use Rattle.sd_sessions.specs.Changes.{passes}
-use Rattle.sd_sessions.specs.Settling.{called, cuts_of, gifts_of}
+use Rattle.sd_sessions.specs.Answered.{Answering}
+use Rattle.sd_sessions.specs.Changes.{items_between, passes}
+use Rattle.sd_sessions.specs.Settling.{called, change_for, cuts_of, gifts_of}
 use Rattle.sd_sessions.proofs.NumberLists.{has, has-filter, filter-same, filter-filter, filter-append, flat_map-same}
 use Rattle.sd_sessions.proofs.EntryParts.{noted_marks, entry_after}
 use Rattle.sd_sessions.proofs.Attached.{holds_legal, opens_alone, opened-number, attached-opened, attached-ended, attached-kept}
 use Rattle.sd_sessions.proofs.Brought.{change_items-marked, change_items-opened}
 use Rattle.sd_sessions.specs.Laws.{answers_in}
-use Rattle.sd_sessions.specs.Answered.{items_by, change_by}
 use Rattle.sd_sessions.proofs.Shape.{attached, brought_to, passes_now, marks-next, given-next}
 use Rattle.sd_sessions.proofs.Limits.{queue-within}
 use Rattle.sd_sessions.proofs.Operations.{operations_of-attached}
@@ -68,14 +67,14 @@ module _ (duties : Duties) (past : List Entry) (moment word : ℕ) (ev : Event) 
   early = early_outcome ev past
 
   -- the answers of operations before the entry, and with it
-  abbrev pub earlier_answers : Operation → List Answer
+  abbrev pub earlier_answers : Answering
   earlier_answers = answers_in past
 
-  abbrev pub later_answers : Operation → List Answer
+  abbrev pub later_answers : Answering
   later_answers = answers_in (entry_after duties past moment word ev ∷ past)
 
   abbrev pub change : ℕ → SessionChange
-  change n = change_by earlier_answers later_answers ev early (session_in past n)
+  change n = change_for ev early earlier_answers later_answers (session_in past n)
 
   -- whether a session that was attached stays so
   abbrev pub stays : ℕ → Bool
@@ -115,7 +114,7 @@ module _ (duties : Duties) (past : List Entry) (moment word : ℕ) (ev : Event) 
     pub brought-kept : (n : ℕ) → has n (attached_sessions past) ≡ true → is_cut n past ≡ false → is_number n (detached ev early) ≡ false → (change n).brought ≡ brought_to duties past moment word ev n
     brought-kept n h uncut undetached =
         let os : List Operation = operations_of n past in
-        let items : List Operation → List Item = λ after. items_by earlier_answers later_answers (reply_of n ev early) os after in
+        let items : List Operation → List Item = λ after. items_between earlier_answers later_answers (reply_of n ev early) os after in
         ap (λ b. cond (b || is_number n (detached ev early)) [] (items (unwrap_or (called (accepted_call ev early) n os) os))) uncut
         ∙ ap (λ b. cond b [] (items (unwrap_or (called (accepted_call ev early) n os) os))) undetached
         ∙ ap items (called-is (accepted_call ev early) n os ∙ sym (operations_of-attached duties past moment word ev n (stays-attached n h undetached)))
@@ -123,7 +122,7 @@ module _ (duties : Duties) (past : List Entry) (moment word : ℕ) (ev : Event) 
 
     -- nothing is brought to one that is cut or detached
     brought-none : (n : ℕ) → (is_cut n past || is_number n (detached ev early)) ≡ true → (change n).brought ≡ []
-    brought-none n h = ap (λ b. cond b [] (items_by earlier_answers later_answers (reply_of n ev early) (operations_of n past) (unwrap_or (called (accepted_call ev early) n (operations_of n past)) (operations_of n past)))) h
+    brought-none n h = ap (λ b. cond b [] (items_between earlier_answers later_answers (reply_of n ev early) (operations_of n past) (unwrap_or (called (accepted_call ev early) n (operations_of n past)) (operations_of n past)))) h
 
     -- a change cuts a session where it stays, isn't cut by now, and its queue would pass its limit
     pub cuts-kept : (n : ℕ) → has n (attached_sessions past) ≡ true → (change n).cuts ≡ (stays n && (not (is_cut n past) && passes_now duties past moment word ev n))
@@ -135,24 +134,24 @@ module _ (duties : Duties) (past : List Entry) (moment word : ℕ) (ev : Event) 
         of false e true f = ap (passes (queue n past)) (brought-none n (ap (λ b. b || is_number n (detached ev early)) e ∙ f)) ∙ none_passes n
         of false e false f = ap (passes (queue n past)) (brought-kept n h e f)
 
-    cuts_of-map : (ns : List ℕ) → cuts_of (map (change_by earlier_answers later_answers ev early) (map (session_in past) ns)) ≡ map (λ n. mark.Cut n) (filter (λ n. (change n).cuts) ns)
+    cuts_of-map : (ns : List ℕ) → cuts_of (map (change_for ev early earlier_answers later_answers) (map (session_in past) ns)) ≡ map (λ n. mark.Cut n) (filter (λ n. (change n).cuts) ns)
     cuts_of-map [] = refl
     cuts_of-map (n ∷ ns) = of (change n).cuts (cuts_of-map ns)
       where
         rest : List SessionChange
-        rest = map (change_by earlier_answers later_answers ev early) (map (session_in past) ns)
+        rest = map (change_for ev early earlier_answers later_answers) (map (session_in past) ns)
 
         of : (b : Bool) → cuts_of rest ≡ map (λ m. mark.Cut m) (filter (λ m. (change m).cuts) ns) →
             map (λ c. mark.Cut c.session) (cond b (change n ∷ filter (λ c. c.cuts) rest) (filter (λ c. c.cuts) rest)) ≡ map (λ m. mark.Cut m) (cond b (n ∷ filter (λ m. (change m).cuts) ns) (filter (λ m. (change m).cuts) ns))
         of true e = ap (λ zs. mark.Cut n ∷ zs) e
         of false e = e
 
-    gifts_of-map : (ns : List ℕ) → gifts_of (map (change_by earlier_answers later_answers ev early) (map (session_in past) ns)) ≡ flat_map (λ n. cond (not (change n).cuts) (map (given_to n) (change n).brought) []) ns
+    gifts_of-map : (ns : List ℕ) → gifts_of (map (change_for ev early earlier_answers later_answers) (map (session_in past) ns)) ≡ flat_map (λ n. cond (not (change n).cuts) (map (given_to n) (change n).brought) []) ns
     gifts_of-map [] = refl
     gifts_of-map (n ∷ ns) = of (not (change n).cuts) (gifts_of-map ns)
       where
         rest : List SessionChange
-        rest = map (change_by earlier_answers later_answers ev early) (map (session_in past) ns)
+        rest = map (change_for ev early earlier_answers later_answers) (map (session_in past) ns)
 
         of : (b : Bool) → gifts_of rest ≡ flat_map (λ m. cond (not (change m).cuts) (map (given_to m) (change m).brought) []) ns →
             flat_map (λ c. map (given_to c.session) c.brought) (cond b (change n ∷ filter (λ c. not c.cuts) rest) (filter (λ c. not c.cuts) rest))
@@ -193,7 +192,7 @@ module _ (duties : Duties) (past : List Entry) (moment word : ℕ) (ev : Event) 
 
     -- The marks are that of a refusal, those of the duties, and the cuts of the sessions' changes.
     pub marks-kept : (entry_after duties past moment word ev).marks
-        ≡ noted_marks duties past moment word ev ++ cuts_of (map (change_by earlier_answers later_answers ev early) (sessions_in past))
+        ≡ noted_marks duties past moment word ev ++ cuts_of (map (change_for ev early earlier_answers later_answers) (sessions_in past))
     marks-kept =
         let cutting : ℕ → Bool = λ n. not (is_cut n past) && passes_now duties past moment word ev n in
         let kept : List ℕ = filter stays (attached_sessions past) in
@@ -227,7 +226,7 @@ module _ (duties : Duties) (past : List Entry) (moment word : ℕ) (ev : Event) 
         of false e false f = ap (λ items. cond (not (passes (queue n past) items)) (map (given_to n) items) []) (sym (brought-kept n h e f))
 
     -- The entry gives what the sessions' changes bring.
-    pub given-kept : (entry_after duties past moment word ev).given ≡ gifts_of (map (change_by earlier_answers later_answers ev early) (sessions_in past))
+    pub given-kept : (entry_after duties past moment word ev).given ≡ gifts_of (map (change_for ev early earlier_answers later_answers) (sessions_in past))
     given-kept =
         let serving : ℕ → Bool = λ n. not (is_cut n past) && not (passes_now duties past moment word ev n) in
         let gifts : ℕ → List Given = λ n. map (given_to n) (brought_to duties past moment word ev n) in

@@ -6,9 +6,9 @@ use Rattle.std.specs.Option.{unwrap_or}
 use Rattle.std.proofs.lemmas.Bool.{and_from}
 use Rattle.std.proofs.lemmas.List.{map-append}
 use Rattle.std.proofs.lemmas.List.Folds.{list_all-append}
-use Rattle.dns_record.specs.declared.record.Rr.{Rr}
 use Rattle.mdns_history.specs.Sessions.{Accepted, is_number, after_request}
 use Rattle.mdns_happened.specs.Told.{Told, Taking}
+use Rattle.sd_sessions.specs.Answered.{Answering}
 use Rattle.sd_sessions.specs.Sessions.{Session}
 use Rattle.sd_sessions.specs.Settling.{called, change_told, all_settled, remaining_but, with_opened, shifted_told, taken_from, sessions_told}
 use Rattle.sd_sessions.specs.Kept.{numbers_of, AreKept, AreRising, HaveRising, IsNewIn, IsFresh, IsRising, IsWellFormedCall}
@@ -29,7 +29,7 @@ rising-called (Some call) session rising new = of (call.session == session.numbe
     of true e = rising_request session.number call.op call.request session.operations rising (new e)
     of false e = rising
 
-all_called : (told : Told) (earlier later : List Rr) (ss : List Session) → HaveRising ss → AllByRecursion (IsNewIn told.call) ss → AllByRecursion (HoldsCalled AreRising told earlier later) ss
+all_called : (told : Told) (earlier later : Answering) (ss : List Session) → HaveRising ss → AllByRecursion (IsNewIn told.call) ss → AllByRecursion (HoldsCalled AreRising told earlier later) ss
 all_called told earlier later [] rising new = tt
 all_called told earlier later (session ∷ ss) rising new = (rising-called told.call session rising.0 new.0, all_called told earlier later ss rising.1 new.1)
 
@@ -55,14 +55,14 @@ numbers-opened : (o : Option ℕ) (ss : List Session) → numbers_of (with_opene
 numbers-opened None ss = refl
 numbers-opened (Some n) ss = map-append (λ (s : Session). s.number) ss _
 
-numbers-settled : (told : Told) (earlier later : List Rr) (ss : List Session) → numbers_of (all_settled ss (map (change_told told earlier later) ss)) ≡ numbers_of ss
+numbers-settled : (told : Told) (earlier later : Answering) (ss : List Session) → numbers_of (all_settled ss (map (change_told told earlier later) ss)) ≡ numbers_of ss
 numbers-settled told earlier later [] = refl
 numbers-settled told earlier later (s ∷ ss) = ap (λ ns. s.number ∷ ns) (numbers-settled told earlier later ss)
 
 abbrev left : Told → List ℕ → List ℕ
 left told ns = filter (λ n. not (is_number n told.detached)) ns
 
-numbers-left : (told : Told) (earlier later : List Rr) (ss : List Session) →
+numbers-left : (told : Told) (earlier later : Answering) (ss : List Session) →
     numbers_of (sessions_told told.taking (shifted_told told ss (map (change_told told earlier later) ss))) ≡ with_number told.opened (left told (numbers_of ss))
 numbers-left told earlier later ss =
     numbers-told told.taking (shifted_told told ss (map (change_told told earlier later) ss))
@@ -85,7 +85,7 @@ within-with count (Some n) p ns within new =
     (all-more (λ m. nat_lt m n) (λ m. nat_le m n) (λ m h. grind arith) (filter p ns) (all-filter p (λ m. nat_lt m n) ns (new n refl))) (and_from (nat_le n n) true itself refl)
 
 -- What holds of the sessions holds of those that are left.
-pub kept-left : (told : Told) (earlier later : List Rr) (count : ℕ) (ss : List Session) → IsWellFormedCall told.call → IsFresh told ss → AreKept count ss →
+pub kept-left : (told : Told) (earlier later : Answering) (count : ℕ) (ss : List Session) → IsWellFormedCall told.call → IsFresh told ss → AreKept count ss →
     AreKept (unwrap_or told.opened count) (sessions_told told.taking (shifted_told told ss (map (change_told told earlier later) ss)))
 kept-left told earlier later count ss call new are =
     record {

@@ -18,12 +18,11 @@ use Rattle.mdns_history.specs.Fitting.{IsLegal}
 use Rattle.sd_sessions.specs.declared.change.SessionChange.{SessionChange}
 use Rattle.sd_sessions.specs.Sessions.{Session, session_in, sessions_in}
 use Rattle.sd_sessions.specs.Codes.{has_number}
-use Rattle.sd_sessions.specs.Settling.{settled, all_settled, remaining, opened_session, with_opened, handed_to}
+use Rattle.sd_sessions.specs.Settling.{change_for, settled, all_settled, remaining, opened_session, with_opened, handed_to}
 use Rattle.sd_sessions.proofs.NumberLists.{has, has-filter, map-same}
 use Rattle.sd_sessions.proofs.EntryParts.{marked, entry_after}
 use Rattle.sd_sessions.proofs.Attached.{holds_legal, is_attached-has, opened-number}
 use Rattle.sd_sessions.proofs.Brought.{operations_of-opened, change_items-opened}
-use Rattle.sd_sessions.specs.Answered.{change_by}
 use Rattle.sd_sessions.proofs.Shape.{brought_to, passes_now}
 use Rattle.sd_sessions.proofs.Queues.{begins_legal}
 use Rattle.sd_sessions.proofs.Takes.{is_take, outcome-take, handed_over-untaken}
@@ -66,7 +65,7 @@ module _ (duties : Duties) (past : List Entry) (moment word : ℕ) (ev : Event) 
   early = early_outcome ev past
 
   abbrev changes : List SessionChange
-  changes = map (change_by (earlier_answers duties past moment word ev) (later_answers duties past moment word ev) ev early) (sessions_in past)
+  changes = map (change_for ev early (earlier_answers duties past moment word ev) (later_answers duties past moment word ev)) (sessions_in past)
 
   -- the sessions that are kept, with their changes
   abbrev pub settled_sessions : List Session
@@ -76,7 +75,7 @@ module _ (duties : Duties) (past : List Entry) (moment word : ℕ) (ev : Event) 
   settled_one n = settled (session_in past n) (change duties past moment word ev n)
 
   pub settled_map : (ns : List ℕ) →
-      all_settled (map (session_in past) ns) (map (change_by (earlier_answers duties past moment word ev) (later_answers duties past moment word ev) ev early) (map (session_in past) ns)) ≡ map settled_one ns
+      all_settled (map (session_in past) ns) (map (change_for ev early (earlier_answers duties past moment word ev) (later_answers duties past moment word ev)) (map (session_in past) ns)) ≡ map settled_one ns
   settled_map [] = refl
   settled_map (n ∷ ns) = ap (λ zs. settled_one n ∷ zs) (settled_map ns)
 

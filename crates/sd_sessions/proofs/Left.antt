@@ -3,9 +3,9 @@ use Rattle.std.proofs.Common.{ℕ, Bool, true, false, cond, List, [], ◌∷◌,
 use Rattle.std.specs.Prelude.{filter, ◌==◌}
 use Rattle.std.specs.List.{AllByRecursion}
 use Rattle.std.specs.Option.{unwrap_or}
-use Rattle.dns_record.specs.declared.record.Rr.{Rr}
 use Rattle.mdns_history.specs.declared.operation.Operation.{Operation}
 use Rattle.mdns_happened.specs.Told.{Told, Taking}
+use Rattle.sd_sessions.specs.Answered.{Answering}
 use Rattle.sd_sessions.specs.Sessions.{Session}
 use Rattle.sd_sessions.specs.Settling.{called, change_told, all_settled, remaining_but, opened_session, with_opened, shifted_told, taken_from, sessions_told}
 
@@ -41,7 +41,7 @@ module _ (P : List Operation → Type 0) where
   handed None sessions all = all
   handed (Some taking) sessions all = taken taking.session taking.max sessions all
 
-  module _ (told : Told) (earlier later : List Rr) where
+  module _ (told : Told) (earlier later : Answering) where
     -- it holds of the operations that the event's call leaves to a session
     abbrev pub HoldsCalled : Session → Type 0
     HoldsCalled session = P (unwrap_or (called told.call session.number session.operations) session.operations)

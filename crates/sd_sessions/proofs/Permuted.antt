@@ -1,25 +1,21 @@
 -- Records in another order bring a session the same.
-use Rattle.std.proofs.Common.{◌≡◌, true, List, map, ◌∙◌, sym}
+use Rattle.std.proofs.Common.{◌≡◌, true, List, map}
 use Rattle.std.specs.List.Sorted.{IsPermutation}
 use Rattle.dns_record.specs.declared.record.Rr.{Rr}
-use Rattle.sd_call.specs.declared.answer.Answer.{Answer}
 use Rattle.sd_answer.specs.Laws.{have_data}
 use Rattle.sd_answer.proofs.Members.{order_free}
-use Rattle.mdns_history.specs.declared.operation.Operation.{Operation}
 use Rattle.mdns_history.specs.declared.event.Event.{Event}
 use Rattle.mdns_history.specs.declared.entry.Outcome.{Outcome}
+use Rattle.sd_sessions.specs.Answered.{Answering, over}
 use Rattle.sd_sessions.specs.Sessions.{Session}
 use Rattle.sd_sessions.specs.Settling.{change_for}
-use Rattle.sd_sessions.proofs.ChangesBy.{changes_for-are}
-use Rattle.sd_sessions.specs.Answered.{over, change_by}
 
-same_answers : (one other : List Rr) → have_data one ≡ true → IsPermutation one other → ◌≡◌ {A = Operation → List Answer} (over one) (over other)
-same_answers one other is_data moved = λ i o. order_free o.request one other is_data moved i
+-- The answers over records don't depend on their order.
+pub same-answers : (one other : List Rr) → have_data one ≡ true → IsPermutation one other → ◌≡◌ {A = Answering} (over one) (over other)
+same-answers one other is_data moved = λ i o. order_free o.request one other is_data moved i
 
 -- The changes of sessions don't depend on the order of the records before and after.
 pub changes-permuted : (ev : Event) (outcome : Outcome) (earlier later one other : List Rr) → have_data earlier ≡ true → have_data later ≡ true → IsPermutation earlier one → IsPermutation later other →
-    (sessions : List Session) → map (change_for ev outcome earlier later) sessions ≡ map (change_for ev outcome one other) sessions
+    (sessions : List Session) → map (change_for ev outcome (over earlier) (over later)) sessions ≡ map (change_for ev outcome (over one) (over other)) sessions
 changes-permuted ev outcome earlier later one other data_earlier data_later moved_earlier moved_later sessions =
-    changes_for-are ev outcome earlier later sessions
-    ∙ (λ i. map (change_by (same_answers earlier one data_earlier moved_earlier i) (same_answers later other data_later moved_later i) ev outcome) sessions)
-    ∙ sym (changes_for-are ev outcome one other sessions)
+    λ i. map (change_for ev outcome (same-answers earlier one data_earlier moved_earlier i) (same-answers later other data_later moved_later i)) sessions

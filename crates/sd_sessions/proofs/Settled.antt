@@ -1,9 +1,9 @@
 -- Settling the changes of sessions from the last one on.
 use Rattle.std.proofs.Common.{◌≡◌, ℕ, zero, suc, ◌+◌, ◌<◌, ◌≤◌, Bool, true, false, cond, ◌||◌, List, [], ◌∷◌, ◌++◌, map, take, length, get_or, set, Option, is_none, refl, ap, subst, ◌∙◌, sym, arith, add-one}
-use Rattle.dns_record.specs.declared.record.Rr.{Rr}
 use Rattle.sd_call.specs.declared.item.Item.{Item}
 use Rattle.mdns_history.specs.Sessions.{is_number}
 use Rattle.mdns_happened.specs.Told.{Told}
+use Rattle.sd_sessions.specs.Answered.{Answering}
 use Rattle.sd_sessions.specs.declared.session.SessionState.{SessionState}
 use Rattle.sd_sessions.specs.declared.change.SessionChange.{SessionChange}
 use Rattle.sd_sessions.specs.Sessions.{Session}
@@ -76,7 +76,7 @@ settle-last states before changes change i now d is at within room fit e =
     })
 
 -- The change of a session fits it.
-pub change_told-fits : (told : Told) (earlier later : List Rr) (session : Session) → IsFit session (change_told told earlier later session)
+pub change_told-fits : (told : Told) (earlier later : Answering) (session : Session) → IsFit session (change_told told earlier later session)
 change_told-fits told earlier later session = record { cuts = refl; cut = none }
   where
     of : (a b : Bool) (items : List Item) → a ≡ true → cond (a || b) [] items ≡ []
@@ -87,12 +87,12 @@ change_told-fits told earlier later session = record { cuts = refl; cut = none }
     none e = of session.cut (is_number session.number told.detached) _ e
 
 -- The changes of sessions fit them.
-pub changes_told-fit : (told : Told) (earlier later : List Rr) (sessions : List Session) → AreFit sessions (map (change_told told earlier later) sessions)
+pub changes_told-fit : (told : Told) (earlier later : Answering) (sessions : List Session) → AreFit sessions (map (change_told told earlier later) sessions)
 changes_told-fit told earlier later [] = tt
 changes_told-fit told earlier later (session ∷ sessions) = (change_told-fits told earlier later session, changes_told-fit told earlier later sessions)
 
 -- The changes that a plan has fit the sessions that it was made of.
-pub planned-fit : (told : Told) (earlier later : List Rr) (sessions : List Session) (changes : List SessionChange) →
+pub planned-fit : (told : Told) (earlier later : Answering) (sessions : List Session) (changes : List SessionChange) →
     changes ≡ map (change_told told earlier later) sessions → AreFit sessions changes
 planned-fit told earlier later sessions changes e = subst (AreFit sessions) (sym e) (changes_told-fit told earlier later sessions)
 

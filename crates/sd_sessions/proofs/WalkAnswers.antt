@@ -25,6 +25,7 @@ use Rattle.mdns_cache.specs.Lifetimes.{held_of}
 use Rattle.mdns_happened.specs.declared.walk.Walk.{Walk}
 use Rattle.mdns_happened.specs.Told.{Told}
 use Rattle.mdns_happened.specs.Walks.{is_for, walk_of, is_walked, AreWalks}
+use Rattle.sd_sessions.specs.Answered.{Answering, over}
 use Rattle.sd_sessions.specs.Changes.{had, lost, gained, items_between}
 use Rattle.sd_sessions.specs.Codes.{is_running}
 use Rattle.sd_sessions.specs.Settling.{rrs_of, called, brought_told}
@@ -73,14 +74,14 @@ of_name r question more held asked =
 
 module _ (held later : List Held) (walks : List Walk) (before : List Operation) (o : Operation) (seen : IsSeenOf held later walks before o) where
   -- what it had where it was there
-  had-there : (rrs : List Rr) → is_running o.op before ≡ true → had before rrs o.op ≡ answers_over o.request rrs
+  had-there : (rrs : List Rr) → is_running o.op before ≡ true → had (over rrs) before o.op ≡ answers_over o.request rrs
   had-there rrs runs = of (find (has_op o.op) before) seen.carried runs
     where
       of : (found : Option Operation) → IsCarried walks found o → is_some found ≡ true → option_map_or (λ operation. answers_over operation.request rrs) found [] ≡ answers_over o.request rrs
       of None walked e = absurd (cc)
       of (Some one) same e = same rrs
 
-  had-none : (rrs : List Rr) → is_running o.op before ≡ false → had before rrs o.op ≡ []
+  had-none : (rrs : List Rr) → is_running o.op before ≡ false → had (over rrs) before o.op ≡ []
   had-none rrs runs = of (find (has_op o.op) before) runs
     where
       of : (found : Option Operation) → is_some found ≡ false → option_map_or (λ operation. answers_over operation.request rrs) found [] ≡ []
@@ -88,16 +89,16 @@ module _ (held later : List Held) (walks : List Walk) (before : List Operation) 
       of (Some one) e = absurd (cc)
 
   -- a request without questions has no answers
-  pub same-unasked : keys_of o.request ≡ [] → had before (rrs_of held) o.op ≡ answers_over o.request (rrs_of later)
+  pub same-unasked : keys_of o.request ≡ [] → had (over (rrs_of held)) before o.op ≡ answers_over o.request (rrs_of later)
   same-unasked none = of (is_running o.op before) refl ∙ sym (nothing_unasked o.request (rrs_of later) none)
     where
-      of : (b : Bool) → is_running o.op before ≡ b → had before (rrs_of held) o.op ≡ []
+      of : (b : Bool) → is_running o.op before ≡ b → had (over (rrs_of held)) before o.op ≡ []
       of true e = had-there (rrs_of held) e ∙ nothing_unasked o.request (rrs_of held) none
       of false e = had-none (rrs_of held) e
 
   module _ (question : Key) (more : List Key) (asked : keys_of o.request ≡ question ∷ more) where
     -- an operation whose name was not walked has the answers that it had
-    pub same-unwalked : walk_of question.name walks ≡ None → had before (rrs_of held) o.op ≡ answers_over o.request (rrs_of later)
+    pub same-unwalked : walk_of question.name walks ≡ None → had (over (rrs_of held)) before o.op ≡ answers_over o.request (rrs_of later)
     same-unwalked none =
         of (find (has_op o.op) before) seen.carried
         ∙ sym (of_name o.request question more held asked) ∙ ap (λ (l : List Held). answers_over o.request (rrs_of l)) (sym (known.0 not_walked)) ∙ of_name o.request question more later asked
@@ -118,20 +119,20 @@ module _ (held later : List Held) (walks : List Walk) (before : List Operation) 
       pub has-walked : answers_over o.request (rrs_of walk.later.items) ≡ answers_over o.request (rrs_of later)
       has-walked = ap (λ (l : List Held). answers_over o.request (rrs_of l)) (walk-has held later question.name walks walk seen.walked found).1 ∙ of_name o.request question more later asked
 
-      pub had-walked : is_running o.op before ≡ true → answers_over o.request (rrs_of walk.earlier.items) ≡ had before (rrs_of held) o.op
+      pub had-walked : is_running o.op before ≡ true → answers_over o.request (rrs_of walk.earlier.items) ≡ had (over (rrs_of held)) before o.op
       had-walked runs =
           ap (λ (l : List Held). answers_over o.request (rrs_of l)) (walk-has held later question.name walks walk seen.walked found).0
           ∙ of_name o.request question more held asked ∙ sym (had-there (rrs_of held) runs)
 
-      pub new-walked : is_running o.op before ≡ false → [] ≡ had before (rrs_of held) o.op
+      pub new-walked : is_running o.op before ≡ false → [] ≡ had (over (rrs_of held)) before o.op
       new-walked runs = sym (had-none (rrs_of held) runs)
 
 -- by the walk that is found for the questions, or not
 module _ (held later : List Held) (walks : List Walk) (before : List Operation) (o : Operation) (seen : IsSeenOf held later walks before o) where
-  pub same-apart : walk_for (keys_of o.request) walks ≡ None → had before (rrs_of held) o.op ≡ answers_over o.request (rrs_of later)
+  pub same-apart : walk_for (keys_of o.request) walks ≡ None → had (over (rrs_of held)) before o.op ≡ answers_over o.request (rrs_of later)
   same-apart none = of (keys_of o.request) refl none
     where
-      of : (keys : List Key) → keys_of o.request ≡ keys → walk_for keys walks ≡ None → had before (rrs_of held) o.op ≡ answers_over o.request (rrs_of later)
+      of : (keys : List Key) → keys_of o.request ≡ keys → walk_for keys walks ≡ None → had (over (rrs_of held)) before o.op ≡ answers_over o.request (rrs_of later)
       of [] e f = same-unasked held later walks before o seen e
       of (question ∷ more) e f = same-unwalked held later walks before o seen question more e f
 
@@ -143,15 +144,15 @@ module _ (held later : List Held) (walks : List Walk) (before : List Operation) 
         of [] e f = absurd (cc)
         of (question ∷ more) e f = has-walked held later walks before o seen question more e walk f
 
-    pub had-found : cond (is_running o.op before) (answers_over o.request (rrs_of walk.earlier.items)) [] ≡ had before (rrs_of held) o.op
+    pub had-found : cond (is_running o.op before) (answers_over o.request (rrs_of walk.earlier.items)) [] ≡ had (over (rrs_of held)) before o.op
     had-found = of (keys_of o.request) refl found
       where
         at : (question : Key) (more : List Key) → keys_of o.request ≡ question ∷ more → walk_of question.name walks ≡ Some walk → (b : Bool) → is_running o.op before ≡ b →
-            cond b (answers_over o.request (rrs_of walk.earlier.items)) [] ≡ had before (rrs_of held) o.op
+            cond b (answers_over o.request (rrs_of walk.earlier.items)) [] ≡ had (over (rrs_of held)) before o.op
         at question more e f true runs = had-walked held later walks before o seen question more e walk f runs
         at question more e f false runs = new-walked held later walks before o seen question more e walk f runs
 
-        of : (keys : List Key) → keys_of o.request ≡ keys → walk_for keys walks ≡ Some walk → cond (is_running o.op before) (answers_over o.request (rrs_of walk.earlier.items)) [] ≡ had before (rrs_of held) o.op
+        of : (keys : List Key) → keys_of o.request ≡ keys → walk_for keys walks ≡ Some walk → cond (is_running o.op before) (answers_over o.request (rrs_of walk.earlier.items)) [] ≡ had (over (rrs_of held)) before o.op
         of [] e f = absurd (cc)
         of (question ∷ more) e f = at question more e f (is_running o.op before) refl
 
@@ -170,35 +171,35 @@ pub without-same : (one other : List Answer) → one ≡ other → without answe
 without-same one other same = ap (λ (l : List Answer). without answer_eq one l) (sym same) ∙ none_without one one (λ test e. e)
 
 -- An operation that has the answers that it had loses and gains nothing.
-none-lost : (before : List Operation) (earlier later : List Rr) (o : Operation) → had before earlier o.op ≡ answers_over o.request later → lost before earlier later o ≡ []
-none-lost before earlier later o same = ap (map (λ answer. Remove o.op answer)) (without-same (had before earlier o.op) (answers_over o.request later) same)
+none-lost : (before : List Operation) (earlier later : Answering) (o : Operation) → had earlier before o.op ≡ later o → lost earlier later before o ≡ []
+none-lost before earlier later o same = ap (map (λ answer. Remove o.op answer)) (without-same (had earlier before o.op) (later o) same)
 
-none-gained : (before : List Operation) (earlier later : List Rr) (o : Operation) → had before earlier o.op ≡ answers_over o.request later → gained before earlier later o ≡ []
-none-gained before earlier later o same = ap (map (λ answer. Add o.op answer)) (without-same (answers_over o.request later) (had before earlier o.op) (sym same))
+none-gained : (before : List Operation) (earlier later : Answering) (o : Operation) → had earlier before o.op ≡ later o → gained earlier later before o ≡ []
+none-gained before earlier later o same = ap (map (λ answer. Add o.op answer)) (without-same (later o) (had earlier before o.op) (sym same))
 
 -- Where nothing was walked nothing is lost and gained.
-same_all : (held later : List Held) (before : List Operation) (o : Operation) → IsSeenOf held later [] before o → had before (rrs_of held) o.op ≡ answers_over o.request (rrs_of later)
+same_all : (held later : List Held) (before : List Operation) (o : Operation) → IsSeenOf held later [] before o → had (over (rrs_of held)) before o.op ≡ answers_over o.request (rrs_of later)
 same_all held later before o seen = of (keys_of o.request) refl
   where
-    of : (keys : List Key) → keys_of o.request ≡ keys → had before (rrs_of held) o.op ≡ answers_over o.request (rrs_of later)
+    of : (keys : List Key) → keys_of o.request ≡ keys → had (over (rrs_of held)) before o.op ≡ answers_over o.request (rrs_of later)
     of [] e = same-unasked held later [] before o seen e
     of (question ∷ more) e = same-unwalked held later [] before o seen question more e refl
 
 pub lost-concerned : (held later : List Held) (walks : List Walk) (before os : List Operation) → AllByRecursion (IsSeenOf held later walks before) os →
-    flat_map (lost before (rrs_of held) (rrs_of later)) (concerned walks os) ≡ flat_map (lost before (rrs_of held) (rrs_of later)) os
+    flat_map (lost (over (rrs_of held)) (over (rrs_of later)) before) (concerned walks os) ≡ flat_map (lost (over (rrs_of held)) (over (rrs_of later)) before) os
 lost-concerned held later (walk ∷ walks) before os seen = refl
 lost-concerned held later [] before [] seen = refl
 lost-concerned held later [] before (o ∷ os) seen =
     lost-concerned held later [] before os seen.1
-    ∙ ap (λ (l : List Item). l ++ flat_map (lost before (rrs_of held) (rrs_of later)) os) (sym (none-lost before (rrs_of held) (rrs_of later) o (same_all held later before o seen.0)))
+    ∙ ap (λ (l : List Item). l ++ flat_map (lost (over (rrs_of held)) (over (rrs_of later)) before) os) (sym (none-lost before (over (rrs_of held)) (over (rrs_of later)) o (same_all held later before o seen.0)))
 
 pub gained-concerned : (held later : List Held) (walks : List Walk) (before os : List Operation) → AllByRecursion (IsSeenOf held later walks before) os →
-    flat_map (gained before (rrs_of held) (rrs_of later)) (concerned walks os) ≡ flat_map (gained before (rrs_of held) (rrs_of later)) os
+    flat_map (gained (over (rrs_of held)) (over (rrs_of later)) before) (concerned walks os) ≡ flat_map (gained (over (rrs_of held)) (over (rrs_of later)) before) os
 gained-concerned held later (walk ∷ walks) before os seen = refl
 gained-concerned held later [] before [] seen = refl
 gained-concerned held later [] before (o ∷ os) seen =
     gained-concerned held later [] before os seen.1
-    ∙ ap (λ (l : List Item). l ++ flat_map (gained before (rrs_of held) (rrs_of later)) os) (sym (none-gained before (rrs_of held) (rrs_of later) o (same_all held later before o seen.0)))
+    ∙ ap (λ (l : List Item). l ++ flat_map (gained (over (rrs_of held)) (over (rrs_of later)) before) os) (sym (none-gained before (over (rrs_of held)) (over (rrs_of later)) o (same_all held later before o seen.0)))
 
 pub all-concerned : (P : Operation → Type 0) (walks : List Walk) (os : List Operation) → AllByRecursion P os → AllByRecursion P (concerned walks os)
 all-concerned P [] os all = tt
@@ -207,21 +208,21 @@ all-concerned P (walk ∷ walks) os all = all
 -- What is put for the operations that walks concern is what a session is brought.
 pub items-assembled : (held later : List Held) (walks : List Walk) (before after ops : List Operation) (n : ℕ) (reply : Option Item) (start brought adds items : List Item) →
     ops ≡ concerned walks after → start ≡ option_to_list reply → take n ops ≡ ops → items ≡ brought ++ adds → AllByRecursion (IsSeenOf held later walks before) after →
-    (AllByRecursion (IsSeenOf held later walks before) ops → brought ≡ start ++ flat_map (lost before (rrs_of held) (rrs_of later)) (take n ops)) →
-    (AllByRecursion (IsSeenOf held later walks before) ops → adds ≡ flat_map (gained before (rrs_of held) (rrs_of later)) (take n ops)) →
-    items ≡ items_between reply before after (rrs_of held) (rrs_of later)
+    (AllByRecursion (IsSeenOf held later walks before) ops → brought ≡ start ++ flat_map (lost (over (rrs_of held)) (over (rrs_of later)) before) (take n ops)) →
+    (AllByRecursion (IsSeenOf held later walks before) ops → adds ≡ flat_map (gained (over (rrs_of held)) (over (rrs_of later)) before) (take n ops)) →
+    items ≡ items_between (over (rrs_of held)) (over (rrs_of later)) reply before after
 unfolding items_between
 items-assembled held later walks before after ops n reply start brought adds items are begins whole joined seen removes gains =
     joined ∙ (λ i. removes concerned_seen i ++ gains concerned_seen i)
-    ∙ (λ i. (begins i ++ flat_map (lost before (rrs_of held) (rrs_of later)) ((whole ∙ are) i)) ++ flat_map (gained before (rrs_of held) (rrs_of later)) ((whole ∙ are) i))
+    ∙ (λ i. (begins i ++ flat_map (lost (over (rrs_of held)) (over (rrs_of later)) before) ((whole ∙ are) i)) ++ flat_map (gained (over (rrs_of held)) (over (rrs_of later)) before) ((whole ∙ are) i))
     ∙ (λ i. (option_to_list reply ++ lost-concerned held later walks before after seen i) ++ gained-concerned held later walks before after seen i)
   where
     concerned_seen : AllByRecursion (IsSeenOf held later walks before) ops
     concerned_seen = subst (AllByRecursion (IsSeenOf held later walks before)) (sym are) (all-concerned (IsSeenOf held later walks before) walks after seen)
 
 -- a session that isn't cut or ended is brought what its operations change
-pub brought-uncut : (told : Told) (earlier later : List Rr) (session : Session) (items : List Item) → (session.cut || is_number session.number told.detached) ≡ false →
-    items ≡ items_between (told.reply session.number) session.operations (unwrap_or (called told.call session.number session.operations) session.operations) earlier later →
+pub brought-uncut : (told : Told) (earlier later : Answering) (session : Session) (items : List Item) → (session.cut || is_number session.number told.detached) ≡ false →
+    items ≡ items_between earlier later (told.reply session.number) session.operations (unwrap_or (called told.call session.number session.operations) session.operations) →
     items ≡ brought_told told earlier later session
 brought-uncut told earlier later session items uncut same =
-    same ∙ sym (ap (λ (b : Bool). cond b [] (items_between (told.reply session.number) session.operations (unwrap_or (called told.call session.number session.operations) session.operations) earlier later)) uncut)
+    same ∙ sym (ap (λ (b : Bool). cond b [] (items_between earlier later (told.reply session.number) session.operations (unwrap_or (called told.call session.number session.operations) session.operations))) uncut)

@@ -1,8 +1,6 @@
 -- What one entry makes of the sessions, for every legal history and any duties.
 use Rattle.std.specs.Prelude.{◌≡◌, ℕ, false, List, ◌∷◌, ◌++◌, map}
 use Rattle.std.specs.Option.{unwrap_or}
-use Rattle.sd_call.specs.declared.answer.Answer.{Answer}
-use Rattle.mdns_history.specs.declared.operation.Operation.{Operation}
 use Rattle.mdns_history.specs.declared.event.Event.{Event}
 use Rattle.mdns_history.specs.declared.entry.Outcome.{Outcome}
 use Rattle.mdns_history.specs.declared.entry.Entry.{Entry}
@@ -13,16 +11,16 @@ use Rattle.mdns_history.specs.Outcomes.{early_outcome}
 use Rattle.mdns_history.specs.Fitting.{bare_entry, event_marks, next_entry, is_boot, IsLegal}
 use Rattle.sd_sessions.specs.declared.change.SessionChange.{SessionChange}
 use Rattle.sd_sessions.specs.Sessions.{State, Stands}
-use Rattle.sd_sessions.specs.Settling.{cuts_of, gifts_of, shifted, outcome_then, sessions_after}
-use Rattle.sd_sessions.specs.Answered.{change_by}
+use Rattle.sd_sessions.specs.Answered.{Answering}
+use Rattle.sd_sessions.specs.Settling.{change_for, cuts_of, gifts_of, shifted, outcome_then, sessions_after}
 
 -- the answers of operations in a history
-abbrev pub answers_in : List Entry → Operation → List Answer
-answers_in history operation = answers operation history
+abbrev pub answers_in : List Entry → Answering
+answers_in history = λ operation. answers operation history
 
 -- the changes of sessions that stand for a history, by the answers that operations have in it and with the next entry
 abbrev pub changes_with : Entry → List Entry → Event → State → List SessionChange
-changes_with entry past event state = map (change_by (answers_in past) (answers_in (entry ∷ past)) event (early_outcome event past)) state.sessions
+changes_with entry past event state = map (change_for event (early_outcome event past) (answers_in past) (answers_in (entry ∷ past))) state.sessions
 
 -- sessions after an event with its outcome, and with their changes
 abbrev pub carried_on : Event → Outcome → List SessionChange → State → State

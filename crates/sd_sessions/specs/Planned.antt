@@ -1,18 +1,18 @@
 -- What a plan says, and that there is room for it.
 use Rattle.std.specs.Prelude.{◌≡◌, ◌<◌, ◌≤◌, true, List, [], map, vec_capacity}
 use Rattle.std.specs.Option.{is_some}
-use Rattle.dns_record.specs.declared.record.Rr.{Rr}
 use Rattle.mdns_history.specs.declared.event.Event.{Event}
 use Rattle.mdns_history.specs.declared.mark.Mark.{Mark}
 use Rattle.mdns_happened.specs.Told.{Told, told_of}
 use Rattle.sd_sessions.specs.Codes.{kept_outcome}
 use Rattle.sd_sessions.specs.declared.sessions.Plan.{Plan}
 use Rattle.sd_sessions.specs.Sessions.{Session, State}
+use Rattle.sd_sessions.specs.Answered.{Answering}
 use Rattle.sd_sessions.specs.Settling.{change_told, most_taken}
 use Rattle.sd_sessions.specs.Kept.{HasRoom, IsFresh, IsWellFormedCall}
 
--- A plan is of what happened to these sessions, between the records before it and those after it.
-pub record IsPlan (told : Told) (earlier later : List Rr) (sessions : List Session) (plan : Plan) : Type 0 where
+-- A plan is of what happened to these sessions, where their operations have these answers before it and after it.
+pub record IsPlan (told : Told) (earlier later : Answering) (sessions : List Session) (plan : Plan) : Type 0 where
   pub changes : plan.changes.items ≡ map (change_told told earlier later) sessions
   pub call : IsWellFormedCall told.call
   pub fresh : IsFresh told sessions
@@ -28,6 +28,6 @@ pub record IsReady (told : Told) (plan : Plan) (state : State) : Type 0 where
 abbrev pub IsTold : Told → State → Type 0
 IsTold told state = (event : Event) × (marks : List Mark) × (told ≡ told_of event (kept_outcome state.opened state.sessions event) marks)
 
--- A plan is of what happened to these sessions, between some records before it and after it.
+-- A plan is of what happened to these sessions, by some answers before it and after it.
 abbrev pub IsAnyPlan : Told → List Session → Plan → Type 0
-IsAnyPlan told sessions plan = (earlier : List Rr) × (later : List Rr) × IsPlan told earlier later sessions plan
+IsAnyPlan told sessions plan = (earlier : Answering) × (later : Answering) × IsPlan told earlier later sessions plan

@@ -13,12 +13,13 @@ use Rattle.mdns_history.specs.declared.entry.Outcome.{Outcome}
 use Rattle.mdns_history.specs.declared.entry.Outcome.TheVariants as outcome
 use Rattle.mdns_history.specs.declared.held.Held.{Held}
 use Rattle.mdns_history.specs.Outcomes.{items_or_empty}
-use Rattle.mdns_history.specs.Sessions.{Accepted, after_request, detached, is_number}
+use Rattle.mdns_history.specs.Sessions.{Accepted, accepted_call, after_request, detached, is_number}
 use Rattle.mdns_history.specs.Items.{given_to}
 use Rattle.mdns_happened.specs.Told.{Told, Taking, taking_of, told_of}
 use Rattle.sd_sessions.specs.declared.change.SessionChange.{SessionChange}
 use Rattle.sd_sessions.specs.Sessions.{Session}
 use Rattle.sd_sessions.specs.Codes.{has_number}
+use Rattle.sd_sessions.specs.Answered.{Answering}
 use Rattle.sd_sessions.specs.Changes.{items_between, passes}
 
 -- the records of what is held
@@ -36,15 +37,19 @@ called None number operations = None
 called (Some call) number operations =
     if call.session == number then Some (after_request number call.op call.request operations) else None
 
--- what a session has of an event, told of the records before and after it
-abbrev pub brought_told : Told → List Rr → List Rr → Session → List Item
+-- the operations of a session after an event with its outcome
+abbrev pub operations_then : Event → Outcome → Session → List Operation
+operations_then event outcome session = unwrap_or (called (accepted_call event outcome) session.number session.operations) session.operations
+
+-- what a session has of an event, told of the answers before and after it
+abbrev pub brought_told : Told → Answering → Answering → Session → List Item
 brought_told told earlier later session =
     if session.cut || is_number session.number told.detached then []
-    else items_between (told.reply session.number) session.operations
-    (unwrap_or (called told.call session.number session.operations) session.operations) earlier later
+    else items_between earlier later (told.reply session.number) session.operations
+    (unwrap_or (called told.call session.number session.operations) session.operations)
 
 -- the change of a session: its new operations, what it is brought, and whether that would pass the limit of its queue
-abbrev pub change_told : Told → List Rr → List Rr → Session → SessionChange
+abbrev pub change_told : Told → Answering → Answering → Session → SessionChange
 change_told told earlier later session =
     record {
       session = session.number;
@@ -54,11 +59,11 @@ change_told told earlier later session =
     }
 
 -- what a session has of an event with its outcome
-abbrev pub brought_to : Event → Outcome → List Rr → List Rr → Session → List Item
+abbrev pub brought_to : Event → Outcome → Answering → Answering → Session → List Item
 brought_to event outcome earlier later session = brought_told (told_of event outcome []) earlier later session
 
 -- the change of a session by an event with its outcome
-abbrev pub change_for : Event → Outcome → List Rr → List Rr → Session → SessionChange
+abbrev pub change_for : Event → Outcome → Answering → Answering → Session → SessionChange
 change_for event outcome earlier later session = change_told (told_of event outcome []) earlier later session
 
 -- the marks of the sessions that are cut

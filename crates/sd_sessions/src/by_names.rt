@@ -13,6 +13,7 @@ ghost use Rattle.mdns_history.specs.Answers.{answers_over};
 ghost use Rattle.mdns_history.specs.Questions.{keys_of};
 ghost use Rattle.mdns_history.specs.Sessions.{is_number};
 ghost use Rattle.mdns_happened.specs.Told.{told_by};
+ghost use Rattle.sd_sessions.specs.Answered.{over};
 ghost use Rattle.sd_sessions.specs.Changes.{had, items_between};
 ghost use Rattle.sd_sessions.specs.Codes.{is_running};
 ghost use Rattle.sd_sessions.specs.Settling.{called, brought_told, change_told, rrs_of};
@@ -47,7 +48,7 @@ pub fn changes_by_names(
     requires operations { HaveWellFormed (sessions_of sessions.now) }
     requires call { IsWellFormedCall (told_by happened.now).call }
     ensures { IfOk result (λ changes. (held later : List Held) → AllByRecursion (IsSeen (told_by happened.now) held later walks.now) (sessions_of sessions.now)
-        → changes.items ≡ map (change_told (told_by happened.now) (rrs_of held) (rrs_of later)) (sessions_of sessions.now)) }
+        → changes.items ≡ map (change_told (told_by happened.now) (over (rrs_of held)) (over (rrs_of later))) (sessions_of sessions.now)) }
 {
     let mut changes = Vec::new(alloc);
     for session in sessions {
@@ -65,7 +66,7 @@ fn change_by_names(
     requires operations { AreWellFormed session.now.operations }
     requires call { IsWellFormedCall (told_by happened.now).call }
     ensures { IfOk result (λ change. (held later : List Held) → IsSeen (told_by happened.now) held later walks.now (session_of session.now)
-        → change ≡ change_told (told_by happened.now) (rrs_of held) (rrs_of later) (session_of session.now)) }
+        → change ≡ change_told (told_by happened.now) (over (rrs_of held)) (over (rrs_of later)) (session_of session.now)) }
 {
     let operations = called(alloc, session, happened)?;
     let after = or_own(&operations, &session.operations);
@@ -90,7 +91,7 @@ fn bring_by_names(
     requires { AreWellFormed after.now }
     ensures { IfOk result (λ items. (held later : List Held) → IsSeen (told_by happened.now) held later walks.now (session_of session.now)
         → after.now ≡ unwrap_or (called (told_by happened.now).call session.now.number session.now.operations) session.now.operations
-        → items ≡ brought_told (told_by happened.now) (rrs_of held) (rrs_of later) (session_of session.now)) }
+        → items ≡ brought_told (told_by happened.now) (over (rrs_of held)) (over (rrs_of later)) (session_of session.now)) }
 {
     if gets_nothing(session, happened) {
         return Ok(Items::new(alloc));
@@ -118,7 +119,7 @@ fn items_by_names(
 ) -> Result<Items, AllocError>
     requires { AreWellFormed after.now }
     ensures { IfOk result (λ items. (held later : List Held) → AllByRecursion (IsSeenOf held later walks.now before.now) after.now
-        → items ≡ items_between reply before.now after.now (rrs_of held) (rrs_of later)) }
+        → items ≡ items_between (over (rrs_of held)) (over (rrs_of later)) reply before.now after.now) }
 {
     let mut brought = replied(alloc, reply)?;
     let mut adds = Items::new(alloc);
@@ -181,7 +182,7 @@ fn compare_answers(
 ) -> Result<Option<Compared>, AllocError>
     requires { IsTrue (well_formed operation.now.request) }
     ensures value { IfOk result (λ found. (held later : List Held) → IsSeenOf held later walks.now before.now operation.now
-        → IsCompared found (had before.now (rrs_of held) operation.now.op) (answers_over operation.now.request (rrs_of later))) }
+        → IsCompared found (had (over (rrs_of held)) before.now operation.now.op) (over (rrs_of later) operation.now)) }
     ensures sorted { IfOk result (λ found. IfSome found (λ compared. IsInOrder compared)) }
 {
     let questions = questions_of(&operation.request);

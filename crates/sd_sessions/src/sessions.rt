@@ -6,6 +6,7 @@ ghost use Rattle.mdns_history.specs.declared.held.Held.{Held};
 ghost use Rattle.mdns_cache.specs.Ended.{is_among};
 ghost use Rattle.mdns_happened.specs.Told.{told_of, told_by};
 ghost use Rattle.mdns_happened.specs.Walks.{AreWalks};
+ghost use Rattle.sd_sessions.specs.Answered.{over};
 ghost use Rattle.sd_sessions.specs.Codes.{call_outcome_of, has_number};
 ghost use Rattle.sd_sessions.specs.Settling.{cuts_of, gifts_of, most_taken, outcome_told, rrs_of, sessions_told, shifted_told};
 ghost use Rattle.sd_sessions.specs.Kept.{operations_in, session_of, sessions_of, AreFit, AreWellFormed, HaveRoom, IsWellFormedCall};
@@ -155,7 +156,7 @@ impl Sessions {
     pub fn plan(&self, happened: &Happened<'_>, walks: &[Walk]) -> Result<Plan, AllocError>
         requires { IsTold (told_by happened.now) self.now }
         ensures { IfOk result (λ plan. (held later : List Held) → AreWalks held later walks.now → AreKnown held later walks.now self.now.sessions
-            → IsCallWalked walks.now (told_by happened.now).call → IsPlan (told_by happened.now) (rrs_of held) (rrs_of later) self.now.sessions plan) }
+            → IsCallWalked walks.now (told_by happened.now).call → IsPlan (told_by happened.now) (over (rrs_of held)) (over (rrs_of later)) self.now.sessions plan) }
     {
         let changes = changes_by_names(self.alloc, &self.attached, happened, walks)?;
         let taken = room_to_take(self.alloc, happened)?;

@@ -40,7 +40,7 @@ use Rattle.mdns_core.proofs.asking.AskedFor.{marks-asked, sends-asked}
 use Rattle.mdns_core.proofs.asking.AskedAfter.{asking-next}
 use Rattle.mdns_asking.proofs.Timed.{stands_timed}
 use Rattle.mdns_core.proofs.step.WithoutHost.{rrs_of as live_rrs, hostless-next, outcome-kept, changes-kept}
-use Rattle.sd_sessions.specs.Answered.{change_by}
+use Rattle.sd_sessions.specs.Answered.{over}
 use Rattle.sd_sessions.specs.Laws.{answers_in}
 use Rattle.sd_sessions.proofs.KeptChanges.{marks-kept, given-kept}
 use Rattle.sd_sessions.proofs.Permuted.{changes-permuted}
@@ -58,7 +58,7 @@ module _ (history : List Entry) (moment word : ℕ) (ev : Event) where
   early = early_outcome ev history
 
   abbrev changes : List SessionChange
-  changes = map (change_by (answers_in history) (answers_in (entry_after history moment word ev ∷ history)) ev early) (sessions_in history)
+  changes = map (change_for ev early (answers_in history) (answers_in (entry_after history moment word ev ∷ history))) (sessions_in history)
 
   abbrev then_sessions : Outcome → List SessionChange → List Session
   then_sessions o cs = with_opened (opened o) (remaining ev o (all_settled (sessions_in history) cs))
@@ -95,7 +95,7 @@ module _ (history : List Entry) (moment word : ℕ) (ev : Event) where
       records-after = subst (λ m. IsPermutation after (live_records (entry_after history moment word ev ∷ history) m)) (sym moment-is)
           (subst (λ live. IsPermutation after live) (records-is history moment word ev) heard.records)
 
-      changes-are : map (change_for ev early (rrs_of before) (rrs_of after)) (sessions_in history) ≡ changes
+      changes-are : map (change_for ev early (over (rrs_of before)) (over (rrs_of after))) (sessions_in history) ≡ changes
       changes-are =
           changes-permuted ev early (rrs_of before) (rrs_of after) (live_rrs history) (live_rrs (entry_after history moment word ev ∷ history)) data_before data_after
           (IsPermutation-map (λ one. one.rr) before (live_records history (now history)) held)
@@ -111,7 +111,7 @@ module _ (history : List Entry) (moment word : ℕ) (ev : Event) where
           let marks : List Mark = map mark_of asked in
           let sent : List Sent = sent_for after moment ev asked in
           let refused : List Mark = refusal_marks (bare history moment word ev) history ev in
-          ap (λ o. entry_with o (map (change_for ev o (rrs_of before) (rrs_of after)) (sessions_in history)) refusal marks sent) kept-early
+          ap (λ o. entry_with o (map (change_for ev o (over (rrs_of before)) (over (rrs_of after))) (sessions_in history)) refusal marks sent) kept-early
           ∙ ap (λ cs. entry_with early cs refusal marks sent) changes-are
           ∙ ap (λ r. entry_with early changes r marks sent) (heard.refused ∙ refusal-is history moment word ev)
           ∙ ap (λ ms. entry_with early changes refused ms sent) (marks-asked history moment word questions before after refusal questions_stand ev heard)
@@ -120,7 +120,7 @@ module _ (history : List Entry) (moment word : ℕ) (ev : Event) where
 
       sessions-are : sessions_after ev (sessions_then state ev (changes_for state ev after)) ≡ sessions_in (entry_after history moment word ev ∷ history)
       sessions-are =
-          ap (λ o. sessions_after ev (then_sessions o (map (change_for ev o (rrs_of before) (rrs_of after)) (sessions_in history)))) kept-early
+          ap (λ o. sessions_after ev (then_sessions o (map (change_for ev o (over (rrs_of before)) (over (rrs_of after))) (sessions_in history)))) kept-early
           ∙ ap (λ cs. sessions_after ev (then_sessions early cs)) changes-are
           ∙ sym (sessions-is in_force history moment word ev legal no_boot)
 

@@ -33,8 +33,8 @@ use Rattle.sd_sessions.specs.Codes.{is_running, refers_to_none, is_foreign, kept
 use Rattle.sd_sessions.specs.Settling.{change_for}
 use Rattle.mdns_core.proofs.step.Stage.{entry_after, entry_is}
 use Rattle.mdns_core.proofs.step.Hostless.{is_plain, IsPlain, IsPlain-cons, plain_after, plain_early, plain_next, host_of-cons, IsPlain-legal}
-use Rattle.sd_sessions.proofs.ChangesBy.{changes_for-are, AllThen, changes-same}
-use Rattle.sd_sessions.specs.Answered.{over, change_by}
+use Rattle.sd_sessions.proofs.ChangesBy.{AllThen, changes-same}
+use Rattle.sd_sessions.specs.Answered.{over}
 use Rattle.sd_sessions.specs.Laws.{answers_in}
 use Rattle.sd_sessions.proofs.KeptChanges.{called-is}
 use Rattle.sd_sessions.proofs.KeptOutcome.{early_outcome-is}
@@ -187,10 +187,9 @@ module _ (past : List Entry) (legal : IsLegal in_force past) (hostless : host_of
       of false e = refl
 
   -- The changes of the sessions are those over the live records before the entry and with it.
-  pub changes-kept : map (change_for ev early (rrs_of past) (rrs_of longer)) (sessions_in past) ≡ map (change_by (answers_in past) (answers_in longer) ev early) (sessions_in past)
+  pub changes-kept : map (change_for ev early (over (rrs_of past)) (over (rrs_of longer))) (sessions_in past) ≡ map (change_for ev early (answers_in past) (answers_in longer)) (sessions_in past)
   changes-kept =
-      changes_for-are ev early (rrs_of past) (rrs_of longer) (sessions_in past)
-      ∙ changes-same is_plain (over (rrs_of past)) (over (rrs_of longer)) (answers_in past) (answers_in longer)
+      changes-same is_plain (over (rrs_of past)) (over (rrs_of longer)) (answers_in past) (answers_in longer)
       (λ o h. sym (answers-plain o past plain.no_groups (unregistered_by o h))) (λ o h. sym (answers-plain o longer plain-next.no_groups (unregistered_by o h)))
       ev early (sessions_in past) (plain_then (attached_sessions past))
 

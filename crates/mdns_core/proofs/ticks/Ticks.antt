@@ -20,17 +20,16 @@ use Rattle.mdns_history.specs.Items.{given_to, queue}
 use Rattle.mdns_history.specs.Outcomes.{early_outcome}
 use Rattle.mdns_history.specs.Fitting.{IsLegal}
 use Rattle.mdns_history.specs.Due.{is_nothing, settles_none, ends_none, is_idle}
-use Rattle.sd_sessions.specs.Changes.{passes}
+use Rattle.sd_sessions.specs.Changes.{items_between, passes}
 use Rattle.sd_sessions.proofs.NumberLists.{filter-same, flat_map-same}
 use Rattle.sd_sessions.proofs.EntryParts.{marked}
 use Rattle.mdns_core.proofs.step.Stage.{entry_after, entry_is, marks_are, sent-next}
-use Rattle.sd_sessions.specs.Answered.{items_by}
 use Rattle.sd_sessions.proofs.Brought.{change_items-marked}
 use Rattle.sd_sessions.specs.Laws.{answers_in}
 use Rattle.sd_sessions.proofs.Shape.{attached, brought_to, passes_now, marks-next, given-next}
 use Rattle.sd_sessions.proofs.Operations.{operations-rising}
 use Rattle.sd_sessions.proofs.Limits.{queue-within}
-use Rattle.sd_sessions.proofs.Idle.{items_by-same}
+use Rattle.sd_sessions.proofs.Idle.{items_between-same}
 
 filter-never : (ns : List ℕ) → filter (λ n. false) ns ≡ []
 filter-never [] = refl
@@ -71,8 +70,8 @@ module _ (past : List Entry) (moment word : ℕ) (legal : IsLegal in_force past)
   unfolding early_outcome
   brought_none none n =
       change_items-marked in_force past moment word event.Tick n
-      ∙ (λ i. items_by (answers_in past) (λ o. kept none o i) None (operations_of n past) (same_operations n i))
-      ∙ items_by-same (operations_of n past) (answers_in past) (operations-rising in_force past legal n)
+      ∙ (λ i. items_between (answers_in past) (λ o. kept none o i) None (operations_of n past) (same_operations n i))
+      ∙ items_between-same (operations_of n past) (answers_in past) (operations-rising in_force past legal n)
 
   -- so its marks are those of the questions that it asks
   marks_asked : ends_none past moment ≡ true → (entry_after past moment word event.Tick).marks ≡ tick_askings past moment

@@ -2,6 +2,7 @@ use Rattle.std.proofs.Common.{◌≡◌, ◌∙◌, List, subst, sym}
 use Rattle.std.specs.List.{AllByRecursion}
 use Rattle.mdns_history.specs.declared.operation.Operation.{Operation}
 use Rattle.mdns_happened.specs.Told.{Told, told_by}
+use Rattle.sd_sessions.specs.Answered.{over}
 use Rattle.sd_sessions.specs.Changes.{items_between}
 use Rattle.sd_sessions.specs.Settling.{rrs_of}
 use Rattle.sd_sessions.specs.Kept.{session_of}
@@ -18,5 +19,5 @@ returns c = λ held later seen after.
     let all : AllByRecursion (IsSeenOf held later c.args.walks.now c.as_slice-before.result.now) c.args.after.now =
     subst (λ (os : List Operation). AllByRecursion (IsSeenOf held later c.args.walks.now os) c.args.after.now) (sym before)
     (subst (AllByRecursion (IsSeenOf held later c.args.walks.now operations)) (sym after) (seen-after told held later c.args.walks.now (session_of c.args.session.now) seen)) in
-    brought-uncut told (rrs_of held) (rrs_of later) (session_of c.args.session.now) c.in_ok-items.items (sym c.gets_nothing.ensures ∙ c.if-gets_nothing.false)
-    (c.in_ok-items.ensures held later all ∙ (λ i. items_between (c.reply_to-reply.ensures i) (before i) (after i) (rrs_of held) (rrs_of later)))
+    brought-uncut told (over (rrs_of held)) (over (rrs_of later)) (session_of c.args.session.now) c.in_ok-items.items (sym c.gets_nothing.ensures ∙ c.if-gets_nothing.false)
+    (c.in_ok-items.ensures held later all ∙ (λ i. items_between (over (rrs_of held)) (over (rrs_of later)) (c.reply_to-reply.ensures i) (before i) (after i)))

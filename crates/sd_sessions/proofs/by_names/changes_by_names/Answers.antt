@@ -1,6 +1,7 @@
 use Rattle.std.proofs.Common.{◌∙◌, ◌++◌, ◌∷◌, [], List, ap, map, subst, sym}
 use Rattle.std.proofs.lemmas.List.{take_all}
 use Rattle.mdns_happened.specs.Told.{Told, told_by}
+use Rattle.sd_sessions.specs.Answered.{over}
 use Rattle.sd_sessions.specs.declared.session.SessionState.{SessionState}
 use Rattle.sd_sessions.specs.Settling.{change_told, rrs_of}
 use Rattle.sd_sessions.specs.Kept.{session_of, sessions_of, HaveWellFormed}
@@ -16,11 +17,11 @@ loop-session-preserved c =
           c.in_ok-push.ensures.items
           ∙ (λ i. c.loop-session.invariant.made held later seen i ++ c.in_ok-change_by_names.ensures held later
           (all-at (IsSeen told held later c.args.walks.now) session_of c.args.sessions.now c.loop-session.session-index c.session-item.result c.loop-session-test.true c.session-item.is seen) i ∷ [])
-          ∙ sym (map_map-next (change_told told (rrs_of held) (rrs_of later)) session_of c.args.sessions.now c.loop-session.session-index c.session-item.result c.loop-session-test.true c.session-item.is);
+          ∙ sym (map_map-next (change_told told (over (rrs_of held)) (over (rrs_of later))) session_of c.args.sessions.now c.loop-session.session-index c.session-item.result c.loop-session-test.true c.session-item.is);
       formed = (subst (λ (l : List SessionState). HaveWellFormed (sessions_of l)) (drop-next c.args.sessions.now c.loop-session.session-index c.session-item.result c.loop-session-test.true c.session-item.is) c.loop-session.invariant.formed).1;
     }
 
 pub returns : goal.returns
 returns c = λ held later seen.
     c.loop-session.invariant.made held later seen
-    ∙ ap (λ (l : List SessionState). map (change_told (told_by c.args.happened.now) (rrs_of held) (rrs_of later)) (sessions_of l)) (take_all c.loop-session.session-index c.args.sessions.now c.loop-session-test.false)
+    ∙ ap (λ (l : List SessionState). map (change_told (told_by c.args.happened.now) (over (rrs_of held)) (over (rrs_of later))) (sessions_of l)) (take_all c.loop-session.session-index c.args.sessions.now c.loop-session-test.false)

@@ -4,7 +4,7 @@ use Rattle.std.specs.List.{AllByRecursion}
 use Rattle.sd_call.specs.declared.item.Item.{Item}
 use Rattle.mdns_history.specs.declared.held.Held.{Held}
 use Rattle.mdns_history.specs.declared.operation.Operation.{Operation}
-use Rattle.mdns_history.specs.Answers.{answers_over}
+use Rattle.sd_sessions.specs.Answered.{over}
 use Rattle.sd_sessions.specs.Changes.{had, lost, gained}
 use Rattle.sd_sessions.specs.Settling.{rrs_of}
 use Rattle.sd_sessions.specs.Walked.{IsSeenOf, IsCompared}
@@ -17,21 +17,21 @@ loop-operation-preserved c =
     let operations : List Operation = c.concerned-operations.result.now in
     let o : Operation = c.operation-item.result in
     let found : (held later : List Held) → AllByRecursion (IsSeenOf held later c.args.walks.now c.args.before.now) operations →
-    IsCompared c.in_ok-found.found (had c.args.before.now (rrs_of held) o.op) (answers_over o.request (rrs_of later)) =
+    IsCompared c.in_ok-found.found (had (over (rrs_of held)) c.args.before.now o.op) (over (rrs_of later) o) =
     λ held later seen.
     c.in_ok-found.ensures.value held later
     (all-here (IsSeenOf held later c.args.walks.now c.args.before.now) operations c.loop-operation.operation-index o c.loop-operation-test.true c.operation-item.is seen) in
     record {
       removes = λ held later seen.
-          c.in_ok-put_compared.ensures.removes (had c.args.before.now (rrs_of held) o.op) (answers_over o.request (rrs_of later)) (found held later seen)
-          ∙ ap (λ (l : List Item). l ++ lost c.args.before.now (rrs_of held) (rrs_of later) o) (c.loop-operation.invariant.removes held later seen)
+          c.in_ok-put_compared.ensures.removes (had (over (rrs_of held)) c.args.before.now o.op) (over (rrs_of later) o) (found held later seen)
+          ∙ ap (λ (l : List Item). l ++ lost (over (rrs_of held)) (over (rrs_of later)) c.args.before.now o) (c.loop-operation.invariant.removes held later seen)
           ∙ append_assoc c.in_ok-brought.brought _ _
           ∙ ap (λ (l : List Item). c.in_ok-brought.brought ++ l)
-          (sym (flat_map-next (lost c.args.before.now (rrs_of held) (rrs_of later)) operations c.loop-operation.operation-index o c.loop-operation-test.true c.operation-item.is));
+          (sym (flat_map-next (lost (over (rrs_of held)) (over (rrs_of later)) c.args.before.now) operations c.loop-operation.operation-index o c.loop-operation-test.true c.operation-item.is));
       adds = λ held later seen.
-          c.in_ok-put_compared.ensures.adds (had c.args.before.now (rrs_of held) o.op) (answers_over o.request (rrs_of later)) (found held later seen)
-          ∙ ap (λ (l : List Item). l ++ gained c.args.before.now (rrs_of held) (rrs_of later) o) (c.loop-operation.invariant.adds held later seen)
-          ∙ sym (flat_map-next (gained c.args.before.now (rrs_of held) (rrs_of later)) operations c.loop-operation.operation-index o c.loop-operation-test.true c.operation-item.is);
+          c.in_ok-put_compared.ensures.adds (had (over (rrs_of held)) c.args.before.now o.op) (over (rrs_of later) o) (found held later seen)
+          ∙ ap (λ (l : List Item). l ++ gained (over (rrs_of held)) (over (rrs_of later)) c.args.before.now o) (c.loop-operation.invariant.adds held later seen)
+          ∙ sym (flat_map-next (gained (over (rrs_of held)) (over (rrs_of later)) c.args.before.now) operations c.loop-operation.operation-index o c.loop-operation-test.true c.operation-item.is);
       formed = (formed-next operations c.loop-operation.operation-index o c.loop-operation-test.true c.operation-item.is c.loop-operation.invariant.formed).1;
     }
 

@@ -2,7 +2,6 @@ use Rattle.std.proofs.Common.{◌∙◌, ◌≤◌, ℕ, ap, subst, sym, length,
 use Rattle.std.proofs.lemmas.List.Sorted.{length_permutation}
 use Rattle.std.specs.List.Sorted.{IsPermutation}
 use Rattle.std.specs.Option.{unwrap_or}
-use Rattle.dns_record.specs.declared.record.Rr.{Rr}
 use Rattle.mdns_history.specs.declared.held.Held.{Held}
 use Rattle.mdns_asserts.proofs.Earned.{are_earned}
 use Rattle.mdns_question.specs.declared.tracked.Tracked.{Tracked}
@@ -13,6 +12,7 @@ use Rattle.mdns_records.specs.After.{held_after}
 use Rattle.mdns_records.proofs.Holding.{after-live}
 use Rattle.sd_sessions.specs.declared.change.SessionChange.{SessionChange}
 use Rattle.sd_sessions.specs.Sessions.{Session}
+use Rattle.sd_sessions.specs.Answered.{Answering, over}
 use Rattle.sd_sessions.specs.Planned as sessions
 use Rattle.sd_sessions.specs.Settling.{rrs_of, shifted_told, outcome_told, sessions_told}
 use Rattle.mdns_core.specs.InForce.{in_force}
@@ -29,8 +29,8 @@ apply-requires-clause-fits g c =
 
 pub apply-outcome-requires-clause-planned : goal.apply-outcome-requires-clause-planned
 apply-outcome-requires-clause-planned g c =
-    let earlier : List Rr = rrs_of c.self.inside.records.held in
-    let later : List Rr = rrs_of (held_after c.args.now c.args.word c.in_ok-plan.plan.heard c.self.inside.records.held) in (
+    let earlier : Answering = over (rrs_of c.self.inside.records.held) in
+    let later : Answering = over (rrs_of (held_after c.args.now c.args.word c.in_ok-plan.plan.heard c.self.inside.records.held)) in (
       earlier,
       later,
       subst (λ (ss : List Session). sessions.IsPlan (told_by c.in_ok-plan.plan.happened) earlier later ss c.in_ok-plan.plan.sessions) (sym c.reserve-3.ensures.sessions) c.in_ok-plan.ensures.sessions,

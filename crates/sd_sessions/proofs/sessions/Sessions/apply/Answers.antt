@@ -1,7 +1,7 @@
 use Rattle.std.proofs.Common.{◌≡◌, ◌∙◌, ℕ, List, map, ap, subst, sym}
 use Rattle.std.specs.Option.{unwrap_or}
-use Rattle.dns_record.specs.declared.record.Rr.{Rr}
 use Rattle.mdns_happened.specs.Told.{Told, told_by}
+use Rattle.sd_sessions.specs.Answered.{Answering}
 use Rattle.sd_sessions.specs.declared.change.SessionChange.{SessionChange}
 use Rattle.sd_sessions.specs.Sessions.{Session, State}
 use Rattle.sd_sessions.specs.Settling.{change_told, sessions_told, shifted_told}
@@ -24,8 +24,8 @@ carry_out-outcome-requires-clause-fit c =
 pub invariant_of-self : goal.invariant_of-self
 invariant_of-self c =
     let told : Told = told_by c.args.happened.now in
-    let earlier : List Rr = c.requires.planned.0 in
-    let later : List Rr = c.requires.planned.1 in
+    let earlier : Answering = c.requires.planned.0 in
+    let later : Answering = c.requires.planned.1 in
     let ss : List Session = sessions_of c.self.inside.attached.items in
     let changed : c.args.plan.changes.items ≡ map (change_told told earlier later) ss =
     c.requires.planned.2.changes ∙ ap (λ (s : State). map (change_told told earlier later) s.sessions) (sym c.self.view_is) in

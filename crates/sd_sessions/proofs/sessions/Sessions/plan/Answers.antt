@@ -1,6 +1,7 @@
 use Rattle.std.proofs.Common.{◌≡◌, ◌∙◌, List, ap, map, subst, sym}
 use Rattle.std.specs.List.{AllByRecursion}
 use Rattle.mdns_happened.specs.Told.{Told, told_by}
+use Rattle.sd_sessions.specs.Answered.{over}
 use Rattle.sd_sessions.specs.Sessions.{Session, State}
 use Rattle.sd_sessions.specs.Settling.{change_told, rrs_of}
 use Rattle.sd_sessions.specs.Kept.{sessions_of, AreKept, IsFresh}
@@ -21,7 +22,7 @@ returns c = λ held later are known called.
     let same : sessions_of c.deref.result.now ≡ c.args.self.now.sessions = ap sessions_of c.deref.ensures.value ∙ ap (λ (s : State). s.sessions) c.self.view_is in
     record {
       changes = c.in_ok-changes.ensures held later (subst (AllByRecursion (IsSeen told held later c.args.walks.now)) (sym same) seen)
-          ∙ ap (λ (ss : List Session). map (change_told told (rrs_of held) (rrs_of later)) ss) same;
+          ∙ ap (λ (ss : List Session). map (change_told told (over (rrs_of held)) (over (rrs_of later))) ss) same;
       call = told-formed told c.args.self.now c.requires;
       fresh = fresh;
       empty = c.in_ok-taken.ensures.items;
