@@ -7,6 +7,3 @@ mod plan;
 mod reading;
 
 pub use daemon::Daemon;
-
-#[cfg(test)]
-mod tests;

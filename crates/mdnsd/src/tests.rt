@@ -11,6 +11,7 @@ mod large;
 mod played;
 mod program;
 mod rows;
+mod story;
 
 // The status of a script. Want of memory is passed on; a sink of which no call is listed fails for that alone.
 fn status_of<S: Source>(

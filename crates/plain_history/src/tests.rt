@@ -10,6 +10,7 @@ use mdns_base::Host;
 use mdns_history::{Config, Entry, Event, Gifts, Marks, Outcome, Sends};
 use sd_call::Request;
 use std::alloc::Global;
+use std::process::Abort;
 use std::test::Fail;
 
 // `a.local. 120 - A 192.0.2.1`
@@ -20,22 +21,26 @@ const PACKET: &[u8] = &[
 
 #[test]
 fn a_history_has_a_record_and_an_operation(rt: HostRuntime) -> Result<(), Fail> {
-    let alloc = rt.alloc();
-    let history = history(alloc)?;
-    assert_eq!(rt; now(&history), 300);
-    assert_eq!(rt; config_of(&history).ok_or("booted")?.address, 1);
-    assert_eq!(rt;
-        attached_sessions(alloc, &history)?.as_slice(),
-        [1].as_slice()
-    );
-    assert!(rt; !is_cut(1, &history));
-    assert_eq!(rt; operations(alloc, &history)?.len(), 1);
-    assert!(rt; operation_request(alloc, 1, 5, &history)?.is_some());
-    assert!(rt; present_txt(alloc, 1, 5, &history)?.is_empty());
-    let live = live_records(alloc, &history, 300)?;
-    assert_eq!(rt; live.len(), 1);
-    assert_eq!(rt; live.as_slice()[0].end, 120_200);
-    assert_eq!(rt; live_records(alloc, &history, 120_200)?.len(), 0);
+    let history = history(rt.alloc())?;
+    look_at_sessions(&rt, rt.alloc(), &history)?;
+    look_at_records(&rt, rt.alloc(), &history)
+}
+
+fn look_at_sessions(rt: &impl Abort, alloc: Global, history: &[HistoryEntry]) -> Result<(), Fail> {
+    assert_eq!(rt; now(history), 300);
+    assert_eq!(rt; config_of(history).ok_or("booted")?.address, 1);
+    assert_eq!(rt; attached_sessions(alloc, history)?.len(), 1);
+    assert!(rt; !is_cut(1, history));
+    assert_eq!(rt; operations(alloc, history)?.len(), 1);
+    assert!(rt; operation_request(alloc, 1, 5, history)?.is_some());
+    assert!(rt; present_txt(alloc, 1, 5, history)?.is_empty());
+    Ok(())
+}
+
+fn look_at_records(rt: &impl Abort, alloc: Global, history: &[HistoryEntry]) -> Result<(), Fail> {
+    let live = live_records(alloc, history, 300)?;
+    assert_eq!(rt; live.first().map(|held| held.end), Some(120_200));
+    assert_eq!(rt; live_records(alloc, history, 120_200)?.len(), 0);
     Ok(())
 }
 
@@ -77,15 +82,31 @@ fn history(alloc: Global) -> Result<Vec<HistoryEntry>, Fail> {
         request,
     };
     let mut history = Vec::new(alloc);
-    history.push(entry(alloc, 300, Event::Tick, Outcome::Done)?)?;
-    history.push(entry(alloc, 200, Event::Hear { from, bytes }, Outcome::Done)?)?;
-    history.push(entry(alloc, 100, call, Outcome::Code { code: 0 })?)?;
-    history.push(entry(alloc, 0, Event::Attach, Outcome::Opened { session: 1 })?)?;
-    history.push(entry(alloc, 0, Event::Boot { config }, Outcome::Done)?)?;
+    put(&mut history, 300, Event::Tick, Outcome::Done)?;
+    put(
+        &mut history,
+        200,
+        Event::Hear { from, bytes },
+        Outcome::Done,
+    )?;
+    put(&mut history, 100, call, Outcome::Code { code: 0 })?;
+    put(
+        &mut history,
+        0,
+        Event::Attach,
+        Outcome::Opened { session: 1 },
+    )?;
+    put(&mut history, 0, Event::Boot { config }, Outcome::Done)?;
     Ok(history)
 }
 
-fn entry(alloc: Global, moment: u64, event: Event, outcome: Outcome) -> Result<HistoryEntry, Fail> {
+fn put(
+    history: &mut Vec<HistoryEntry>,
+    moment: u64,
+    event: Event,
+    outcome: Outcome,
+) -> Result<(), Fail> {
+    let alloc = *history.allocator();
     let entry = Entry {
         moment,
         word: 0,
@@ -95,5 +116,6 @@ fn entry(alloc: Global, moment: u64, event: Event, outcome: Outcome) -> Result<H
         given: Gifts::new(alloc),
         outcome,
     };
-    Ok(HistoryEntry::new(entry).ok_or("entry")?)
+    history.push(HistoryEntry::new(entry).ok_or("entry")?)?;
+    Ok(())
 }

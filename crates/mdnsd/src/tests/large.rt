@@ -106,6 +106,29 @@ fn a_cut_session(rt: HostRuntime) -> Result<(), Fail> {
     expect_lines(&rt, alloc, &script, &beginnings, told)
 }
 
+// A session that doesn't read is cut where 16,777,216 bytes would be queued for it: a reply of 14 bytes and 2,047 answers of 8,192 are not
+// too much, and one more is. The other session has nothing to take.
+#[test]
+fn a_session_that_does_not_read(rt: HostRuntime) -> Result<(), Fail> {
+    let alloc = rt.alloc();
+    let asked = "daemon 1\nopen 1\nopen 1\ncall 1 1 1 query TXT big.local\n";
+    let mut script = String::from_str(alloc, asked)?;
+    let rest = zeros(alloc, 8178)?;
+    for packet in 0..2048u32 {
+        if packet == 2047 {
+            script.push_str("take 1 2 1\n")?;
+        }
+        let heard = format!(in alloc;
+            "hear 1 10.0.0.9 5353 00008400000000010000000003626967056c6f63616c0000100001000000781ff4{packet:04x}{rest}\n"
+        )?;
+        script.push_str(&heard)?;
+    }
+    script.push_str("take 1 1 1\ntake 1 2 1\n")?;
+    let told = "0 = empty\n0 ! cut 1\n0 = cut\n0 = empty\n";
+    let beginnings = [" !", " = cut", " = e"];
+    expect_lines(&rt, alloc, &script, &beginnings, told)
+}
+
 // Lines of more than 100,000 bytes: a comment, and a packet that is too long to be read.
 #[test]
 fn long_lines(rt: HostRuntime) -> Result<(), Fail> {

@@ -25,6 +25,23 @@ fn scripts(rt: HostRuntime) -> Result<(), Fail> {
             "@0 d1 w0 boot 10.0.0.1\nnot yet line 2\n",
             7,
         ),
+        ("open 1\n", "not yet line 1\n", 7),
+        ("at 86400001\n", "not yet line 1\n", 7),
+        (
+            "daemon 1\ndaemon 1\n",
+            "@0 d1 w0 boot 10.0.0.1\nnot yet line 2\n",
+            7,
+        ),
+        (
+            "daemon 1\nopen 2\n",
+            "@0 d1 w0 boot 10.0.0.1\nnot yet line 2\n",
+            7,
+        ),
+        (
+            "daemon 1\nat 5\nopen 1\nat 4\n",
+            "@0 d1 w0 boot 10.0.0.1\n@5 d1 w0 open\n = opened 1\nnot yet line 4\n",
+            7,
+        ),
         ("daemon 1\nfly", "@0 d1 w0 boot 10.0.0.1\nbad line 2\n", 3),
     ] {
         expect(&rt, rt.alloc(), script, output, status)?;
