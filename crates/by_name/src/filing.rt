@@ -8,8 +8,9 @@ ghost use Rattle.by_name.specs.Filed.{found, AreFiled, IsFoundAt, IsWithout, Agr
 ghost use Rattle.by_name.specs.Lends.{lends_value};
 ghost use Rattle.std.specs.Borrow.{sem};
 
-use crate::taking::{Values, take_out};
+use crate::taking::{Values, last_of, take_out};
 use crate::{KeyedState, Place, Taken};
+use dns_name::Name;
 use indexmap::IndexMap;
 use std::alloc::{AllocError, Global};
 use std::marker::Model;
@@ -124,6 +125,20 @@ impl<T: Drop> ByName<T> {
         ensures found { IfSome result (λ p. found p.0.now.owner p.0.now.number self.now.entries ≡ Some p.1.now) }
     {
         self.values.get_index(index)
+    }
+
+    /// The place behind the last value of a name.
+    pub fn end_of(&self, name: &Name) -> Place
+        ensures owner { result.owner ≡ owner_of name.now }
+        ensures absent { found result.owner result.number self.now.entries ≡ None }
+        ensures next { (number : ℕ) → suc number ≡ result.number → IsSome (found result.owner number self.now.entries) }
+    {
+        let _len = self.values.len();
+        let mut place = Place::new(name, 0);
+        if self.values.contains_key(&place) {
+            place.go(last_of(&self.values, &place) + 1);
+        }
+        place
     }
 
     /// Puts a value behind the others of its name, where there is room for it.

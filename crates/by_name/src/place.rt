@@ -62,6 +62,13 @@ impl Place {
         Place { owner, number }
     }
 
+    /// The name in lower case, in wire form.
+    pub fn owner(&self) -> &[u8]
+        ensures { result.now ≡ self.now.owner }
+    {
+        self.owner.as_slice()
+    }
+
     /// The number.
     pub fn number(&self) -> usize
         ensures { result ≡ self.now.number }

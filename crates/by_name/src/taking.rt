@@ -69,8 +69,8 @@ fn take_last<T: Drop>(values: &mut Values<T>, last: &Place) -> Option<(usize, T)
     Some((hole, one))
 }
 
-// The greatest number of a name at which a value stands, from one on at which one does: found by steps that double.
-fn last_of<T: Drop>(values: &Values<T>, place: &Place) -> usize
+/// The greatest number of a name at which a value stands, from one on at which one does: found by steps that double.
+pub fn last_of<T: Drop>(values: &Values<T>, place: &Place) -> usize
     requires filed { AreFiled values.now.entries }
     requires there { IsSome (found place.now.owner place.now.number values.now.entries) }
     ensures least { place.now.number ≤ result }

@@ -16,3 +16,4 @@ pub mod AfterHearings
 pub mod Kept
 pub mod Below
 pub mod NewOnes
+pub mod Indexing

@@ -5,3 +5,4 @@ pub mod EndedPlaces
 pub mod Ends
 pub mod Named
 pub mod Counted
+pub mod Printed

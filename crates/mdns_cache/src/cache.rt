@@ -14,9 +14,9 @@ use crate::ends::played;
 use crate::error::HearError;
 use crate::expiry::{expire_from, least_end};
 use crate::heard::hear_all;
+use crate::holdings::Holdings;
 use crate::look::held_at;
 use crate::steps::Steps;
-use by_name::ByName;
 use dns_message::Rrs;
 use dns_name::Name;
 use dns_record::Rr;
@@ -33,7 +33,7 @@ const MOST: usize = 1 << 40;
 pub struct Cache {
     alloc: Global,
     limit: usize,
-    records: ByName<Held>,
+    records: Holdings,
     // Which record ends first: a tournament over the records' indexes.
     nodes: Vec<usize>,
 }
@@ -66,7 +66,7 @@ impl Cache {
         Ok(Cache {
             alloc,
             limit,
-            records: ByName::new(alloc, key),
+            records: Holdings::new(alloc, key),
             nodes: Vec::new(alloc),
         })
     }

@@ -8,7 +8,7 @@ ghost use Rattle.mdns_cache.specs.Ended.{is_among, HasEnded, AreOfEnded};
 ghost use Rattle.by_name.specs.Filed.{in_layers};
 
 use crate::ends::winner;
-use by_name::ByName;
+use crate::holdings::Holdings;
 use dns_name::Name;
 use mdns_history::Held;
 use std::alloc::{AllocError, Global};
@@ -16,7 +16,7 @@ use std::alloc::{AllocError, Global};
 /// The owners of all records that have ended at `now`, in ms. Refused only for want of memory.
 pub fn ended_names(
     alloc: Global,
-    records: &ByName<Held>,
+    records: &Holdings,
     nodes: &[usize],
     now: u64,
 ) -> Result<Vec<Name>, AllocError>

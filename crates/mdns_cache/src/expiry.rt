@@ -8,12 +8,13 @@ ghost use Rattle.by_name.specs.Filed.{found, in_layers};
 ghost use Rattle.mdns_cache.specs.Named.{AreFiled, AreOnce};
 
 use crate::ends::first_of;
+use crate::holdings::Holdings;
 use crate::removal::take_out;
-use by_name::{ByName, Place};
+use by_name::Place;
 use mdns_history::Held;
 
 /// Takes out the first record that has ended at `now`, in ms, by end and then by record.
-pub fn expire_from(records: &mut ByName<Held>, nodes: &mut [usize], now: u64) -> Option<Held>
+pub fn expire_from(records: &mut Holdings, nodes: &mut [usize], now: u64) -> Option<Held>
     requires filed { AreFiled records.old.entries }
     requires played { IsPlayed (values_of records.old.entries) [] nodes.old }
     requires room { length records.old.entries ≤ length nodes.old }
@@ -32,7 +33,7 @@ pub fn expire_from(records: &mut ByName<Held>, nodes: &mut [usize], now: u64) ->
 }
 
 // The place of the first record that has ended.
-fn first_place(records: &ByName<Held>, nodes: &[usize], now: u64) -> Option<Place>
+fn first_place(records: &Holdings, nodes: &[usize], now: u64) -> Option<Place>
     requires filed { AreFiled records.now.entries }
     requires played { IsPlayed (values_of records.now.entries) [] nodes.now }
     requires room { length records.now.entries ≤ length nodes.now }
@@ -48,7 +49,7 @@ fn first_place(records: &ByName<Held>, nodes: &[usize], now: u64) -> Option<Plac
 }
 
 /// The least end, in ms.
-pub fn least_end(records: &ByName<Held>, nodes: &[usize]) -> Option<u64>
+pub fn least_end(records: &Holdings, nodes: &[usize]) -> Option<u64>
     requires played { IsPlayed (values_of records.now.entries) [] nodes.now }
     requires room { length records.now.entries ≤ length nodes.now }
     ensures { result ≡ next_end_of (in_layers records.now.entries) }

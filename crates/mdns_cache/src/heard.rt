@@ -12,15 +12,15 @@ ghost use Rattle.mdns_cache.specs.Ends.{IsPlayed};
 ghost use Rattle.mdns_cache.specs.Named.{AreFiled, AreOnce};
 
 use crate::ends::mend;
+use crate::holdings::Holdings;
 use crate::look::same_of;
-use by_name::{ByName, Place};
+use by_name::Place;
 use dns_record::Rr;
 use mdns_history::Held;
-use std::mem::replace;
 
 /// Hears records one after another, where there is room for as many.
 pub fn hear_all(
-    records: &mut ByName<Held>,
+    records: &mut Holdings,
     nodes: &mut [usize],
     now: u64,
     word: u32,
@@ -47,7 +47,7 @@ pub fn hear_all(
 }
 
 // Hears one record: lives of its name are cut, what it is the same as gives way to it, and it is held itself.
-fn hear_one(records: &mut ByName<Held>, nodes: &mut [usize], now: u64, word: u32, rr: Rr)
+fn hear_one(records: &mut Holdings, nodes: &mut [usize], now: u64, word: u32, rr: Rr)
     requires bound { now ≤ 2 ^ 53 }
     requires filed { AreFiled records.old.entries }
     requires once { AreOnce (values_of records.old.entries) }
@@ -68,7 +68,7 @@ fn hear_one(records: &mut ByName<Held>, nodes: &mut [usize], now: u64, word: u32
 }
 
 // Cuts the lives of records to a second where a hearing does so: a goodbye or a flush alone does.
-fn shorten(records: &mut ByName<Held>, nodes: &mut [usize], now: u64, rr: &Rr)
+fn shorten(records: &mut Holdings, nodes: &mut [usize], now: u64, rr: &Rr)
     requires bound { now ≤ 2 ^ 53 }
     requires filed { AreFiled records.old.entries }
     requires played { IsPlayed (values_of records.old.entries) [] nodes.old }
@@ -86,7 +86,7 @@ fn shorten(records: &mut ByName<Held>, nodes: &mut [usize], now: u64, rr: &Rr)
 }
 
 // The same, going over all records of the name.
-fn shorten_all(records: &mut ByName<Held>, nodes: &mut [usize], now: u64, rr: &Rr)
+fn shorten_all(records: &mut Holdings, nodes: &mut [usize], now: u64, rr: &Rr)
     requires bound { now ≤ 2 ^ 53 }
     requires filed { AreFiled records.old.entries }
     requires played { IsPlayed (values_of records.old.entries) [] nodes.old }
@@ -108,7 +108,7 @@ fn shorten_all(records: &mut ByName<Held>, nodes: &mut [usize], now: u64, rr: &R
 }
 
 // Cuts the life of the record at an index to a second where a hearing does so.
-fn shorten_at(records: &mut ByName<Held>, nodes: &mut [usize], index: usize, now: u64, rr: &Rr)
+fn shorten_at(records: &mut Holdings, nodes: &mut [usize], index: usize, now: u64, rr: &Rr)
     requires bound { now ≤ 2 ^ 53 }
     requires index { index < length records.old.entries }
     requires played { IsPlayed (values_of records.old.entries) [] nodes.old }
@@ -138,7 +138,7 @@ fn is_cut(one: &Held, now: u64, rr: &Rr) -> bool
 }
 
 // Cuts the life of the record at an index to a second.
-fn cut_at(records: &mut ByName<Held>, nodes: &mut [usize], index: usize, now: u64)
+fn cut_at(records: &mut Holdings, nodes: &mut [usize], index: usize, now: u64)
     requires bound { now ≤ 2 ^ 53 }
     requires index { index < length records.old.entries }
     requires played { IsPlayed (values_of records.old.entries) [] nodes.old }
@@ -149,8 +149,8 @@ fn cut_at(records: &mut ByName<Held>, nodes: &mut [usize], index: usize, now: u6
     ensures played { IsPlayed (values_of records.new.entries) [] nodes.new }
     ensures spare { records.new.spare ≡ records.old.spare }
 {
-    let one = records.at_mut(index);
-    one.end = (now + 1000).min(one.end);
+    let end = records.values()[index].end;
+    records.set_end(index, (now + 1000).min(end));
     mend(nodes, records.values(), index);
 }
 
@@ -168,7 +168,7 @@ fn renewed(now: u64, word: u32, rr: Rr) -> Held
 }
 
 // Puts a record in place of the one that is the same, or behind the others of its name.
-fn renew(records: &mut ByName<Held>, nodes: &mut [usize], one: Held)
+fn renew(records: &mut Holdings, nodes: &mut [usize], one: Held)
     requires filed { AreFiled records.old.entries }
     requires once { AreOnce (values_of records.old.entries) }
     requires played { IsPlayed (values_of records.old.entries) [] nodes.old }
@@ -188,7 +188,7 @@ fn renew(records: &mut ByName<Held>, nodes: &mut [usize], one: Held)
 }
 
 // Puts a record in place of the one at an index that is the same.
-fn put_at(records: &mut ByName<Held>, nodes: &mut [usize], index: usize, one: Held)
+fn put_at(records: &mut Holdings, nodes: &mut [usize], index: usize, one: Held)
     requires filed { AreFiled records.old.entries }
     requires once { AreOnce (values_of records.old.entries) }
     requires same { (old : Held) × (slice_get (values_of records.old.entries) index ≡ Some old) × (same old.rr one.rr ≡ true) }
@@ -201,13 +201,12 @@ fn put_at(records: &mut ByName<Held>, nodes: &mut [usize], index: usize, one: He
     ensures len { length records.new.entries ≡ length records.old.entries }
     ensures spare { records.new.spare ≡ records.old.spare }
 {
-    let _old = replace(records.at_mut(index), one);
-    let held = records.values();
-    mend(nodes, held, index);
+    records.put(index, one);
+    mend(nodes, records.values(), index);
 }
 
 // Puts a record behind the others of its name.
-fn push(records: &mut ByName<Held>, nodes: &mut [usize], place: Place, one: Held)
+fn push(records: &mut Holdings, nodes: &mut [usize], place: Place, one: Held)
     requires filed { AreFiled records.old.entries }
     requires owner { place.owner ≡ owner_of one.rr.owner }
     requires absent { found place.owner place.number records.old.entries ≡ None }

@@ -8,8 +8,10 @@ mod ends;
 mod error;
 mod expiry;
 mod heard;
+mod holdings;
 mod law;
 mod look;
+mod prints;
 mod removal;
 mod steps;
 #[cfg(test)]

@@ -9,22 +9,23 @@ ghost use Rattle.by_name.specs.Filed.{found, in_layers};
 ghost use Rattle.mdns_cache.specs.Lifetimes.{held_of};
 ghost use Rattle.mdns_cache.specs.Named.{AreFiled};
 
-use by_name::{ByName, Place};
+use crate::holdings::Holdings;
+use by_name::Place;
 use dns_name::Name;
 use dns_record::Rr;
 use mdns_history::Held;
 
 /// The held record of a name at a place among those of that name, counted from 0.
 #[tactic(auto, using(crate::proofs::Visiting::visited_of))]
-pub fn held_at<'a>(records: &'a ByName<Held>, name: &Name, place: usize) -> Option<&'a Held>
+pub fn held_at<'a>(records: &'a Holdings, name: &Name, place: usize) -> Option<&'a Held>
     requires { AreFiled records.now.entries }
     ensures { option_copied result ≡ slice_get (held_of name.now (in_layers records.now.entries)) place }
 {
     records.get(&Place::new(name, place))
 }
 
-/// The index of a record that is the same as this one, or the place behind the last of its name.
-pub fn same_of(records: &ByName<Held>, rr: &Rr) -> Result<usize, Place>
+/// The index of the record that is the same as this one, or the place behind the last of its name.
+pub fn same_of(records: &Holdings, rr: &Rr) -> Result<usize, Place>
     requires { AreFiled records.now.entries }
     ensures found { IfOk result (λ index. (one : Held) × (slice_get (values_of records.now.entries) index ≡ Some one) × (same one.rr rr.now ≡ true)) }
     ensures none { IfErr result (λ _. AllByRecursion (λ (one : Held). same one.rr rr.now ≡ false) (values_of records.now.entries)) }
@@ -32,15 +33,8 @@ pub fn same_of(records: &ByName<Held>, rr: &Rr) -> Result<usize, Place>
     ensures absent { IfErr result (λ place. found place.owner place.number records.now.entries ≡ None) }
     ensures next { IfErr result (λ place. (number : ℕ) → suc number ≡ place.number → IsSome (found place.owner number records.now.entries)) }
 {
-    let _len = records.len();
-    let mut number = 0;
-    let mut place = Place::new(&rr.owner, 0);
-    while let Some(index) = records.index_of(&place) {
-        if records.values()[index].rr.same(rr) {
-            return Ok(index);
-        }
-        number += 1;
-        place.go(number);
+    match records.find(rr) {
+        Some(index) => Ok(index),
+        None => Err(records.end_of(&rr.owner)),
     }
-    Err(place)
 }

@@ -6,11 +6,12 @@ ghost use Rattle.mdns_cache.specs.Ends.{IsPlayed};
 ghost use Rattle.mdns_cache.specs.Named.{AreFiled, AreOnce};
 
 use crate::ends::mend;
-use by_name::{ByName, Place};
+use crate::holdings::Holdings;
+use by_name::Place;
 use mdns_history::Held;
 
 /// Takes out the record at a place, and plays the tournament anew.
-pub fn take_out(records: &mut ByName<Held>, nodes: &mut [usize], place: &Place) -> Option<Held>
+pub fn take_out(records: &mut Holdings, nodes: &mut [usize], place: &Place) -> Option<Held>
     requires filed { AreFiled records.old.entries }
     requires there { IsSome (found place.now.owner place.now.number records.old.entries) }
     requires played { IsPlayed (values_of records.old.entries) [] nodes.old }

@@ -1,5 +1,7 @@
-use Rattle.std.proofs.Common.{◌≡◌, List, [], ◌∷◌, subst, sym}
+use Rattle.std.proofs.Common.{◌≡◌, ◌∙◌, ◌<◌, ◌+◌, ℕ, min, List, [], ◌∷◌, Some, length, get_or, slice_get, subst, sym, ap, arith}
 use Rattle.std.specs.Map.{values_of}
+use Rattle.std.proofs.lemmas.Map.Entries.{length-values_of}
+use Rattle.std.proofs.lemmas.Option.{get_or_from_slice_get, slice_get-get_or}
 use Rattle.indexmap.specs.Layout.{set_value_at}
 use Rattle.mdns_history.specs.declared.held.Held.{Held}
 use Rattle.by_name.proofs.Changes.{agree-set}
@@ -8,13 +10,25 @@ use Rattle.mdns_cache.specs.Named.{Entry}
 use Rattle.mdns_cache.proofs.Played.{played_changed}
 use Rattle.mdns_cache.proofs.heard.cut_at.Goals as goal
 
+pub returns-clause-entries : goal.returns-clause-entries
+returns-clause-entries c = λ one there.
+    let es : List Entry = c.args.records.now.entries in
+    let same : get_or c.values.result.now c.args.index c.index-values-index.result ≡ one =
+    ap (λ (l : List Held). get_or l c.args.index c.index-values-index.result) c.values.ensures ∙ get_or_from_slice_get (values_of es) c.args.index one c.index-values-index.result there in
+    c.set_end.ensures.entries one there
+    ∙ ap (λ (e : ℕ). set_value_at es c.args.index (record { rr = one.rr; heard = one.heard; word = one.word; end = e })) (c.min.ensures ∙ ap (λ (h : Held). min (c.args.now + 1000) h.end) same)
+
 pub returns-clause-played : goal.returns-clause-played
 returns-clause-played c =
-    let entries : List Entry = c.args.records.now.entries in
-    let old : Held = c.at_mut-one.result.now in
-    let new : Held = record { rr = old.rr; heard = old.heard; word = old.word; end = c.min-one.result } in
-    let after : List Held = values_of (set_value_at entries c.args.index new) in
-    let same : c.values.result.now ≡ after = c.values.ensures in
-    subst (λ (h : List Held). IsPlayed h [] c.mend.new.nodes) same
-    (c.mend.ensures [] (subst (λ (h : List Held). IsPlayed h (c.args.index ∷ []) c.args.nodes.now) (sym same)
-    (played_changed (values_of entries) after (c.args.index ∷ []) c.args.nodes.now (agree-set entries c.args.index new) c.requires.played)))
+    let es : List Entry = c.args.records.now.entries in
+    let index : ℕ = c.args.index in
+    let old : Held = get_or (values_of es) index c.index-values-index.result in
+    let len : length (values_of es) ≡ length es = length-values_of es in
+    let within : index < length es = c.requires.index in
+    let there : slice_get (values_of es) index ≡ Some old = slice_get-get_or (values_of es) index c.index-values-index.result (omega (arith, len, within)) in
+    let new : Held = record { rr = old.rr; heard = old.heard; word = old.word; end = c.min.result } in
+    let is : c.set_end.new.self.entries ≡ set_value_at es index new = c.set_end.ensures.entries old there in
+    let same : c.values-2.result.now ≡ values_of (set_value_at es index new) = c.values-2.ensures ∙ ap values_of is in
+    subst (λ (h : List Held). IsPlayed h [] c.mend.new.nodes) c.values-2.ensures
+    (c.mend.ensures [] (subst (λ (h : List Held). IsPlayed h (index ∷ []) c.args.nodes.now) (sym same)
+    (played_changed (values_of es) (values_of (set_value_at es index new)) (index ∷ []) c.args.nodes.now (agree-set es index new) c.requires.played)))
