@@ -17,3 +17,4 @@ pub mod Kept
 pub mod Below
 pub mod NewOnes
 pub mod Indexing
+pub mod Goodbyes

@@ -1,5 +1,5 @@
 // What hearings do to the records that are filed by name.
-ghost use Rattle.std.specs.Prelude.{◌≡◌, ℕ, suc, ◌+◌, ◌<◌, ◌≤◌, ◌^◌, [], ◌∷◌, ◌++◌, List, length, map, filter, min, slice_get, true, Some, None, IsSome};
+ghost use Rattle.std.specs.Prelude.{◌≡◌, ℕ, suc, ◌+◌, ◌<◌, ◌≤◌, ◌^◌, [], ◌∷◌, ◌++◌, List, length, map, filter, min, slice_get, true, false, Some, None, IsSome};
 ghost use Rattle.std.specs.List.Sorted.{IsPermutation};
 ghost use Rattle.std.specs.Map.{keys_of, values_of};
 ghost use Rattle.indexmap.specs.Layout.{set_value_at};
@@ -71,6 +71,7 @@ fn hear_one(records: &mut Holdings, nodes: &mut [usize], now: u64, word: u32, rr
 fn shorten(records: &mut Holdings, nodes: &mut [usize], now: u64, rr: &Rr)
     requires bound { now ≤ 2 ^ 53 }
     requires filed { AreFiled records.old.entries }
+    requires once { AreOnce (values_of records.old.entries) }
     requires played { IsPlayed (values_of records.old.entries) [] nodes.old }
     requires room { length records.old.entries ≤ length nodes.old }
     requires size { length nodes.old < 2 ^ 60 }
@@ -80,8 +81,31 @@ fn shorten(records: &mut Holdings, nodes: &mut [usize], now: u64, rr: &Rr)
     ensures len { length records.new.entries ≡ length records.old.entries }
     ensures spare { records.new.spare ≡ records.old.spare }
 {
-    if rr.ttl == 0 || rr.flush {
+    if rr.flush {
         shorten_all(records, nodes, now, rr);
+    } else if rr.ttl == 0 {
+        take_back(records, nodes, now, rr);
+    }
+}
+
+// The same of a goodbye alone: it cuts the life of the record that is the same, if one is held.
+fn take_back(records: &mut Holdings, nodes: &mut [usize], now: u64, rr: &Rr)
+    requires bound { now ≤ 2 ^ 53 }
+    requires goodbye { rr.now.ttl ≡ 0 }
+    requires still { rr.now.flush ≡ false }
+    requires filed { AreFiled records.old.entries }
+    requires once { AreOnce (values_of records.old.entries) }
+    requires played { IsPlayed (values_of records.old.entries) [] nodes.old }
+    requires room { length records.old.entries ≤ length nodes.old }
+    requires size { length nodes.old < 2 ^ 60 }
+    ensures values { values_of records.new.entries ≡ map (shortened (hearing_at now 0 rr.now)) (values_of records.old.entries) }
+    ensures filed { AreFiled records.new.entries }
+    ensures played { IsPlayed (values_of records.new.entries) [] nodes.new }
+    ensures len { length records.new.entries ≡ length records.old.entries }
+    ensures spare { records.new.spare ≡ records.old.spare }
+{
+    if let Some(index) = records.find(rr) {
+        cut_at(records, nodes, index, now);
     }
 }
 

@@ -18,7 +18,7 @@ invariant_of-self c =
     let len : length (set_value_at es c.args.index c.replace-old.new.dest) ≡ length es = length-put es c.args.index c.replace-old.new.dest in
     let all = c.self.invariant in (
       subst (λ (x : Held). AreIndexed c.self.inside.prints [] (values_of (set_value_at es c.args.index x))) (sym c.replace-old.ensures.after)
-      (are_indexed-put c.self.inside.prints es c.args.index old c.args.one there (sym ((same_tells old.rr c.args.one.rr).0 c.requires.2)) all.0),
+          (are_indexed-put c.self.inside.prints es c.args.index old c.args.one there (sym ((same_tells old.rr c.args.one.rr).0 c.requires.2)) all.0),
       omega (arith, len, all.1),
       omega (arith, len, all.2),
       omega (arith, len, all.3),
