@@ -6,7 +6,9 @@
 PROGRAM is crates/mdnsd/out/mdnsd where none is given, which is built where it isn't yet. It needs valgrind. Each row of instructions is
 the difference of two scripts, the second of which has one line more, or so many. Nothing here is part of the gate.
 """
+import itertools
 import os
+import random
 import struct
 import subprocess
 import sys
@@ -99,6 +101,73 @@ def many_of_one_name(program):
         yield f"{count} known records of a name with 1,000, which nobody asks for", f"{cost(program, held, [more]):,.0f} instructions", ""
 
 
+def hostile(program):
+    """Many records of one name, which nobody asks for: known ones, new ones, goodbyes, and flushes."""
+    held = asking("other") + ["at 10"] + packets([address(number, "many") for number in range(1000)]) + ["at 9000"]
+    for what, more in (
+        ("new", [address(number, "many") for number in range(1000, 1100)]),
+        ("known records' goodbyes", [address(number, "many", ttl=0) for number in range(100)]),
+        ("known records with the flush bit", [address(number, "many", flush=True) for number in range(100)]),
+    ):
+        yield f"100 {what}, of a name with 1,000 that nobody asks for", f"{cost(program, held, [response(*more)]):,.0f} instructions", ""
+    asked = asking("many") + held[3:]
+    known = response(*(address(number, "many") for number in range(100)))
+    yield "100 known records of a name with 1,000 that is asked for", f"{cost(program, asked, [known]):,.0f} instructions", ""
+
+
+# The kit's default hasher, FoldHasher: its seed is fixed, so who picks the names can make them collide under it.
+SEED, MULTIPLIER, MASK = 0x243F6A8885A308D3, 0x9E3779B97F4A7C15, (1 << 64) - 1
+
+
+def folded_multiply(one, other):
+    product = one * other
+    return (product & MASK) ^ (product >> 64)
+
+
+def two_blocks(state, random_numbers):
+    """Two blocks of 16 bytes that lead a FoldHasher from a state to the same one, and have no capital letter."""
+    while True:
+        u, v, w = (random_numbers.randrange(1 << 7, 1 << size) for size in (8, 56, 56))
+        blocks = [struct.pack("<QQ", (u * one) ^ state, other ^ MULTIPLIER) for one, other in ((v, w), (w, v))]
+        if not any(65 <= byte <= 90 for byte in blocks[0] + blocks[1]):
+            return blocks, folded_multiply((u * v), w)
+
+
+def colliding():
+    """1,024 names of 255 bytes, which collide under the default hasher as the owners of first records."""
+    random_numbers = random.Random(5)
+    state = (folded_multiply(SEED, MULTIPLIER ^ 16) + 255) & MASK
+    choices = []
+    for block in range(14):
+        if block % 4 == 0:
+            blocks = [bytes([61 if block == 12 else 63]) + b"x" * 15]
+            state = folded_multiply(struct.unpack("<Q", blocks[0][:8])[0] ^ state, struct.unpack("<Q", blocks[0][8:])[0] ^ MULTIPLIER)
+        else:
+            blocks, state = two_blocks(state, random_numbers)
+        choices.append(blocks)
+    return [b"".join(blocks) + b"x" * 30 + b"\0" for blocks in itertools.product(*choices)]
+
+
+def folded_hash(owner):
+    """What the default hasher makes of a first record's place."""
+    state = (folded_multiply(SEED, MULTIPLIER ^ 16) + len(owner)) & MASK
+    words = [struct.unpack("<QQ", owner[at:at + 16]) for at in [*range(0, len(owner) - 16, 16), len(owner) - 16]]
+    for one, other in words:
+        state = folded_multiply(one ^ state, other ^ MULTIPLIER)
+    return state
+
+
+def collisions(program):
+    """Records of names that collide under the default hasher, and of others as long."""
+    owners = colliding()
+    assert len(set(owners)) == 1024 and len(set(map(folded_hash, owners))) == 1
+    others = [owner[:-9] + f"{number:08}".encode() + b"\0" for number, owner in enumerate(owners)]
+    for what, names in (("that collide under the kit's default hasher", owners), ("as long that don't", others)):
+        heard = packets([record(owner, A, struct.pack(">I", number)) for number, owner in enumerate(names)], 30)
+        value = cost(program, asking("other"), heard) * len(heard) / len(names)
+        yield f"1,024 records of names of 255 bytes {what}", f"{value:,.0f} instructions a record", ""
+
+
 def ticks(program):
     for count in (100, 30_000):
         held = ["daemon 1", "open 1"] + packets([address(number) for number in range(count)]) + ["at 9000", "call 1 1 1 query A other.local"]
@@ -134,7 +203,7 @@ def rows(program=None):
     if program is None:
         subprocess.run([os.path.join(TOP, "mdnsd"), "script"], stdin=subprocess.DEVNULL, check=True)
         program = os.path.join(TOP, "crates", "mdnsd", "out", "mdnsd")
-    for part in (known, many_of_one_name, ticks, full_table, memory):
+    for part in (known, many_of_one_name, hostile, collisions, ticks, full_table, memory):
         yield from part(program)
 
 
