@@ -12,4 +12,4 @@ pub use claim::{Change, Claim, Gone};
 pub use due::Due;
 pub use groups::Groups;
 pub use law::{answers_follow_what_is_kept, claims_follow_the_history, groups_follow_the_history};
-pub use naming::{Naming, Service};
+pub use naming::{Naming, Published, Service};

@@ -14,12 +14,24 @@ impl Claim {
     pub fn replace(&mut self, now: u64, unique: Rrs, shared: Rrs)
         ensures { self.new ≡ replaced now unique shared self.old }
     {
+        let renewed = self.replaced(now, unique, shared);
+        *self = renewed;
+    }
+
+    /// The claim with other records: a sure one is announced anew where they differ. It takes no memory. (RFC 6762 8.4)
+    pub fn replaced(&self, now: u64, unique: Rrs, shared: Rrs) -> Claim
+        ensures { result ≡ replaced now unique shared self.now }
+    {
         let renewed = self.sure && !are_same(&unique, &shared, self);
-        self.unique = unique;
-        self.shared = shared;
-        if renewed {
-            self.announced = 0;
-            self.next = now;
+        Claim {
+            group: self.group,
+            unique,
+            shared,
+            probes: self.probes,
+            due: self.due,
+            sure: self.sure,
+            announced: if renewed { 0 } else { self.announced },
+            next: if renewed { now } else { self.next },
         }
     }
 }

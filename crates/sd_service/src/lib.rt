@@ -6,7 +6,7 @@ mod order;
 mod service;
 
 pub use host::{host_name, host_records};
-pub use service::{Service, service_name, service_records};
+pub use service::{Service, service_name, service_records, shared_records};
 
 #[cfg(test)]
 mod tests;

@@ -103,8 +103,9 @@ fn unique_record(name: &Name, ttl: u32, rdata: Rdata) -> Rr
     }
 }
 
-// PTR from the type, from the list of types, and from each subtype.
-fn shared_records(alloc: Global, name: &Name, regtype: &RegType) -> Result<Rrs, AllocError>
+/// PTR from the type to a service of a name, from the list of types to the type, and from each subtype to the service; each once,
+/// in record order. Refused only for want of memory. (RFC 6763 4.1, 7.1 and 9)
+pub fn shared_records(alloc: Global, name: &Name, regtype: &RegType) -> Result<Rrs, AllocError>
     ensures { IfOk result (λ shared. shared ≡ service_shared name.now regtype.now) }
 {
     let mut shared = Vec::new(alloc);
