@@ -1,0 +1,10 @@
+use Rattle.std.proofs.Common.{◌∙◌, ap}
+use Rattle.mdns_probe.specs.declared.claim.Claim.{Claim}
+use Rattle.mdns_claims.proofs.Named.{is_named}
+use Rattle.mdns_claims.proofs.begin.begun_claimant.Goals as goal
+
+pub new-requires : goal.new-requires
+new-requires c =
+    is_named (record { group = c.args.naming; number = c.first-number.result; claim = c.begun-claim.result })
+    c.args.published.now.config.now c.args.published.now.host.now c.name_under-name.result c.args.published.now.txt.now
+    (ap (λ (k : Claim). k.unique) c.begun-claim.ensures ∙ c.in_ok-unique.ensures) c.name_under-name.ensures

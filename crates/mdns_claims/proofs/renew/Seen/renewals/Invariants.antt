@@ -1,0 +1,11 @@
+use Rattle.std.proofs.Common.{◌≡◌, map, take}
+use Rattle.mdns_claims.specs.Seen.{occasion_in}
+use Rattle.mdns_claims.specs.Named.{AreNamed}
+use Rattle.mdns_claims.specs.Planned.{renewal_told}
+use Rattle.mdns_claims.proofs.renew.Seen.renewals.Given as goal
+
+abbrev pub invariant-loop-one : goal.invariant-loop-one
+invariant-loop-one l = record {
+  value : l.renewals.items ≡ map (renewal_told (occasion_in l.self)) (take l.one-index l.groups);
+  named : AreNamed l.renewals.items (take l.one-index l.groups);
+}

@@ -1,0 +1,9 @@
+pub mod State
+pub mod Behind
+pub mod Turning
+pub mod Owned
+pub mod Named
+pub mod Wishes
+pub mod Planned
+pub mod Seen
+pub mod Laws

@@ -1,0 +1,32 @@
+-- Own records by name, and the answers of registrations, read off the groups that are kept.
+use Rattle.std.specs.Prelude.{ℕ, Bool, List, ◌∷◌, [], ◌++◌, map, filter, if◌then◌else◌}
+use Rattle.std.specs.List.{list_any}
+use Rattle.std.specs.Option.{option_map_or}
+use Rattle.dns_name.specs.Names.{folded_eq}
+use Rattle.dns_record.specs.declared.record.Rr.{Rr}
+use Rattle.sd_call.specs.declared.answer.Answer.{Answer}
+use Rattle.sd_call.specs.declared.answer.Answer.TheVariants.{Conflict}
+use Rattle.mdns_history.specs.Answers.{named_if}
+use Rattle.mdns_probe.specs.declared.claim.Claim.{Claim}
+use Rattle.mdns_probe.specs.Kept.{Kept, name_of, own_of}
+use Rattle.mdns_probe.specs.Answering.{registered_by}
+
+-- the records of a name, case aside
+abbrev pub of_name : List (List ℕ) → List Rr → List Rr
+of_name name rrs = filter (λ rr. folded_eq rr.owner name) rrs
+
+-- the own records of groups
+abbrev pub own_in : List Kept → List Rr
+own_in kept = own_of (map (λ one. one.claim) kept)
+
+-- the answers of a registration, where these groups are live
+abbrev pub registered_answers : ℕ → ℕ → List Kept → List Answer
+registered_answers session op kept = option_map_or (λ one. named_if one.claim.sure (name_of one)) (registered_by session op kept) (Conflict ∷ [])
+
+-- whether a name is one of several, case aside
+abbrev pub is_among : List (List (List ℕ)) → List (List ℕ) → Bool
+is_among names name = list_any (folded_eq name) names
+
+-- the records of a claim that have a name, if it is sure
+abbrev pub claimed_of : List (List ℕ) → Bool → Claim → List Rr
+claimed_of name sure claim = if sure then of_name name claim.unique ++ of_name name claim.shared else []

@@ -1,0 +1,459 @@
+// The claims of a daemon.
+ghost use Rattle.std.specs.Prelude.{IfOk, List, OnOk, [], filter, is_some, map, not, vec_capacity, vec_len, ℕ, ◌++◌, ◌+◌, ◌<◌, ◌^◌, ◌∷◌, ◌≡◌, ◌≤◌};
+ghost use Rattle.std.specs.List.{flat_map};
+ghost use Rattle.std.specs.Option.{option_map, option_map_or, option_to_list};
+ghost use Rattle.dns_name.specs.Lists.{least};
+ghost use Rattle.mdns_claims.specs.Behind.{contents_told, ends_by, host_kept, host_named, next_in, occasion_of, probes_told, storm_told, ticked_at};
+ghost use Rattle.mdns_claims.specs.Named.{AreNamed, with_renewals};
+ghost use Rattle.mdns_claims.specs.Owned.{of_name, own_in, registered_answers};
+ghost use Rattle.mdns_claims.specs.Planned.{FitsGroups, IsAcceptable, IsDone, IsFor, IsPlan, counted_by, ends_some, going_on, is_update, kept_by, means_of, renewal_told, room_of};
+ghost use Rattle.mdns_claims.specs.Seen.{means_in, occasion_in};
+ghost use Rattle.mdns_claims.specs.State.{Stands};
+ghost use Rattle.mdns_happened.specs.Told.{told_by};
+ghost use Rattle.mdns_history.specs.Fitting.{boot_entry};
+ghost use Rattle.mdns_history.specs.Probing.{is_conflict};
+ghost use Rattle.mdns_probe.specs.Answering.{code_by};
+ghost use Rattle.mdns_probe.specs.Claiming.{begun};
+ghost use Rattle.mdns_probe.specs.Kept.{disturbed_for};
+
+use crate::answers::registered_answer;
+use crate::begin::{begun, begun_claimant};
+use crate::claimant::Claimant;
+use crate::codes::{Before, call_code};
+use crate::own::put_own;
+use crate::plan::{Deed, Plan};
+use crate::probes::probes;
+use crate::renew::{Seen, ends, number_after};
+use crate::renewal::Renewal;
+use crate::turns::claim_marks;
+use bytes::Bytes;
+use dns_message::Rrs;
+use dns_name::{Label, Name};
+use mdns_conflict::Storm;
+use mdns_happened::{Happened, When};
+use mdns_history::{Config, HostConfig, Mark, Operation, Sends};
+use mdns_probe::{Naming, Published};
+use sd_call::{Answer, Request};
+use sd_service::host_name;
+use std::alloc::{AllocError, Global};
+use std::marker::Model;
+
+/// What a daemon claims: the names of its host and of registrations, each with its probes; how many registrations were accepted; and
+/// the conflicts of the last time. Moments are in ms. (RFC 6762 8 and 9)
+#[derive(Drop)]
+pub struct Claims {
+    alloc: Global,
+    config: Config,
+    announces: bool,
+    number: u32,
+    registered: u64,
+    groups: Vec<Claimant>,
+    storm: Storm,
+}
+
+impl Model for Claims {
+    ghost use Rattle.std.specs.Prelude.{◌-◌, vec_len, vec_capacity};
+    ghost use Rattle.mdns_claims.specs.State.{State};
+
+    ghost Value = { State };
+
+    ghost view = { λ a. record {
+      contents = record { config = a.config; announces = a.announces; number = a.number; registered = a.registered; kept = a.groups.items; storm = a.storm };
+      spare = vec_capacity a.groups - vec_len a.groups;
+    } };
+}
+
+impl Claims {
+    /// The claims of a daemon at its first moment: that of its host, if it has one. With `announces` it announces what it
+    /// claims. Refused only for want of memory.
+    pub fn new(
+        alloc: Global,
+        config: &Config,
+        when: When,
+        announces: bool,
+    ) -> Result<Claims, AllocError>
+        ensures stands { IfOk result (λ claims. Stands claims.contents (boot_entry when.moment when.word config.now ∷ [])) }
+        ensures config { IfOk result (λ claims. claims.contents.config ≡ config.now) }
+        ensures announces { IfOk result (λ claims. claims.contents.announces ≡ announces) }
+    {
+        Ok(Claims {
+            alloc,
+            config: copy_config(config),
+            announces,
+            number: 1,
+            registered: 0,
+            groups: first_groups(alloc, config, when)?,
+            storm: Storm::new(),
+        })
+    }
+
+    /// The first moment, in ms, from which on something is due of a group; `None` exactly where there is none.
+    pub fn next_due(&self) -> Option<u64>
+        ensures { result ≡ least (flat_map (next_in self.now.contents.announces) self.now.contents.kept) }
+    {
+        first_due(&self.groups, self.announces)
+    }
+
+    /// The code of a session's call, where these are its operations: 0, or that of the first fault. The codes are those of
+    /// `dns_sd.h`.
+    pub fn code(&self, session: u64, op: u32, request: &Request, operations: &[Operation]) -> i32
+        ensures { result ≡ code_by (is_some self.now.contents.config.host) self.now.contents.registered self.now.contents.kept operations.now session op request.now }
+    {
+        let before = Before {
+            hosted: self.config.host.is_some(),
+            registered: self.registered,
+            groups: &self.groups,
+            operations,
+        };
+        call_code(&before, session, op, request)
+    }
+
+    /// The answer of a registration: its name once that is sure, and a conflict where its group failed.
+    pub fn answer(&self, session: u64, op: u32) -> Option<Answer>
+        ensures { option_to_list result ≡ registered_answers session op self.now.contents.kept }
+    {
+        registered_answer(&self.groups, session, op)
+    }
+
+    /// Puts the own records of a name behind others. Refused only for want of memory.
+    pub fn put_own(&self, rrs: &mut Rrs, name: &Name) -> Result<(), AllocError>
+        ensures { OnOk result (rrs.new ≡ rrs.old ++ of_name name.now (own_in self.now.contents.kept)) }
+    {
+        put_own(rrs, &self.groups, name)
+    }
+
+    /// The probes that are sent by an event: once time has passed those of the groups that are due. Refused only for want of
+    /// memory. (RFC 6762 8.1)
+    pub fn probes(&self, when: When, happened: &Happened<'_>) -> Result<Sends, AllocError>
+        ensures { IfOk result (λ sent. sent ≡ probes_told (told_by happened.now).ticks self.now.contents.kept when.moment) }
+    {
+        probes(self.alloc, &self.groups, when, happened)
+    }
+
+    /// What an event makes of claims. Nothing is changed. Refused only for want of memory.
+    pub fn plan(&self, when: When, happened: &Happened<'_>) -> Result<Plan, AllocError>
+        requires { IsAcceptable self.now.contents.registered (told_by happened.now).call }
+        ensures plan { IfOk result (λ plan. IsPlan self.now.contents (occasion_of self.now.contents (told_by happened.now) when.moment when.word) plan) }
+        ensures fits { IfOk result (λ plan. IsFor self.now.contents.registered self.now.contents.kept plan.deed) }
+    {
+        let marks = claim_marks(self.alloc, &self.groups, happened)?;
+        let number = number_after(0, marks.as_slice(), self.number);
+        let storm = storm_after(&self.storm, when.moment, marks.as_slice());
+        let seen = Seen {
+            when,
+            happened,
+            marks: marks.as_slice(),
+            config: &self.config,
+            host: host_under(&self.config, number),
+            stormy: storm.stormy(),
+            announces: self.announces,
+        };
+        let deed = deed(self.alloc, &seen, self.registered, &self.groups)?;
+        Ok(Plan {
+            marks,
+            number,
+            storm,
+            deed,
+        })
+    }
+
+    /// Takes the room that a plan needs. Nothing else changes. Refused only for want of memory.
+    pub fn reserve(&mut self, plan: &Plan) -> Result<(), AllocError>
+        ensures contents { self.new.contents ≡ self.old.contents }
+        ensures room { OnOk result (room_of plan.now.deed ≤ self.new.spare) }
+    {
+        if let Deed::Begins(_) = plan.deed {
+            self.groups.reserve(1)?;
+        }
+        Ok(())
+    }
+
+    /// Carries a plan out. It takes no memory.
+    pub fn apply(&mut self, when: When, happened: &Happened<'_>, plan: Plan)
+        requires room { room_of plan.deed ≤ self.old.spare }
+        requires fits { IsFor self.old.contents.registered self.old.contents.kept plan.deed }
+        ensures { (word : ℕ) → let at = occasion_of self.old.contents (told_by happened.now) when.moment word in IsPlan self.old.contents at plan → self.new.contents ≡ contents_told self.old.contents at }
+    {
+        let Plan {
+            marks,
+            number,
+            storm,
+            deed,
+        } = plan;
+        let means = Means {
+            moment: when.moment,
+            announces: self.announces,
+            happened,
+            marks: marks.as_slice(),
+        };
+        self.number = number;
+        self.storm = storm;
+        self.registered = count_after(self.registered, &deed);
+        means.carry_out(&mut self.groups, deed);
+    }
+}
+
+// What a deed is done with: when, whether there are announcements, what happened, and the marks that it gives to claims.
+#[derive(Drop)]
+struct Means<'a> {
+    moment: u64,
+    announces: bool,
+    happened: &'a Happened<'a>,
+    marks: &'a [Mark],
+}
+
+impl Means<'_> {
+    // Does a deed. It takes no memory.
+    fn carry_out(&self, groups: &mut Vec<Claimant>, deed: Deed)
+        requires bound { self.now.moment ≤ 2 ^ 53 }
+        requires room { vec_len groups.old + room_of deed ≤ vec_capacity groups.old }
+        requires fits { FitsGroups groups.old.items deed }
+        ensures { groups.new.items ≡ kept_by (means_in self.now) groups.old.items deed }
+    {
+        match deed {
+            Deed::Nothing => {}
+            Deed::Ticks => tick_all(groups, self.moment, self.announces),
+            Deed::Begins(one) => {
+                let _ = groups.push(one);
+            }
+            Deed::Ends => end(groups, self.happened, self.marks),
+            Deed::Changes(renewals) => {
+                renew_all(groups, renewals);
+                end(groups, self.happened, self.marks);
+            }
+        }
+    }
+}
+
+// How many registrations were accepted behind a deed.
+fn count_after(registered: u64, deed: &Deed) -> u64
+    requires { room_of deed.now ≡ 1 → registered < 2 ^ 63 }
+    ensures { result ≡ counted_by registered deed.now }
+{
+    match deed {
+        Deed::Begins(_) => registered + 1,
+        _ => registered,
+    }
+}
+
+// What is done to the groups by an event. Refused only for want of memory.
+fn deed(
+    alloc: Global,
+    seen: &Seen<'_>,
+    registered: u64,
+    groups: &[Claimant],
+) -> Result<Deed, AllocError>
+    requires call { IsAcceptable registered (told_by seen.now.happened.now).call }
+    requires marks { seen.now.marks.now ≡ disturbed_for (told_by seen.now.happened.now).heard groups.now }
+    ensures done { IfOk result (λ deed. IsDone (occasion_in seen.now) registered groups.now deed) }
+    ensures fits { IfOk result (λ deed. IsFor registered groups.now deed) }
+{
+    if is_tick(seen.happened) {
+        return Ok(Deed::Ticks);
+    }
+    if is_update(seen.happened) {
+        let update = changes(alloc, seen, groups)?;
+        return Ok(update);
+    }
+    if seen.marks.is_empty() {
+        if ends_some(seen.happened) {
+            return Ok(Deed::Ends);
+        }
+        let begun = begun(alloc, seen, registered, groups)?;
+        return Ok(beginning(begun));
+    }
+    let disturbed = changes(alloc, seen, groups)?;
+    Ok(disturbed)
+}
+
+// What becomes of the groups that an event touches, as it is done. Refused only for want of memory.
+fn changes(alloc: Global, seen: &Seen<'_>, groups: &[Claimant]) -> Result<Deed, AllocError>
+    ensures kept { IfOk result (λ deed. kept_by (means_of (occasion_in seen.now)) groups.now deed
+        ≡ going_on (told_by seen.now.happened.now) seen.now.marks.now (with_renewals (map (renewal_told (occasion_in seen.now)) groups.now) groups.now)) }
+    ensures counted { IfOk result (λ deed. (registered : ℕ) → counted_by registered deed ≡ registered) }
+    ensures fits { IfOk result (λ deed. (registered : ℕ) → IsFor registered groups.now deed) }
+{
+    let renewals = seen.renewals(alloc, groups)?;
+    Ok(Deed::Changes(renewals))
+}
+
+// A group that begins, if one does.
+fn beginning(begun: Option<Claimant>) -> Deed
+    ensures { result ≡ option_map_or Deed.Begins begun Deed.Nothing }
+{
+    match begun {
+        Some(one) => Deed::Begins(one),
+        None => Deed::Nothing,
+    }
+}
+
+fn is_tick(happened: &Happened<'_>) -> bool
+    ensures { result ≡ (told_by happened.now).ticks }
+{
+    matches!(happened, Happened::Ticked)
+}
+
+fn is_update(happened: &Happened<'_>) -> bool
+    ensures { result ≡ is_update (told_by happened.now).call }
+{
+    match happened {
+        Happened::Called {
+            request: Request::Update { .. },
+            code: 0,
+            ..
+        } => true,
+        _ => false,
+    }
+}
+
+// Whether operations end.
+fn ends_some(happened: &Happened<'_>) -> bool
+    ensures { result ≡ ends_some (told_by happened.now) }
+{
+    match happened {
+        Happened::Detached { .. } => true,
+        Happened::Called {
+            request: Request::Stop,
+            code: 0,
+            ..
+        } => true,
+        _ => false,
+    }
+}
+
+// The groups at the boot: that of the host, if there is one. Refused only for want of memory.
+fn first_groups(alloc: Global, config: &Config, when: When) -> Result<Vec<Claimant>, AllocError>
+    ensures { IfOk result (λ groups. groups.items ≡ option_to_list (option_map (host_kept when.moment when.word config.now) config.now.host)) }
+{
+    let mut groups = Vec::new(alloc);
+    if let Some(host) = &config.host {
+        groups.push(host_claimant(alloc, config, host, when)?)?;
+    }
+    Ok(groups)
+}
+
+// The host's group, as it begins at the boot. Refused only for want of memory.
+fn host_claimant(
+    alloc: Global,
+    config: &Config,
+    host: &HostConfig,
+    when: When,
+) -> Result<Claimant, AllocError>
+    ensures { IfOk result (λ one. one ≡ host_kept when.moment when.word config.now host.now) }
+{
+    let naming = Naming::host(copy_label(&host.label));
+    let name = naming.name_under(1);
+    let published = Published {
+        config,
+        host: &name,
+        txt: &Bytes::new(),
+    };
+    let wait = u64::from(when.word % 251);
+    begun_claimant(alloc, naming, when.moment, wait, &published)
+}
+
+// The host's name under a number, and the root where there is no host.
+fn host_under(config: &Config, number: u32) -> Name
+    ensures { result ≡ host_named config.now number }
+{
+    match &config.host {
+        Some(host) => host_name(&host.label, number),
+        None => Name::root(),
+    }
+}
+
+fn copy_config(config: &Config) -> Config
+    ensures { result ≡ config.now }
+{
+    Config {
+        address: config.address,
+        host: copy_host(&config.host),
+    }
+}
+
+fn copy_host(host: &Option<HostConfig>) -> Option<HostConfig>
+    ensures { result ≡ host.now }
+{
+    match host {
+        Some(host) => Some(HostConfig {
+            label: copy_label(&host.label),
+            v6: host.v6,
+        }),
+        None => None,
+    }
+}
+
+fn copy_label(label: &Label) -> Label
+    ensures { result ≡ label.now }
+{
+    Label::new(label.as_slice()).unwrap()
+}
+
+// A storm with one conflict more for each mark of one.
+fn storm_after(storm: &Storm, now: u64, marks: &[Mark]) -> Storm
+    ensures { result ≡ storm_told storm.now now marks.now }
+{
+    let mut after = storm.copy();
+    for mark in marks {
+        if is_conflict(mark) {
+            after.note(now);
+        }
+    }
+    after
+}
+
+fn is_conflict(mark: &Mark) -> bool
+    ensures { result ≡ is_conflict mark.now }
+{
+    matches!(
+        mark,
+        Mark::Renamed { .. } | Mark::Contested { .. } | Mark::Failed { .. }
+    )
+}
+
+fn first_due(groups: &[Claimant], announces: bool) -> Option<u64>
+    ensures { result ≡ least (flat_map (next_in announces) groups.now) }
+{
+    let mut first = None;
+    for one in groups {
+        first = earlier(first, one.claim().next_due(announces));
+    }
+    first
+}
+
+// The earlier of two moments that may be there.
+fn earlier(one: Option<u64>, other: Option<u64>) -> Option<u64>
+    ensures { (ones others : List ℕ) → one ≡ least ones → other ≡ least others → result ≡ least (ones ++ others) }
+{
+    match (one, other) {
+        (Some(one), Some(other)) => Some(one.min(other)),
+        (Some(one), None) => Some(one),
+        (None, other) => other,
+    }
+}
+
+fn tick_all(groups: &mut [Claimant], now: u64, announces: bool)
+    requires { now ≤ 2 ^ 53 }
+    ensures { groups.new ≡ map (ticked_at now announces) groups.old }
+{
+    for one in groups.iter_mut() {
+        one.tick(now, announces);
+    }
+}
+
+// Gives groups other numbers and records, each in its place.
+fn renew_all(groups: &mut [Claimant], mut renewals: Vec<Option<Renewal>>)
+    requires { AreNamed renewals.items groups.old }
+    ensures { groups.new ≡ with_renewals renewals.items groups.old }
+{
+    while let Some(renewal) = renewals.pop() {
+        groups[renewals.len()].renew(renewal);
+    }
+}
+
+// Takes out the groups that end.
+fn end(groups: &mut Vec<Claimant>, happened: &Happened<'_>, marks: &[Mark])
+    ensures { groups.new.items ≡ filter (λ one. not (ends_by (told_by happened.now) marks.now one.group)) groups.old.items }
+{
+    groups.retain(|one| !ends(happened, marks, one.naming()));
+}

@@ -1,0 +1,21 @@
+//! The names that a daemon claims, for its host and for registrations: how they are probed, contested and given up, and which
+//! records are its own. (RFC 6762 8 and 9)
+#![tactic(auto)]
+
+mod answers;
+mod begin;
+mod claimant;
+mod claims;
+mod codes;
+mod disturb;
+mod law;
+mod own;
+mod plan;
+mod probes;
+mod renew;
+mod renewal;
+mod turns;
+
+pub use claims::Claims;
+pub use law::claims_follow_the_history;
+pub use plan::{Deed, Plan};

@@ -1,0 +1,42 @@
+// The own records of a name. (RFC 6762 6)
+ghost use Rattle.std.specs.Prelude.{OnOk, ◌++◌, ◌≡◌};
+ghost use Rattle.mdns_claims.specs.Owned.{claimed_of, of_name, own_in};
+
+use crate::claimant::Claimant;
+use dns_message::Rrs;
+use dns_name::Name;
+use dns_record::Rr;
+use mdns_probe::Claim;
+use std::alloc::AllocError;
+
+/// Puts the own records of a name behind others: those of the groups that are sure. Refused only for want of memory.
+pub fn put_own(rrs: &mut Rrs, groups: &[Claimant], name: &Name) -> Result<(), AllocError>
+    ensures { OnOk result (rrs.new ≡ rrs.old ++ of_name name.now (own_in groups.now)) }
+{
+    for one in groups {
+        put_claimed(rrs, one.claim(), one.claim().sure, name)?;
+    }
+    Ok(())
+}
+
+/// Puts the records of a claim that have a name behind others, if it is sure. Refused only for want of memory.
+pub fn put_claimed(rrs: &mut Rrs, claim: &Claim, sure: bool, name: &Name) -> Result<(), AllocError>
+    ensures { OnOk result (rrs.new ≡ rrs.old ++ claimed_of name.now sure claim.now) }
+{
+    if sure {
+        put_of_name(rrs, claim.unique.as_slice(), name)?;
+        put_of_name(rrs, claim.shared.as_slice(), name)?;
+    }
+    Ok(())
+}
+
+fn put_of_name(rrs: &mut Rrs, some: &[Rr], name: &Name) -> Result<(), AllocError>
+    ensures { OnOk result (rrs.new ≡ rrs.old ++ of_name name.now some.now) }
+{
+    for rr in some {
+        if rr.owner.folded_eq(name) {
+            rrs.push(rr.copy()?)?;
+        }
+    }
+    Ok(())
+}
