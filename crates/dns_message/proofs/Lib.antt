@@ -23,3 +23,6 @@ pub mod HeaderAgain
 pub mod ReadAgain
 pub mod ValidParts
 pub mod Valid
+pub mod Searching
+pub mod Drafts
+pub mod Kept

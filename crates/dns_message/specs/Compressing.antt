@@ -1,8 +1,8 @@
 -- How a message is put together, as the code of the writer speaks of it. (RFC 1035 4.1.4)
-use Rattle.std.specs.Prelude.{◌≡◌, ℕ, ◌+◌, List, [], ◌∷◌, ◌++◌, length, Option, Some, None}
-use Rattle.dns_name.specs.Names.{labels_of, IsNameInWire}
+use Rattle.std.specs.Prelude.{◌≡◌, ℕ, ◌+◌, ◌*◌, ◌%◌, List, [], ◌∷◌, ◌++◌, length, take, get_or, Option, Some, None}
+use Rattle.dns_name.specs.Names.{wire_of, labels_of, IsNameInWire}
 use Rattle.dns_message.specs.declared.message.Message.{Message}
-use Rattle.dns_message.specs.Writing.{pointer_to}
+use Rattle.dns_message.specs.Writing.{Offsets, offset_of, pointer_to}
 
 -- a pointer to where the rest of a name was written, if it was
 abbrev pub pointer_bytes : Option ℕ → List ℕ
@@ -19,3 +19,16 @@ pub record IsCut (wire rest : List ℕ) : Type 0 where
 -- how many questions and records a message has
 abbrev pub item_count : Message → ℕ
 item_count m = length m.questions + length m.answers + length m.authority + length m.additional
+
+-- a number below 2048, mixed of a start and of bytes
+unfoldable pub mixed : ℕ → List ℕ → ℕ
+mixed slot [] = slot
+mixed slot (byte ∷ bytes) = mixed ((slot * 33 + byte) % 2048) bytes
+
+-- the slot of a name in wire form: by its length and its first label
+abbrev pub slot_of : List ℕ → ℕ
+slot_of wire = mixed (length wire % 2048) (take (1 + get_or wire 0 0) wire)
+
+-- For each slot it is known before which place no name of it stands.
+pub record AreFirsts (names : Offsets) (firsts : List ℕ) : Type 0 where
+  pub none : (name : List (List ℕ)) → offset_of name (take (get_or firsts (slot_of (wire_of name)) 0) names) ≡ None

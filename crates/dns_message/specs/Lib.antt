@@ -3,3 +3,4 @@ pub mod Writing
 pub mod Packing
 pub mod Compressing
 pub mod Chains
+pub mod Drafting

@@ -4,6 +4,7 @@
 mod chains;
 mod compress;
 mod data;
+mod draft;
 mod fields;
 mod law;
 mod lists;
@@ -12,7 +13,9 @@ mod names;
 mod reading;
 mod sections;
 mod writing;
+mod written_names;
 
+pub use draft::Draft;
 pub use law::{one_message_is_spelled, what_is_written_is_read_again};
 pub use lists::{Questions, Rrs};
 pub use message::{Message, MessageError, WriteError};

@@ -6,7 +6,8 @@ ghost use Rattle.dns_message.specs.declared.message.Message.{Message};
 ghost use Rattle.dns_message.specs.Writing.{Offsets, Piece, written, written_question, written_record, written_data, written_all, header, flag_bytes, count_bytes, class_word, bit_worth};
 ghost use Rattle.dns_message.specs.Compressing.{item_count};
 
-use crate::compress::{Suffix, compress};
+use crate::compress::compress;
+use crate::written_names::WrittenNames;
 use crate::{Message, WriteError};
 use bytes::Bytes;
 use dns_name::Name;
@@ -27,7 +28,7 @@ pub fn write(alloc: Global, message: &Message, limit: usize) -> Result<Bytes, Wr
         return Err(WriteError::TooLong);
     }
     let mut out = Vec::new(alloc);
-    let mut names = Vec::new(alloc);
+    let mut names = WrittenNames::new(alloc)?;
     put_header(&mut out, message)?;
     put_questions(&mut out, &mut names, message.questions.as_slice(), limit)?;
     put_records(&mut out, &mut names, message.answers.as_slice(), limit)?;
@@ -101,14 +102,14 @@ fn put_length(out: &mut Vec<u8>, length: usize) -> Result<(), WriteError>
 
 fn put_questions<'a>(
     out: &mut Vec<u8>,
-    names: &mut Vec<Suffix<'a>>,
+    names: &mut WrittenNames<'a>,
     questions: &'a [Question],
     limit: usize,
 ) -> Result<(), WriteError>
     requires most { limit ≤ 8972 }
     requires within { length out.old.items ≤ limit }
-    ensures { let piece = written_all written_question names.old.items (length out.old.items) questions.now in MatchResult result
-        (λ _. (out.new.items ≡ out.old.items ++ piece.bytes) × (names.new.items ≡ piece.names) × (length out.new.items ≤ limit))
+    ensures { let piece = written_all written_question names.old (length out.old.items) questions.now in MatchResult result
+        (λ _. (out.new.items ≡ out.old.items ++ piece.bytes) × (names.new ≡ piece.names) × (length out.new.items ≤ limit))
         (λ e. e ≢ WriteError.NoMemory → limit < length out.old.items + length piece.bytes) }
 {
     for question in questions {
@@ -122,14 +123,14 @@ fn put_questions<'a>(
 
 fn put_records<'a>(
     out: &mut Vec<u8>,
-    names: &mut Vec<Suffix<'a>>,
+    names: &mut WrittenNames<'a>,
     rrs: &'a [Rr],
     limit: usize,
 ) -> Result<(), WriteError>
     requires most { limit ≤ 8972 }
     requires within { length out.old.items ≤ limit }
-    ensures { let piece = written_all written_record names.old.items (length out.old.items) rrs.now in MatchResult result
-        (λ _. (out.new.items ≡ out.old.items ++ piece.bytes) × (names.new.items ≡ piece.names) × (length out.new.items ≤ limit))
+    ensures { let piece = written_all written_record names.old (length out.old.items) rrs.now in MatchResult result
+        (λ _. (out.new.items ≡ out.old.items ++ piece.bytes) × (names.new ≡ piece.names) × (length out.new.items ≤ limit))
         (λ e. e ≢ WriteError.NoMemory → limit < length out.old.items + length piece.bytes) }
 {
     for rr in rrs {
@@ -142,14 +143,14 @@ fn put_records<'a>(
 }
 
 #[tactic(auto, unfolding(crate::specs::Writing::written_question))]
-fn put_question<'a>(
+pub(crate) fn put_question<'a>(
     out: &mut Vec<u8>,
-    names: &mut Vec<Suffix<'a>>,
+    names: &mut WrittenNames<'a>,
     question: &'a Question,
 ) -> Result<(), AllocError>
     requires { length out.old.items ≤ 8972 }
-    ensures bytes { OnOk result (out.new.items ≡ out.old.items ++ (written_question names.old.items (length out.old.items) question.now).bytes) }
-    ensures names { OnOk result (names.new.items ≡ (written_question names.old.items (length out.old.items) question.now).names) }
+    ensures bytes { OnOk result (out.new.items ≡ out.old.items ++ (written_question names.old (length out.old.items) question.now).bytes) }
+    ensures names { OnOk result (names.new ≡ (written_question names.old (length out.old.items) question.now).names) }
 {
     let name = compress(names, out.len(), &question.name)?;
     name.put(out)?;
@@ -166,14 +167,14 @@ fn class(top_bit: bool) -> [u8; 2]
 }
 
 #[tactic(auto, unfolding(crate::specs::Writing::written_record))]
-fn put_record<'a>(
+pub(crate) fn put_record<'a>(
     out: &mut Vec<u8>,
-    names: &mut Vec<Suffix<'a>>,
+    names: &mut WrittenNames<'a>,
     rr: &'a Rr,
 ) -> Result<(), WriteError>
     requires { length out.old.items ≤ 8972 }
-    ensures { let piece = written_record names.old.items (length out.old.items) rr.now in MatchResult result
-        (λ _. (out.new.items ≡ out.old.items ++ piece.bytes) × (names.new.items ≡ piece.names))
+    ensures { let piece = written_record names.old (length out.old.items) rr.now in MatchResult result
+        (λ _. (out.new.items ≡ out.old.items ++ piece.bytes) × (names.new ≡ piece.names))
         (λ e. e ≢ WriteError.NoMemory → 8972 < length piece.bytes) }
 {
     let owner = compress(names, out.len(), &rr.owner)?;
@@ -189,12 +190,12 @@ fn put_record<'a>(
 #[tactic(auto, unfolding(crate::specs::Writing::written_data))]
 fn put_data<'a>(
     out: &mut Vec<u8>,
-    names: &mut Vec<Suffix<'a>>,
+    names: &mut WrittenNames<'a>,
     rdata: &'a Rdata,
 ) -> Result<(), WriteError>
     requires { length out.old.items ≤ 9300 }
-    ensures { let piece = written_data names.old.items (length out.old.items + 2) rdata.now in MatchResult result
-        (λ _. (out.new.items ≡ out.old.items ++ to_be_bytes w16 (length piece.bytes) ++ piece.bytes) × (names.new.items ≡ piece.names))
+    ensures { let piece = written_data names.old (length out.old.items + 2) rdata.now in MatchResult result
+        (λ _. (out.new.items ≡ out.old.items ++ to_be_bytes w16 (length piece.bytes) ++ piece.bytes) × (names.new ≡ piece.names))
         (λ e. e ≢ WriteError.NoMemory → 8972 < length piece.bytes) }
 {
     match rdata {

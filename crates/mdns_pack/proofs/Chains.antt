@@ -1,13 +1,13 @@
 -- Parts of a list and the queries of a batch, one element after another.
-use Rattle.std.proofs.Common.{◌≡◌, ℕ, ◌+◌, ◌<◌, Bool, true, false, cond, List, [], ◌∷◌, ◌++◌, length, take, drop, get_or, refl, ap, ◌∙◌, sym, append_assoc, ◌-◌, arith}
+use Rattle.std.proofs.Common.{◌≡◌, ℕ, true≢false, map, ◌+◌, ◌<◌, Bool, true, false, cond, List, [], ◌∷◌, ◌++◌, length, take, drop, get_or, refl, ap, ◌∙◌, sym, append_assoc, arith}
 use Rattle.std.specs.Prelude.{filter}
-use Rattle.std.proofs.lemmas.List.{drop_more, take_more, length_push}
-use Rattle.std.proofs.Math.Seq.{take-append_seam, get_or-append_seam}
+use Rattle.std.proofs.lemmas.List.{drop_more, take_more, take-map}
+use Rattle.dns_record.specs.declared.record.Key.{Key}
 use Rattle.dns_record.specs.declared.record.Rr.{Rr}
 use Rattle.dns_record.specs.declared.record.Question.{Question}
 use Rattle.dns_message.specs.declared.message.Message.{Message}
-use Rattle.dns_message.specs.Packing.{query_with, bare_query, fits, parts_from, parts_of, query_chain}
-use Rattle.mdns_pack.specs.Growing.{with_answer}
+use Rattle.dns_message.specs.Packing.{query_with, bare_query, question_for, fits, parts_from, parts_of, query_chain}
+use Rattle.dns_message.specs.Drafting.{with_answer}
 
 module _ {X : Type 0} (fitting : List X → Bool) where
   -- the parts of a list, of which so many elements are in the first part for sure
@@ -200,13 +200,15 @@ underway-put all messages messages' message message' asked known i rr within is 
           bare = refl;
         })
 
--- the last element of a list, and those before it
-pub split_push : {X : Type 0} (xs others : List X) (last : X) → xs ≡ others ++ last ∷ [] →
-    (0 < length xs) × (take (length xs - 1) xs ≡ others) × (get_or xs (length xs - 1) last ≡ last)
-split_push {X} xs others last e =
-    let n : length xs ≡ length others + 1 = ap length e ∙ length_push others last in
-    let m : length xs - 1 ≡ length others = omega arith in (
-      omega arith,
-      ap (λ (k : ℕ). take k xs) m ∙ ap (take (length others)) e ∙ take-append_seam others (last ∷ []),
-      ap (λ (k : ℕ). get_or xs k last) m ∙ ap (λ (l : List X). get_or l (length others) last) e ∙ get_or-append_seam others last [] last,
-    )
+-- one more question of those for keys
+pub asked_more : (keys : List Key) (questions : List Question) (n : ℕ) (q : Question) → questions ≡ map question_for keys → n < length questions → q ≡ get_or questions n q
+    → map question_for (take (n + 1) keys) ≡ map question_for (take n keys) ++ q ∷ []
+asked_more keys questions n q same h is =
+    sym (take-map question_for (n + 1) keys) ∙ ap (take (n + 1)) (sym same) ∙ take_more questions n q h
+    ∙ ap (λ (x : Question). take n questions ++ x ∷ []) (sym is)
+    ∙ ap (λ (l : List Question). l ++ q ∷ []) (ap (take n) same ∙ take-map question_for n keys)
+
+-- what a test lets through
+pub let_through : {X : Type 0} (b r : Bool) (x y after : X) → r ≡ b → r ≡ true → after ≡ cond b x y → after ≡ x
+let_through true r x y after e t h = h
+let_through false r x y after e t h = absurd (true≢false (sym t ∙ e))

@@ -3,7 +3,6 @@
 
 mod lists;
 mod query;
-mod room;
 
 pub use lists::Messages;
 pub use query::pack_query;

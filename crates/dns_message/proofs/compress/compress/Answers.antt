@@ -1,6 +1,5 @@
 use Rattle.std.proofs.Common.{◌≡◌, ◌-◌, ◌++◌, ℕ, List, [], ◌∷◌, length, arith, ap, ◌∙◌, append-nil, length-append}
-use Rattle.dns_name.specs.Names.{labels_of}
-use Rattle.dns_message.specs.Writing.{Piece, offset_of}
+use Rattle.dns_message.specs.Writing.{Piece}
 use Rattle.dns_message.proofs.NameParts.{begins, found, pushed_on, ended}
 use Rattle.dns_message.proofs.compress.compress.Goals as goal
 
@@ -16,15 +15,11 @@ labels-init c =
 
 pub returns-in-Some-clause-bytes : goal.returns-in-Some-clause-bytes
 returns-in-Some-clause-bytes c =
-    ap (λ (p : Piece). p.bytes)
-    (found _ _ _ c.in-Some.offset _ _ _ c.labels.invariant.under_way c.labels-test.true
-    (c.in-Some.ensures.value ∙ ap (offset_of (labels_of c.labels.rest.now)) c.as_slice.ensures.value))
+    ap (λ (p : Piece). p.bytes) (found _ _ _ c.in-Some.offset _ _ _ c.labels.invariant.under_way c.labels-test.true c.in-Some.ensures.value)
 
 pub returns-in-Some-clause-names : goal.returns-in-Some-clause-names
 returns-in-Some-clause-names c =
-    ap (λ (p : Piece). p.names)
-    (found _ _ _ c.in-Some.offset _ _ _ c.labels.invariant.under_way c.labels-test.true
-    (c.in-Some.ensures.value ∙ ap (offset_of (labels_of c.labels.rest.now)) c.as_slice.ensures.value))
+    ap (λ (p : Piece). p.names) (found _ _ _ c.in-Some.offset _ _ _ c.labels.invariant.under_way c.labels-test.true c.in-Some.ensures.value)
 
 pub labels-preserved : goal.labels-preserved
 labels-preserved c =
@@ -32,9 +27,7 @@ labels-preserved c =
     record {
       wire = c.labels.invariant.wire;
       within = omega (arith, ap length cut.bytes, length-append cut.label c.behind_label-rest.result.now, c.labels.invariant.within);
-      under_way = pushed_on _ _ _ _ _ _ _ _ c.labels.invariant.wire c.labels.invariant.within c.labels.invariant.under_way cut
-          (c.in_default.ensures.value ∙ ap (offset_of (labels_of c.labels.rest.now)) c.as_slice.ensures.value)
-          (c.in_ok-push.ensures.items ∙ ap (λ (x : List (List ℕ) × ℕ). c.labels.names.items ++ x ∷ []) c.new.ensures);
+      under_way = pushed_on _ _ _ _ _ _ _ _ c.labels.invariant.wire c.labels.invariant.within c.labels.invariant.under_way cut c.in_default.ensures.value c.in_ok-push.ensures;
     }
 
 pub returns-clause-bytes : goal.returns-clause-bytes

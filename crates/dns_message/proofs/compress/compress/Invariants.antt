@@ -7,7 +7,7 @@ abbrev pub invariant-labels : goal.invariant-labels
 invariant-labels l = record {
   wire : l.wire ≡ wire_of l.name;
   within : length l.rest ≤ length l.wire;
-  under_way : IsUnderWay l.fn.names.items l.at l.name l.names.items (take (length l.wire - length l.rest) l.wire) l.rest;
+  under_way : IsUnderWay l.fn.names l.at l.name l.names (take (length l.wire - length l.rest) l.wire) l.rest;
 }
 
 abbrev pub decreases-labels : goal.decreases-labels

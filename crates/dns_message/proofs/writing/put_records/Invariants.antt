@@ -5,6 +5,6 @@ use Rattle.dns_message.proofs.writing.put_records.Given as goal
 
 abbrev pub invariant-loop-rr : goal.invariant-loop-rr
 invariant-loop-rr l = record {
-  part : ArePartWritten written_record l.fn.names.items l.fn.out.items l.rrs l.names.items l.out.items (drop l.rr-index l.rrs);
+  part : ArePartWritten written_record l.fn.names l.fn.out.items l.rrs l.names l.out.items (drop l.rr-index l.rrs);
   within : length l.out.items ≤ l.limit;
 }

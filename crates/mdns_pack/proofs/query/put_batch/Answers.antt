@@ -12,11 +12,11 @@ loop-rr-preserved c =
     let asked : Rr → Bool = λ rr. list_any (λ key. matches key rr) c.args.batch.now in
     elim c.if-matches_any.branch [
       | then-matches_any+in_ok-put_known w ↦
-          underway-put (c.args.messages.now ++ batch_messages c.args.known.now c.args.batch.now) c.loop-rr.messages c.if-matches_any.messages c.loop-rr.message c.if-matches_any.message asked
+          underway-put (c.args.messages.now ++ batch_messages c.args.known.now c.args.batch.now) c.loop-rr.messages c.if-matches_any.messages c.loop-rr.draft c.if-matches_any.draft asked
           c.args.known.now c.loop-rr.rr-index c.rr-item.result c.loop-rr-test.true c.rr-item.is (sym c.matches_any.ensures ∙ w.if-matches_any.true)
-          (w.messages-is ∙ w.in_ok-put_known.ensures.messages) (w.message-is ∙ w.in_ok-put_known.ensures.message) c.loop-rr.invariant
+          (w.messages-is ∙ w.in_ok-put_known.ensures.messages) (w.draft-is ∙ w.in_ok-put_known.ensures.message) c.loop-rr.invariant
       | else-matches_any w ↦
-          underway-over (c.args.messages.now ++ batch_messages c.args.known.now c.args.batch.now) c.loop-rr.messages c.if-matches_any.messages c.loop-rr.message c.if-matches_any.message asked
+          underway-over (c.args.messages.now ++ batch_messages c.args.known.now c.args.batch.now) c.loop-rr.messages c.if-matches_any.messages c.loop-rr.draft c.if-matches_any.draft asked
           c.args.known.now c.loop-rr.rr-index c.rr-item.result c.loop-rr-test.true c.rr-item.is (sym c.matches_any.ensures ∙ w.if-matches_any.false)
-          w.messages-is w.message-is c.loop-rr.invariant
+          w.messages-is w.draft-is c.loop-rr.invariant
     ]

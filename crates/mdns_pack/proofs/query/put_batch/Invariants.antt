@@ -7,4 +7,4 @@ use Rattle.mdns_pack.proofs.query.put_batch.Given as goal
 
 abbrev pub invariant-loop-rr : goal.invariant-loop-rr
 invariant-loop-rr l =
-    IsUnderway (l.initial.messages ++ batch_messages l.known l.batch) l.messages l.message (filter (λ rr. list_any (λ key. matches key rr) l.batch) (drop l.rr-index l.known))
+    IsUnderway (l.initial.messages ++ batch_messages l.known l.batch) l.messages l.draft (filter (λ rr. list_any (λ key. matches key rr) l.batch) (drop l.rr-index l.known))

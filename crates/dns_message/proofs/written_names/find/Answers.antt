@@ -1,6 +1,6 @@
 use Rattle.std.proofs.Common.{sym, ◌∙◌}
 use Rattle.dns_message.proofs.NameParts.{offset_found, offset_passed, offset_none}
-use Rattle.dns_message.proofs.compress.find.Goals as goal
+use Rattle.dns_message.proofs.written_names.find.Goals as goal
 
 pub returns-then-is-clause-value : goal.returns-then-is-clause-value
 returns-then-is-clause-value c =
