@@ -7,7 +7,7 @@ ghost use Rattle.mdns_asking.specs.Walked.{AreHeard};
 use crate::{Asking, Plan};
 use dns_name::Name;
 use dns_record::Rr;
-use mdns_happened::{Happened, Walk, When};
+use mdns_happened::{Happened, OwnWalk, Walk, When};
 use mdns_history::{Cause, Held, Marks};
 use sd_call::{Request, well_formed};
 use sd_sessions::Sessions;
@@ -56,6 +56,7 @@ fn walks(alloc: Global, now: u64, end: u64) -> Result<Vec<Walk>, Fail>
         name: name("A.local")?,
         earlier: Vec::new(alloc),
         later,
+        own: OwnWalk::none(alloc),
     })?;
     Ok(walks)
 }

@@ -18,18 +18,18 @@ use Rattle.mdns_history.specs.Fitting.{bad_mark}
 use Rattle.mdns_cache.specs.Lifetimes.{hearings_at}
 use Rattle.mdns_question.specs.Standing.{mark_of}
 use Rattle.sd_sessions.specs.declared.change.SessionChange.{SessionChange}
+use Rattle.mdns_core.specs.Alone.{alone, kept_outcome}
 use Rattle.mdns_core.specs.State.{State}
 use Rattle.sd_sessions.specs.Sessions.{Session}
-use Rattle.sd_sessions.specs.Answered.{over}
-use Rattle.sd_sessions.specs.Codes.{kept_outcome}
+use Rattle.sd_sessions.specs.Answered.{answered}
 use Rattle.mdns_asking.specs.Asked.{asked_for, sent_for, questions_after}
 use Rattle.mdns_asking.specs.Timed.{all_timed}
-use Rattle.sd_sessions.specs.Settling.{rrs_of, change_for, cuts_of, gifts_of, all_settled, remaining, with_opened, outcome_then, sessions_after}
+use Rattle.sd_sessions.specs.Settling.{change_for, cuts_of, gifts_of, all_settled, remaining, with_opened, outcome_then, sessions_after}
 
 -- the changes that an event brings to the sessions, where these records are live after it
 abbrev pub changes_for : State → Event → List Held → List SessionChange
 changes_for state event later =
-    map (change_for event (kept_outcome state.opened state.sessions event) (over (rrs_of state.held)) (over (rrs_of later))) state.sessions
+    map (change_for event (kept_outcome state.opened state.sessions event) (answered (alone state.held)) (answered (alone later))) state.sessions
 
 -- the sessions after an event, but for what a take hands over
 abbrev pub sessions_then : State → Event → List SessionChange → List Session

@@ -14,7 +14,7 @@ use crate::reading::{Reading, read_event};
 use dns_message::Rrs;
 use mdns_asking::{Asking, Plan as AskingPlan};
 use mdns_cache::Steps;
-use mdns_happened::{Happened, Walk, When};
+use mdns_happened::{Around, Happened, Walk, When};
 use mdns_history::{Event, Gifts, Marks};
 use mdns_records::Records;
 use sd_sessions::{Plan as SessionsPlan, Sessions};
@@ -59,7 +59,11 @@ pub fn make_plan<'a, L: Ledger>(
     let walks = walk(alloc, kept, when, &reading, steps)?;
     let Reading { happened, heard } = reading;
     let asking = kept.asking.plan(when, &happened, &walks, kept.sessions)?;
-    let sessions = kept.sessions.plan(&happened, &walks)?;
+    let around = Around {
+        walks: &walks,
+        registered: &[],
+    };
+    let sessions = kept.sessions.plan(&happened, &around)?;
     let marks = make_marks(alloc, &happened, &asking, &sessions)?;
     let given = sessions.gifts(alloc)?;
     Ok(Plan {

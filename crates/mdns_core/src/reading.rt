@@ -7,7 +7,7 @@ ghost use Rattle.mdns_history.specs.Lifetimes.{room_for_records};
 ghost use Rattle.mdns_happened.specs.Told.{told_of, told_by, packet_told};
 ghost use Rattle.mdns_cache.specs.Lifetimes.{Holds};
 ghost use Rattle.mdns_records.specs.After.{held_after};
-ghost use Rattle.sd_sessions.specs.Codes.{kept_outcome};
+ghost use Rattle.mdns_core.specs.Alone.{kept_outcome};
 ghost use Rattle.mdns_core.specs.Next.{refusal_of, is_full, are_too_many};
 ghost use Rattle.sd_sessions.specs.Kept.{IsWellFormedCall};
 
@@ -19,9 +19,18 @@ use mdns_base::Host;
 use mdns_happened::{Happened, Heard, Idle, Refusal, When};
 use mdns_history::{Event, Mark};
 use mdns_records::Records;
+use sd_sessions::Registering;
 use std::alloc::{AllocError, Global};
 
 const MDNS_PORT: u16 = 5353;
+
+// Without a host nothing is registered.
+const UNREGISTERED: Registering = Registering {
+    hosted: false,
+    spent: false,
+    live: false,
+    taken: false,
+};
 
 /// An event, read once: what happened, and the records that are heard with it.
 #[derive(Drop)]
@@ -58,7 +67,10 @@ pub fn read_event<'a>(
             session,
             op,
             request,
-        } => brings_nothing(alloc, kept.sessions.call(*session, *op, request)),
+        } => brings_nothing(
+            alloc,
+            kept.sessions.call(*session, *op, request, UNREGISTERED),
+        ),
         Event::Take { session, max } => brings_nothing(alloc, take(*session, *max)),
         Event::Tick => brings_nothing(alloc, tick()),
         Event::Boot { config } => brings_nothing(alloc, boot(config)),

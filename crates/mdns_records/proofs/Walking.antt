@@ -3,14 +3,18 @@ use Rattle.std.proofs.Common.{◌≡◌, ℕ, ◌+◌, ◌<◌, ◌≤◌, List,
 use Rattle.std.specs.Prelude.{slice_get}
 use Rattle.std.proofs.lemmas.List.{take_more, take_all, length-append}
 use Rattle.std.proofs.lemmas.Option.{slice_get_within, slice_get_cases, get_or_from_slice_get}
+use Rattle.dns_record.specs.declared.record.Rr.{Rr}
 use Rattle.mdns_history.specs.declared.held.Held.{Held}
 use Rattle.mdns_cache.proofs.ListLemmas.{each-append}
 use Rattle.mdns_happened.specs.declared.walk.Walk.{Walk}
-use Rattle.mdns_happened.specs.Walks.{IsWalk, AreWalks}
+use Rattle.mdns_happened.specs.Walks.{IsWalk, IsOwnWalk, AreWalks, AreOwnWalks}
 
 -- one walk more
 pub walks-push : (held later : List Held) (walks : List Walk) (walk : Walk) → AreWalks held later walks → IsWalk held later walk → AreWalks held later (walks ++ walk ∷ [])
 walks-push held later walks walk all one = each-append (IsWalk held later) walks (walk ∷ []) all (one, tt)
+
+pub own_walks-push : (own later : List Rr) (walks : List Walk) (walk : Walk) → AreOwnWalks own later walks → IsOwnWalk own later walk → AreOwnWalks own later (walks ++ walk ∷ [])
+own_walks-push own later walks walk all one = each-append (IsOwnWalk own later) walks (walk ∷ []) all (one, tt)
 
 -- so many records of a list were copied
 pub record AreCopied (all copied : List Held) : Type 0 where

@@ -6,7 +6,7 @@ ghost use Rattle.dns_name.specs.Names.{folded_eq};
 ghost use Rattle.mdns_history.specs.Hearings.{Hearing};
 ghost use Rattle.mdns_history.specs.Lifetimes.{live_of, room_for_records};
 ghost use Rattle.mdns_cache.specs.Lifetimes.{hearings_at, Holds, AllLive, AllHeard, held_of, next_end_of};
-ghost use Rattle.mdns_happened.specs.Walks.{AreWalks, IsWalk};
+ghost use Rattle.mdns_happened.specs.Walks.{AreOwnWalks, AreWalks, IsOwnWalk, IsWalk};
 ghost use Rattle.mdns_records.specs.After.{held_after, is_of_event, AreTouched};
 
 use crate::changing::change;
@@ -16,7 +16,7 @@ use dns_message::Rrs;
 use dns_name::Name;
 use dns_record::Rr;
 use mdns_cache::{Cache, Steps};
-use mdns_happened::{Walk, When};
+use mdns_happened::{OwnWalk, Walk, When};
 use mdns_history::Held;
 use std::alloc::{AllocError, Global};
 use std::marker::Model;
@@ -114,6 +114,8 @@ impl Records {
     ) -> Result<Vec<Walk>, AllocError>
         ensures walks { IfOk result (λ walks. AreWalks self.now.held (held_after when.moment when.word heard.now self.now.held) walks.items) }
         ensures names { IfOk result (λ walks. map (λ walk. walk.name) walks.items ≡ names.items) }
+        // Which records are the daemon's own isn't known here.
+        ensures own { IfOk result (λ walks. AreOwnWalks [] [] walks.items) }
     {
         let mut walks = Vec::new(self.alloc);
         for name in names {
@@ -132,6 +134,7 @@ impl Records {
     ) -> Result<Walk, AllocError>
         ensures walk { IfOk result (IsWalk self.now.held (held_after when.moment when.word heard.now self.now.held)) }
         ensures name { IfOk result (λ walk. walk.name ≡ name) }
+        ensures own { IfOk result (IsOwnWalk [] []) }
     {
         let earlier = self.records_of(&name, steps)?;
         let later = heard_copy(self.alloc, &earlier, &name, when, heard)?;
@@ -139,6 +142,7 @@ impl Records {
             name,
             earlier,
             later,
+            own: OwnWalk::none(self.alloc),
         })
     }
 

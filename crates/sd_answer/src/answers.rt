@@ -1,20 +1,20 @@
 // The answers of requests.
-ghost use Rattle.std.specs.Prelude.{◌≡◌, [], ◌∷◌, ◌++◌, map, IfOk, OnOk};
+ghost use Rattle.std.specs.Prelude.{◌≡◌, [], ◌∷◌, ◌++◌, IfOk, OnOk};
 ghost use Rattle.std.specs.List.{filter_map, flat_map};
 ghost use Rattle.std.specs.List.Sorted.{IsSorted};
 ghost use Rattle.sd_call.specs.Answers.{answer_cmp};
 ghost use Rattle.mdns_history.specs.Questions.{keys_of};
 ghost use Rattle.mdns_history.specs.Answers.{matching, datum_of, found_in, resolved_with, resolved_pairs, answers_from, answers_over};
+ghost use Rattle.sd_answer.specs.Known.{rrs_in};
 
-use crate::Answers;
+use crate::{Answers, KnownRecords};
 use bytes::Bytes;
 use dns_record::{Key, Rdata, Rr, matches_any};
-use mdns_history::Held;
 use sd_call::{Answer, Request};
 use std::alloc::{AllocError, Global};
 
-/// The answers that held records give to a request with its questions, each once and in the order of their bytes. Two answers
-/// are the same exactly where their bytes in a frame are. A Query and an Address are answered by the type and data of each
+/// The answers that known records, held or own, give to a request with its questions, each once and in the order of their bytes.
+/// Two answers are the same exactly where their bytes in a frame are. A Query and an Address are answered by the type and data of each
 /// record that matches, a Browse by the targets of the PTR records, a Resolve by all pairs of SRV data and TXT data. Records
 /// don't answer a Register, an Update or a Stop. Refused only for want of memory. (RFC 6763 sections 4, 5 and 6)
 #[tactic(auto, unfolding(mdns_history::specs::Answers::answers_over))]
@@ -22,14 +22,14 @@ pub fn answers_of(
     alloc: Global,
     request: &Request,
     questions: &[Key],
-    held: &[Held],
+    known: &KnownRecords<'_>,
 ) -> Result<Answers, AllocError>
     requires { questions.now ≡ keys_of request.now }
-    ensures value { IfOk result (λ answers. answers ≡ answers_over request.now (map (λ one. one.rr) held.now)) }
+    ensures value { IfOk result (λ answers. answers ≡ answers_over request.now (rrs_in known.now)) }
     ensures sorted { IfOk result (λ answers. IsSorted answer_cmp answers) }
 {
     let mut answers = Answers::new(alloc);
-    put_answers(&mut answers, request, questions, held)?;
+    put_answers(&mut answers, request, questions, known)?;
     answers.order()?;
     Ok(answers)
 }
@@ -42,24 +42,31 @@ fn put_answers(
     answers: &mut Answers,
     request: &Request,
     questions: &[Key],
-    held: &[Held],
+    known: &KnownRecords<'_>,
 ) -> Result<(), AllocError>
-    ensures { OnOk result (answers.new ≡ answers.old ++ answers_from request.now (matching questions.now (map (λ one. one.rr) held.now))) }
+    ensures { OnOk result (answers.new ≡ answers.old ++ answers_from request.now (matching questions.now (rrs_in known.now))) }
 {
     match request {
-        Request::Query { .. } | Request::Address { .. } => put_data(answers, questions, held),
-        Request::Browse { .. } => put_instances(answers, questions, held),
-        Request::Resolve { .. } => put_places(answers, questions, held),
+        Request::Query { .. } | Request::Address { .. } => put_data(answers, questions, known),
+        Request::Browse { .. } => put_instances(answers, questions, known),
+        Request::Resolve { .. } => put_places(answers, questions, known),
         Request::Register { .. } | Request::Update { .. } | Request::Stop => Ok(()),
     }
 }
 
 // Puts the data of the matching records.
-fn put_data(answers: &mut Answers, questions: &[Key], held: &[Held]) -> Result<(), AllocError>
-    ensures { OnOk result (answers.new ≡ answers.old ++ filter_map datum_of (matching questions.now (map (λ one. one.rr) held.now))) }
+fn put_data(
+    answers: &mut Answers,
+    questions: &[Key],
+    known: &KnownRecords<'_>,
+) -> Result<(), AllocError>
+    ensures { OnOk result (answers.new ≡ answers.old ++ filter_map datum_of (matching questions.now (rrs_in known.now))) }
 {
-    for one in held {
+    for one in known.held {
         put_datum(answers, questions, &one.rr)?;
+    }
+    for rr in known.own {
+        put_datum(answers, questions, rr)?;
     }
     Ok(())
 }
@@ -77,11 +84,18 @@ fn put_datum(answers: &mut Answers, questions: &[Key], rr: &Rr) -> Result<(), Al
 }
 
 // Puts the targets of the matching PTR records.
-fn put_instances(answers: &mut Answers, questions: &[Key], held: &[Held]) -> Result<(), AllocError>
-    ensures { OnOk result (answers.new ≡ answers.old ++ filter_map (λ rr. found_in rr.rdata) (matching questions.now (map (λ one. one.rr) held.now))) }
+fn put_instances(
+    answers: &mut Answers,
+    questions: &[Key],
+    known: &KnownRecords<'_>,
+) -> Result<(), AllocError>
+    ensures { OnOk result (answers.new ≡ answers.old ++ filter_map (λ rr. found_in rr.rdata) (matching questions.now (rrs_in known.now))) }
 {
-    for one in held {
+    for one in known.held {
         put_instance(answers, questions, &one.rr)?;
+    }
+    for rr in known.own {
+        put_instance(answers, questions, rr)?;
     }
     Ok(())
 }
@@ -105,11 +119,18 @@ fn put_instance(answers: &mut Answers, questions: &[Key], rr: &Rr) -> Result<(),
 }
 
 // Puts each pair of matching SRV and TXT data.
-fn put_places(answers: &mut Answers, questions: &[Key], held: &[Held]) -> Result<(), AllocError>
-    ensures { OnOk result (answers.new ≡ answers.old ++ resolved_pairs (matching questions.now (map (λ one. one.rr) held.now))) }
+fn put_places(
+    answers: &mut Answers,
+    questions: &[Key],
+    known: &KnownRecords<'_>,
+) -> Result<(), AllocError>
+    ensures { OnOk result (answers.new ≡ answers.old ++ resolved_pairs (matching questions.now (rrs_in known.now))) }
 {
-    for one in held {
-        put_place(answers, questions, held, &one.rr)?;
+    for one in known.held {
+        put_place(answers, questions, known, &one.rr)?;
+    }
+    for rr in known.own {
+        put_place(answers, questions, known, rr)?;
     }
     Ok(())
 }
@@ -118,15 +139,15 @@ fn put_places(answers: &mut Answers, questions: &[Key], held: &[Held]) -> Result
 fn put_place(
     answers: &mut Answers,
     questions: &[Key],
-    held: &[Held],
+    known: &KnownRecords<'_>,
     rr: &Rr,
 ) -> Result<(), AllocError>
-    ensures { OnOk result (answers.new ≡ answers.old ++ flat_map (λ srv. filter_map (λ txt. resolved_with srv.rdata txt.rdata) (matching questions.now (map (λ one. one.rr) held.now))) (matching questions.now (rr.now ∷ []))) }
+    ensures { OnOk result (answers.new ≡ answers.old ++ flat_map (λ srv. filter_map (λ txt. resolved_with srv.rdata txt.rdata) (matching questions.now (rrs_in known.now))) (matching questions.now (rr.now ∷ []))) }
 {
     if !matches_any(questions, rr) {
         return Ok(());
     }
-    put_pairs(answers, &rr.rdata, questions, held)?;
+    put_pairs(answers, &rr.rdata, questions, known)?;
     Ok(())
 }
 
@@ -135,15 +156,18 @@ fn put_pairs(
     answers: &mut Answers,
     place: &Rdata,
     questions: &[Key],
-    held: &[Held],
+    known: &KnownRecords<'_>,
 ) -> Result<(), AllocError>
-    ensures { OnOk result (answers.new ≡ answers.old ++ filter_map (λ txt. resolved_with place.now txt.rdata) (matching questions.now (map (λ one. one.rr) held.now))) }
+    ensures { OnOk result (answers.new ≡ answers.old ++ filter_map (λ txt. resolved_with place.now txt.rdata) (matching questions.now (rrs_in known.now))) }
 {
     if place.kind() != SRV {
         return Ok(());
     }
-    for one in held {
+    for one in known.held {
         put_pair(answers, place, questions, &one.rr)?;
+    }
+    for rr in known.own {
+        put_pair(answers, place, questions, rr)?;
     }
     Ok(())
 }

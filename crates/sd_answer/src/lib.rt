@@ -5,11 +5,13 @@ mod answers;
 mod laws;
 mod lists;
 mod questions;
+mod records;
 
 pub use answers::answers_of;
 pub use laws::{answers_are_in_order, only_matching_records_matter, order_of_records_is_free};
 pub use lists::Answers;
 pub use questions::questions_of;
+pub use records::KnownRecords;
 
 #[cfg(test)]
 mod tests;

@@ -1,5 +1,5 @@
 // Requests over a fixed list of records: the questions that each asks, and the answers that it has.
-use crate::{answers_of, questions_of};
+use crate::{KnownRecords, answers_of, questions_of};
 use bytes::Bytes;
 use dns_name::Name;
 use dns_record::{Rr, put_kind, put_name};
@@ -8,7 +8,7 @@ use sd_call::{Request, Text, put_answer, well_formed};
 use std::alloc::Global;
 use std::test::Fail;
 
-// The second type is written in other letters, and `10.0.0.2` stands twice.
+// The second type is written in other letters, and `10.0.0.2` stands twice. The first six are held, the others own.
 const RECORDS: [&str; 12] = [
     "_ipp._tcp.local. 4500 - PTR Printer._ipp._tcp.local.",
     "_IPP._tcp.local. 4500 - PTR Copier._ipp._tcp.local.",
@@ -64,27 +64,27 @@ const RESOLVED: &str =
 #[test]
 fn requests_have_questions_and_answers(rt: HostRuntime) -> Result<(), Fail> {
     let alloc = rt.alloc();
-    let held = records(alloc)?;
+    let records = known_records(alloc)?;
     for (kind, name, written) in QUERIES {
         let name = Name::parse_text(name).map_err(|_| "name")?;
-        let found = outcome(alloc, &Request::Query { kind, name }, &held)?;
+        let found = outcome(alloc, &Request::Query { kind, name }, &records)?;
         assert_eq!(rt; found.as_slice(), written.as_bytes(), "{written}");
     }
     for (families, written) in FAMILIES {
         let name = Name::parse_text("h.local").map_err(|_| "name")?;
-        let found = outcome(alloc, &Request::Address { families, name }, &held)?;
+        let found = outcome(alloc, &Request::Address { families, name }, &records)?;
         assert_eq!(rt; found.as_slice(), written.as_bytes(), "{written}");
     }
     for (regtype, written) in BROWSES {
         let regtype = text(alloc, regtype)?;
-        let found = outcome(alloc, &Request::Browse { regtype }, &held)?;
+        let found = outcome(alloc, &Request::Browse { regtype }, &records)?;
         assert_eq!(rt; found.as_slice(), written.as_bytes(), "{written}");
     }
     let resolve = Request::Resolve {
         label: text(alloc, "Printer")?,
         regtype: text(alloc, "_ipp._tcp")?,
     };
-    let found = outcome(alloc, &resolve, &held)?;
+    let found = outcome(alloc, &resolve, &records)?;
     assert_eq!(rt; found.as_slice(), RESOLVED.as_bytes());
     Ok(())
 }
@@ -92,7 +92,7 @@ fn requests_have_questions_and_answers(rt: HostRuntime) -> Result<(), Fail> {
 #[test]
 fn other_requests_ask_nothing(rt: HostRuntime) -> Result<(), Fail> {
     let alloc = rt.alloc();
-    let held = records(alloc)?;
+    let records = known_records(alloc)?;
     let register = Request::Register {
         label: text(alloc, "Printer")?,
         regtype: text(alloc, "_ipp._tcp")?,
@@ -102,22 +102,34 @@ fn other_requests_ask_nothing(rt: HostRuntime) -> Result<(), Fail> {
     };
     let update = Request::Update { txt: Bytes::new() };
     for request in [&register, &update, &Request::Stop] {
-        assert!(rt; outcome(alloc, request, &held)?.is_empty());
+        assert!(rt; outcome(alloc, request, &records)?.is_empty());
     }
     Ok(())
 }
 
-fn records(alloc: Global) -> Result<Vec<Held>, Fail> {
+#[derive(Drop)]
+struct Records {
+    held: Vec<Held>,
+    own: Vec<Rr>,
+}
+
+fn known_records(alloc: Global) -> Result<Records, Fail> {
     let mut held = Vec::new(alloc);
+    let mut own = Vec::new(alloc);
     for text in RECORDS {
+        let rr = Rr::parse_text(alloc, text)?;
+        if held.len() == 6 {
+            own.push(rr)?;
+            continue;
+        }
         held.push(Held {
-            rr: Rr::parse_text(alloc, text)?,
+            rr,
             heard: 0,
             word: 0,
             end: 0,
         })?;
     }
-    Ok(held)
+    Ok(Records { held, own })
 }
 
 fn text(alloc: Global, text: &str) -> Result<Text, Fail> {
@@ -125,7 +137,7 @@ fn text(alloc: Global, text: &str) -> Result<Text, Fail> {
 }
 
 // A line for each question, and then one for each answer.
-fn outcome(alloc: Global, request: &Request, held: &[Held]) -> Result<Vec<u8>, Fail> {
+fn outcome(alloc: Global, request: &Request, records: &Records) -> Result<Vec<u8>, Fail> {
     if !well_formed(request) {
         return Err("form".into());
     }
@@ -137,7 +149,11 @@ fn outcome(alloc: Global, request: &Request, held: &[Held]) -> Result<Vec<u8>, F
         put_kind(&mut out, question.kind)?;
         out.push(b'\n')?;
     }
-    let answers = answers_of(alloc, request, questions.as_slice(), held)?;
+    let known = KnownRecords {
+        held: &records.held,
+        own: &records.own,
+    };
+    let answers = answers_of(alloc, request, questions.as_slice(), &known)?;
     for answer in answers.as_slice() {
         out.extend_from_slice(b": ")?;
         put_answer(&mut out, answer)?;

@@ -15,14 +15,15 @@ use Rattle.mdns_history.specs.Sessions.{Accepted, accepted_call, opened, succeed
 use Rattle.mdns_history.specs.Outcomes.{most_sessions, most_over_life}
 use Rattle.mdns_happened.specs.Told.{Told, told_of}
 use Rattle.sd_sessions.specs.Sessions.{Session, State}
-use Rattle.sd_sessions.specs.Codes.{kept_code, is_running, refers_to_none, has_number, call_outcome_of, kept_outcome}
+use Rattle.sd_sessions.specs.declared.codes.Registering.{Registering}
+use Rattle.sd_sessions.specs.Codes.{Knowing, kept_code, is_running, refers_to_none, has_number, call_outcome_of, kept_outcome}
 use Rattle.sd_sessions.specs.Kept.{numbers_of, AreKept, IsNewIn, IsFresh, IsRising, IsWellFormedCall}
 use Rattle.sd_sessions.specs.Planned.{IsTold}
 use Rattle.sd_sessions.proofs.NumberLists.{all-more}
 
 -- an accepted call starts what isn't there, and is well formed
-module _ (operations : List Operation) (op : ℕ) (r : Request) where
-  accepted_new : int_eq (kept_code operations op r) no_error ≡ true → is_start r ≡ true → find (has_op op) operations ≡ None
+module _ (known : Registering) (operations : List Operation) (op : ℕ) (r : Request) where
+  accepted_new : int_eq (kept_code known operations op r) no_error ≡ true → is_start r ≡ true → find (has_op op) operations ≡ None
   unfolding kept_code
   accepted_new e starts = of (find (has_op op) operations) (is_start r) _ starts e
     where
@@ -31,9 +32,9 @@ module _ (operations : List Operation) (op : ℕ) (r : Request) where
       of (Some o) true rest h g = cc
       of (Some o) false rest h g = cc
 
-  accepted_formed : int_eq (kept_code operations op r) no_error ≡ true → IsTrue (well_formed r)
+  accepted_formed : int_eq (kept_code known operations op r) no_error ≡ true → IsTrue (well_formed r)
   unfolding kept_code
-  accepted_formed e = of (is_start r && is_running op operations) (refers_to_none op r operations) (well_formed r) _ e
+  accepted_formed e = of (is_start r && is_running op operations) (refers_to_none known op r operations) (well_formed r) _ e
     where
       of : (a b w : Bool) (rest : ℤ) → int_eq (cond a invalid (cond b bad_reference (cond (not w) bad_param rest))) no_error ≡ true → w ≡ true
       of true b w rest g = cc
@@ -41,7 +42,7 @@ module _ (operations : List Operation) (op : ℕ) (r : Request) where
       of false false true rest g = refl
       of false false false rest g = cc
 
-module _ (number op : ℕ) (r : Request) where
+module _ (known : Registering) (number op : ℕ) (r : Request) where
   abbrev call : Accepted
   call = record { session = number; op = op; request = r }
 
@@ -55,22 +56,22 @@ module _ (number op : ℕ) (r : Request) where
       of true e g rest = ((λ same starts. let no : ⊥ = grind arith in absurd no), rest g)
       of false e g rest = absurd (cc)
 
-  new_in : (sessions : List Session) → IsRising (numbers_of sessions) → succeeded (call_outcome_of (find (has_number number) sessions) op r) ≡ true →
+  new_in : (sessions : List Session) → IsRising (numbers_of sessions) → succeeded (call_outcome_of known (find (has_number number) sessions) op r) ≡ true →
       AllByRecursion (IsNewIn (Some call)) sessions
   new_in [] rising e = tt
   new_in (x ∷ xs) rising e = of (x.number == number) refl e (new_in xs rising.1)
     where
-      uncut : (cut : Bool) → succeeded (cond cut outcome.Cut (outcome.Code (kept_code x.operations op r))) ≡ true → int_eq (kept_code x.operations op r) no_error ≡ true
+      uncut : (cut : Bool) → succeeded (cond cut outcome.Cut (outcome.Code (kept_code known x.operations op r))) ≡ true → int_eq (kept_code known x.operations op r) no_error ≡ true
       uncut true h = cc
       uncut false h = h
 
-      of : (b : Bool) → (x.number == number) ≡ b → succeeded (call_outcome_of (cond b (Some x) (find (has_number number) xs)) op r) ≡ true →
-          (succeeded (call_outcome_of (find (has_number number) xs) op r) ≡ true → AllByRecursion (IsNewIn (Some call)) xs) → AllByRecursion (IsNewIn (Some call)) (x ∷ xs)
-      of true here h rest = ((λ same starts. accepted_new x.operations op r (uncut x.cut h) starts), others x.number xs here rising.0)
+      of : (b : Bool) → (x.number == number) ≡ b → succeeded (call_outcome_of known (cond b (Some x) (find (has_number number) xs)) op r) ≡ true →
+          (succeeded (call_outcome_of known (find (has_number number) xs) op r) ≡ true → AllByRecursion (IsNewIn (Some call)) xs) → AllByRecursion (IsNewIn (Some call)) (x ∷ xs)
+      of true here h rest = ((λ same starts. accepted_new known x.operations op r (uncut x.cut h) starts), others x.number xs here rising.0)
       of false here h rest = ((λ same starts. let no : ⊥ = grind arith in absurd no), rest h)
 
-  all_new : (sessions : List Session) → IsRising (numbers_of sessions) → AllByRecursion (IsNewIn (accepted_call (event.Call number op r) (call_outcome_of (find (has_number number) sessions) op r))) sessions
-  all_new sessions rising = of (succeeded (call_outcome_of (find (has_number number) sessions) op r)) (new_in sessions rising)
+  all_new : (sessions : List Session) → IsRising (numbers_of sessions) → AllByRecursion (IsNewIn (accepted_call (event.Call number op r) (call_outcome_of known (find (has_number number) sessions) op r))) sessions
+  all_new sessions rising = of (succeeded (call_outcome_of known (find (has_number number) sessions) op r)) (new_in sessions rising)
     where
       none : (ss : List Session) → AllByRecursion (IsNewIn None) ss
       none [] = tt
@@ -80,25 +81,25 @@ module _ (number op : ℕ) (r : Request) where
       of true h = h refl
       of false h = none sessions
 
-  none_opened : (found : Option Session) → opened (call_outcome_of found op r) ≡ None
+  none_opened : (found : Option Session) → opened (call_outcome_of known found op r) ≡ None
   none_opened None = refl
   none_opened (Some s) = of s.cut
     where
-      of : (b : Bool) → opened (cond b outcome.Cut (outcome.Code (kept_code s.operations op r))) ≡ None
+      of : (b : Bool) → opened (cond b outcome.Cut (outcome.Code (kept_code known s.operations op r))) ≡ None
       of true = refl
       of false = refl
 
-  call_formed : (found : Option Session) → IsWellFormedCall (accepted_call (event.Call number op r) (call_outcome_of found op r))
+  call_formed : (found : Option Session) → IsWellFormedCall (accepted_call (event.Call number op r) (call_outcome_of known found op r))
   call_formed None = tt
   call_formed (Some s) = of s.cut
     where
-      at : (b : Bool) → int_eq (kept_code s.operations op r) no_error ≡ b → IsWellFormedCall (cond b (Some call) None)
-      at true e = accepted_formed s.operations op r e
+      at : (b : Bool) → int_eq (kept_code known s.operations op r) no_error ≡ b → IsWellFormedCall (cond b (Some call) None)
+      at true e = accepted_formed known s.operations op r e
       at false e = tt
 
-      of : (b : Bool) → IsWellFormedCall (accepted_call (event.Call number op r) (cond b outcome.Cut (outcome.Code (kept_code s.operations op r))))
+      of : (b : Bool) → IsWellFormedCall (accepted_call (event.Call number op r) (cond b outcome.Cut (outcome.Code (kept_code known s.operations op r))))
       of true = tt
-      of false = at (int_eq (kept_code s.operations op r) no_error) refl
+      of false = at (int_eq (kept_code known s.operations op r) no_error) refl
 
 none_new : (sessions : List Session) → AllByRecursion (IsNewIn None) sessions
 none_new [] = tt
@@ -112,36 +113,36 @@ behind count false n sessions within e =
     subst (λ k. list_all (λ m. nat_lt m k) (numbers_of sessions) ≡ true) (ap (λ o. unwrap_or o 0) e)
     (all-more (λ m. nat_le m count) (λ m. nat_lt m (count + 1)) (λ m h. grind arith) (numbers_of sessions) within)
 
-fresh_of : (ev : Event) (count : ℕ) (sessions : List Session) (marks : List Mark) → AreKept count sessions → IsFresh (told_of ev (kept_outcome count sessions ev) marks) sessions
+fresh_of : (knowing : Knowing) (ev : Event) (count : ℕ) (sessions : List Session) (marks : List Mark) → AreKept count sessions → IsFresh (told_of ev (kept_outcome knowing count sessions ev) marks) sessions
 unfolding kept_outcome
-fresh_of (event.Boot config) count sessions marks are = record { operation = none_new sessions; session = λ n e. absurd (cc) }
-fresh_of event.Attach count sessions marks are =
+fresh_of knowing (event.Boot config) count sessions marks are = record { operation = none_new sessions; session = λ n e. absurd (cc) }
+fresh_of knowing event.Attach count sessions marks are =
     record { operation = none_new sessions; session = λ n e. behind count (nat_le most_sessions (length sessions) || nat_le most_over_life count) n sessions are.within e }
-fresh_of (event.Detach session) count sessions marks are = record { operation = none_new sessions; session = λ n e. absurd (ended (is_some (find (has_number session) sessions)) n e) }
+fresh_of knowing (event.Detach session) count sessions marks are = record { operation = none_new sessions; session = λ n e. absurd (ended (is_some (find (has_number session) sessions)) n e) }
   where
     ended : (b : Bool) (n : ℕ) → opened (cond b outcome.Ended outcome.Closed) ≡ Some n → ⊥
     ended true n e = cc
     ended false n e = cc
-fresh_of (event.Call session op r) count sessions marks are =
-    record { operation = all_new session op r sessions are.numbers; session = λ n e. let none : opened (call_outcome_of (find (has_number session) sessions) op r) ≡ None = none_opened session op r (find (has_number session) sessions) in absurd (cc) }
-fresh_of (event.Hear from bytes) count sessions marks are = record { operation = none_new sessions; session = λ n e. absurd (cc) }
-fresh_of event.Tick count sessions marks are = record { operation = none_new sessions; session = λ n e. absurd (cc) }
-fresh_of (event.Take session max) count sessions marks are = record { operation = none_new sessions; session = λ n e. absurd (cc) }
+fresh_of knowing (event.Call session op r) count sessions marks are =
+    record { operation = all_new (knowing session op r) session op r sessions are.numbers; session = λ n e. let none : opened (call_outcome_of (knowing session op r) (find (has_number session) sessions) op r) ≡ None = none_opened (knowing session op r) session op r (find (has_number session) sessions) in absurd (cc) }
+fresh_of knowing (event.Hear from bytes) count sessions marks are = record { operation = none_new sessions; session = λ n e. absurd (cc) }
+fresh_of knowing event.Tick count sessions marks are = record { operation = none_new sessions; session = λ n e. absurd (cc) }
+fresh_of knowing (event.Take session max) count sessions marks are = record { operation = none_new sessions; session = λ n e. absurd (cc) }
 
-formed_of : (ev : Event) (count : ℕ) (sessions : List Session) → IsWellFormedCall (accepted_call ev (kept_outcome count sessions ev))
+formed_of : (knowing : Knowing) (ev : Event) (count : ℕ) (sessions : List Session) → IsWellFormedCall (accepted_call ev (kept_outcome knowing count sessions ev))
 unfolding kept_outcome
-formed_of (event.Boot config) count sessions = tt
-formed_of event.Attach count sessions = tt
-formed_of (event.Detach session) count sessions = tt
-formed_of (event.Call session op r) count sessions = call_formed session op r (find (has_number session) sessions)
-formed_of (event.Hear from bytes) count sessions = tt
-formed_of event.Tick count sessions = tt
-formed_of (event.Take session max) count sessions = tt
+formed_of knowing (event.Boot config) count sessions = tt
+formed_of knowing event.Attach count sessions = tt
+formed_of knowing (event.Detach session) count sessions = tt
+formed_of knowing (event.Call session op r) count sessions = call_formed (knowing session op r) session op r (find (has_number session) sessions)
+formed_of knowing (event.Hear from bytes) count sessions = tt
+formed_of knowing event.Tick count sessions = tt
+formed_of knowing (event.Take session max) count sessions = tt
 
 -- What is told of an event on sessions begins nothing that they have.
 pub told-fresh : (told : Told) (state : State) → IsTold told state → AreKept state.opened state.sessions → IsFresh told state.sessions
-told-fresh told state is are = subst (λ (t : Told). IsFresh t state.sessions) (sym is.2) (fresh_of is.0 state.opened state.sessions is.1 are)
+told-fresh told state is are = subst (λ (t : Told). IsFresh t state.sessions) (sym is.3) (fresh_of is.0 is.1 state.opened state.sessions is.2 are)
 
 -- A call that it accepts is well formed.
 pub told-formed : (told : Told) (state : State) → IsTold told state → IsWellFormedCall told.call
-told-formed told state is = subst (λ (t : Told). IsWellFormedCall t.call) (sym is.2) (formed_of is.0 state.opened state.sessions)
+told-formed told state is = subst (λ (t : Told). IsWellFormedCall t.call) (sym is.3) (formed_of is.0 is.1 state.opened state.sessions)

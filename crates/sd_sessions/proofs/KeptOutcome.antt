@@ -13,7 +13,7 @@ use Rattle.mdns_history.specs.Sessions.{opened_count, is_attached, attached_sess
 use Rattle.mdns_history.specs.Outcomes.{most_sessions, most_over_life, call_code, early_outcome}
 use Rattle.mdns_history.specs.Fitting.{IsLegal}
 use Rattle.sd_sessions.specs.Sessions.{Session, session_in, sessions_in}
-use Rattle.sd_sessions.specs.Codes.{kept_code, has_number, call_outcome_of, kept_outcome}
+use Rattle.sd_sessions.specs.Codes.{Knowing, kept_code, has_number, call_outcome_of, kept_outcome}
 use Rattle.sd_sessions.proofs.NumberLists.{has}
 use Rattle.sd_sessions.proofs.Attached.{holds_legal, is_attached-has}
 
@@ -36,25 +36,27 @@ length-sessions : (history : List Entry) (ns : List ℕ) → length (map (sessio
 length-sessions history [] = refl
 length-sessions history (n ∷ ns) = ap suc (length-sessions history ns)
 
--- The outcomes that the history decides are told by the sessions that are kept, where the codes of calls are told by their sessions' operations.
-pub early_outcome-is : (duties : Duties) (past : List Entry) → IsLegal duties past
-    → ((session op : ℕ) (r : Request) → call_code session op r past ≡ kept_code (operations_of session past) op r) → (ev : Event) → early_outcome ev past ≡ kept_outcome (opened_count past) (sessions_in past) ev
+-- The outcomes that the history decides are told by the sessions that are kept, where the codes of calls are told by their sessions' operations and what
+-- is known of registrations.
+pub early_outcome-is : (duties : Duties) (past : List Entry) → IsLegal duties past → (knowing : Knowing)
+    → ((session op : ℕ) (r : Request) → call_code session op r past ≡ kept_code (knowing session op r) (operations_of session past) op r) → (ev : Event)
+    → early_outcome ev past ≡ kept_outcome knowing (opened_count past) (sessions_in past) ev
 unfolding early_outcome kept_outcome
-early_outcome-is duties past legal coded (event.Boot config) = refl
-early_outcome-is duties past legal coded event.Attach =
+early_outcome-is duties past legal knowing coded (event.Boot config) = refl
+early_outcome-is duties past legal knowing coded event.Attach =
     ap (λ k. cond (nat_le most_sessions k || nat_le most_over_life (opened_count past)) outcome.Full (outcome.Opened (opened_count past + 1))) (sym (length-sessions past (attached_sessions past)))
-early_outcome-is duties past legal coded (event.Detach session) =
+early_outcome-is duties past legal knowing coded (event.Detach session) =
     of (is_attached session past) ∙ ap (λ (o : Option Session). cond (is_some o) outcome.Ended outcome.Closed) (sym (found-session duties past legal session))
   where
     of : (b : Bool) → cond b outcome.Ended outcome.Closed ≡ cond (is_some (cond b (Some (session_in past session)) None)) outcome.Ended outcome.Closed
     of true = refl
     of false = refl
-early_outcome-is duties past legal coded (event.Call session op r) =
-    of (is_attached session past) ∙ ap (λ (o : Option Session). call_outcome_of o op r) (sym (found-session duties past legal session))
+early_outcome-is duties past legal knowing coded (event.Call session op r) =
+    of (is_attached session past) ∙ ap (λ (o : Option Session). call_outcome_of (knowing session op r) o op r) (sym (found-session duties past legal session))
   where
-    of : (b : Bool) → cond (not b) outcome.Closed (cond (is_cut session past) outcome.Cut (outcome.Code (call_code session op r past))) ≡ call_outcome_of (cond b (Some (session_in past session)) None) op r
+    of : (b : Bool) → cond (not b) outcome.Closed (cond (is_cut session past) outcome.Cut (outcome.Code (call_code session op r past))) ≡ call_outcome_of (knowing session op r) (cond b (Some (session_in past session)) None) op r
     of true = ap (λ code. cond (is_cut session past) outcome.Cut (outcome.Code code)) (coded session op r)
     of false = refl
-early_outcome-is duties past legal coded (event.Hear from bytes) = refl
-early_outcome-is duties past legal coded event.Tick = refl
-early_outcome-is duties past legal coded (event.Take session max) = refl
+early_outcome-is duties past legal knowing coded (event.Hear from bytes) = refl
+early_outcome-is duties past legal knowing coded event.Tick = refl
+early_outcome-is duties past legal knowing coded (event.Take session max) = refl

@@ -1,8 +1,9 @@
--- The answers of an operation before and after, by the walk of its name.
-use Rattle.std.proofs.Common.{◌≡◌, ℕ, Bool, true, false, cond, not, ◌||◌, List, [], ◌∷◌, ◌++◌, map, take, Option, Some, None, refl, ap, subst, ◌∙◌, sym, true≢false}
+-- The answers of an operation before and after, by the walk of its name, or by what is told of it as a registration.
+use Rattle.std.proofs.Common.{◌≡◌, ℕ, ◌==◌, Bool, true, false, cond, not, ◌&&◌, ◌||◌, List, [], ◌∷◌, ◌++◌, map, filter, take, Option, Some, None, refl, ap, subst, ◌∙◌, sym, arith, true≢false}
 use Rattle.std.specs.List.{find, list_any, flat_map, AllByRecursion}
 use Rattle.std.specs.Option.{is_some, option_map_or, option_to_list, unwrap_or}
-use Rattle.std.proofs.lemmas.Bool.{or_left, or_right}
+use Rattle.std.proofs.lemmas.Bool.{or_left, or_right, and_parts}
+use Rattle.std.proofs.lemmas.List.Elements.{filter-append}
 use Rattle.std.proofs.lemmas.Map.Text.{is_eq-slice_cmp}
 use Rattle.std.proofs.lemmas.Slice.Eq.{bytes_eq-Decides}
 use Rattle.dns_name.specs.Names.{folded_eq}
@@ -15,6 +16,8 @@ use Rattle.sd_call.specs.declared.item.Item.{Item}
 use Rattle.sd_call.specs.declared.item.Item.TheVariants.{Add, Remove}
 use Rattle.sd_call.specs.declared.request.Request.{Request}
 use Rattle.sd_call.specs.Answers.{answer_bytes, answer_cmp, answer_eq}
+use Rattle.sd_call.specs.Requests.{is_register}
+use Rattle.sd_answer.specs.Known.{rrs_of}
 use Rattle.sd_answer.proofs.Members.{of_its_name, nothing_unasked}
 use Rattle.mdns_history.specs.declared.held.Held.{Held}
 use Rattle.mdns_history.specs.declared.operation.Operation.{Operation}
@@ -22,139 +25,212 @@ use Rattle.mdns_history.specs.Sessions.{has_op, is_number}
 use Rattle.mdns_history.specs.Questions.{keys_of}
 use Rattle.mdns_history.specs.Answers.{answers_over}
 use Rattle.mdns_cache.specs.Lifetimes.{held_of}
+use Rattle.mdns_happened.specs.declared.around.Around.{Around}
+use Rattle.mdns_happened.specs.declared.around.Registered.{Registered}
 use Rattle.mdns_happened.specs.declared.walk.Walk.{Walk}
+use Rattle.mdns_happened.specs.Registrations.{is_of, is_told, registered_in, IsRegistered}
 use Rattle.mdns_happened.specs.Told.{Told}
-use Rattle.mdns_happened.specs.Walks.{is_for, walk_of, is_walked, AreWalks}
-use Rattle.sd_sessions.specs.Answered.{Answering, over}
+use Rattle.mdns_happened.specs.Walks.{is_for, walk_of, is_walked, own_of, IsWalk, IsOwnWalk, AreWalks}
+use Rattle.sd_sessions.specs.Answered.{Answering, View, known, answered}
 use Rattle.sd_sessions.specs.Changes.{had, lost, gained, items_between}
 use Rattle.sd_sessions.specs.Codes.{is_running}
-use Rattle.sd_sessions.specs.Settling.{rrs_of, called, brought_told}
+use Rattle.sd_sessions.specs.Settling.{called, brought_told}
 use Rattle.sd_sessions.specs.Sessions.{Session}
-use Rattle.sd_sessions.specs.Walked.{concerned, walk_for, IsCarried, IsSeenOf}
+use Rattle.sd_sessions.specs.Walked.{concerned, walk_for, IsBeside, IsCarried, IsSeenOf}
 use Rattle.sd_sessions.proofs.Nexts.{filter_map_swap}
+
+owner_alike : (one other owner : List (List ℕ)) → folded_eq one other ≡ true → folded_eq owner one ≡ folded_eq owner other
+owner_alike one other owner same = folded_eq-equivalence.symm owner one ∙ folded_eq-equivalence.congr one other owner same ∙ folded_eq-equivalence.symm other owner
 
 -- names that are the same, case aside, have the same records
 held-alike : (one other : List (List ℕ)) → folded_eq one other ≡ true → (held : List Held) → held_of one held ≡ held_of other held
 held-alike one other same [] = refl
-held-alike one other same (h ∷ held) = λ i. cond (alike i) (h ∷ held-alike one other same held i) (held-alike one other same held i)
-  where
-    alike : folded_eq h.rr.owner one ≡ folded_eq h.rr.owner other
-    alike = folded_eq-equivalence.symm h.rr.owner one ∙ folded_eq-equivalence.congr one other h.rr.owner same ∙ folded_eq-equivalence.symm other h.rr.owner
+held-alike one other same (h ∷ held) = λ i. cond (owner_alike one other h.rr.owner same i) (h ∷ held-alike one other same held i) (held-alike one other same held i)
 
-abbrev Has : List Held → List Held → List (List ℕ) → Option Walk → Type 0
-Has held later name None = Unit {0}
-Has held later name (Some walk) = (walk.earlier.items ≡ held_of name held) × (walk.later.items ≡ held_of name later)
+own-alike : (one other : List (List ℕ)) → folded_eq one other ≡ true → (own : List Rr) → own_of one own ≡ own_of other own
+own-alike one other same [] = refl
+own-alike one other same (rr ∷ own) = λ i. cond (owner_alike one other rr.owner same i) (rr ∷ own-alike one other same own i) (own-alike one other same own i)
 
--- the walk of a name has its records
-pub walk-has : (held later : List Held) (name : List (List ℕ)) (walks : List Walk) (walk : Walk) → AreWalks held later walks → walk_of name walks ≡ Some walk →
-    (walk.earlier.items ≡ held_of name held) × (walk.later.items ≡ held_of name later)
-walk-has held later name [] walk are found = absurd (cc)
-walk-has held later name (one ∷ walks) walk are found = of (is_for name one) refl found (walk-has held later name walks walk are.1)
-  where
-    of : (b : Bool) → is_for name one ≡ b → cond b (Some one) (walk_of name walks) ≡ Some walk →
-        (walk_of name walks ≡ Some walk → (walk.earlier.items ≡ held_of name held) × (walk.later.items ≡ held_of name later)) → (walk.earlier.items ≡ held_of name held) × (walk.later.items ≡ held_of name later)
-    of true e f rest =
-        subst (Has held later name) f ((are.0).earlier ∙ held-alike one.name name e held, (are.0).later ∙ held-alike one.name name e later)
-    of false e f rest = rest f
+-- what holds of each element holds of one that is found, and it passes the test
+module _ {X : Type 0} (P : X → Type 0) (test : X → Bool) where
+  abbrev IsFound : Option X → Type 0
+  IsFound None = Unit {0}
+  IsFound (Some x) = P x × (test x ≡ true)
 
--- a name without a walk was not walked
-pub unwalked : (name : List (List ℕ)) (walks : List Walk) → walk_of name walks ≡ None → is_walked walks name ≡ false
-unwalked name [] none = refl
-unwalked name (one ∷ walks) none = of (is_for name one) none (unwalked name walks)
+  all_found : (xs : List X) (x : X) → AllByRecursion P xs → find test xs ≡ Some x → P x × (test x ≡ true)
+  all_found [] x all found = absurd (cc)
+  all_found (y ∷ ys) x all found = of (test y) refl found (all_found ys x all.1)
+    where
+      of : (b : Bool) → test y ≡ b → cond b (Some y) (find test ys) ≡ Some x → (find test ys ≡ Some x → P x × (test x ≡ true)) → P x × (test x ≡ true)
+      of true e f rest = subst IsFound f (all.0, e)
+      of false e f rest = rest f
+
+-- where none is found none is there
+none_found : {X : Type 0} (test : X → Bool) (xs : List X) → find test xs ≡ None → list_any test xs ≡ false
+none_found test [] none = refl
+none_found {X} test (x ∷ xs) none = of (test x) none (none_found test xs)
   where
-    of : (b : Bool) → cond b (Some one) (walk_of name walks) ≡ None → (walk_of name walks ≡ None → is_walked walks name ≡ false) → (b || is_walked walks name) ≡ false
+    of : (b : Bool) → cond b (Some x) (find test xs) ≡ None → (find test xs ≡ None → list_any test xs ≡ false) → (b || list_any test xs) ≡ false
     of true f rest = absurd (cc)
     of false f rest = rest f
 
--- the records of its name give the answers of a request
-of_name : (r : Request) (question : Key) (more : List Key) (held : List Held) → keys_of r ≡ question ∷ more →
-    answers_over r (rrs_of (held_of question.name held)) ≡ answers_over r (rrs_of held)
-of_name r question more held asked =
-    ap (answers_over r) (sym (filter_map_swap (λ (rr : Rr). folded_eq rr.owner question.name) (λ (one : Held). one.rr) held)) ∙ of_its_name r question more (rrs_of held) asked
+-- a name without a walk was not walked
+pub unwalked : (name : List (List ℕ)) (walks : List Walk) → walk_of name walks ≡ None → is_walked walks name ≡ false
+unwalked name walks none = none_found (is_for name) walks none
 
-module _ (held later : List Held) (walks : List Walk) (before : List Operation) (o : Operation) (seen : IsSeenOf held later walks before o) where
+-- the records of a name that are live or own
+abbrev named : List (List ℕ) → View → List Rr
+named name view = rrs_of (held_of name view.held) ++ own_of name view.own
+
+-- they give the answers of a request that asks for the name
+of_name : (r : Request) (question : Key) (more : List Key) (view : View) → keys_of r ≡ question ∷ more → answers_over r (named question.name view) ≡ answers_over r (known view)
+of_name r question more view asked = ap (answers_over r) (sym named_is) ∙ of_its_name r question more (known view) asked
+  where
+    named_is : filter (λ (rr : Rr). folded_eq rr.owner question.name) (known view) ≡ named question.name view
+    named_is =
+        filter-append (λ (rr : Rr). folded_eq rr.owner question.name) (rrs_of view.held) view.own
+        ∙ ap (λ (l : List Rr). l ++ own_of question.name view.own) (filter_map_swap (λ (rr : Rr). folded_eq rr.owner question.name) (λ (one : Held). one.rr) view.held)
+
+module _ (before after : View) (around : Around) (operations : List Operation) (o : Operation) (seen : IsSeenOf before after around operations o) where
   -- what it had where it was there
-  had-there : (rrs : List Rr) → is_running o.op before ≡ true → had (over rrs) before o.op ≡ answers_over o.request rrs
-  had-there rrs runs = of (find (has_op o.op) before) seen.carried runs
+  had-there : (view : View) → is_running o.op operations ≡ true → had (answered view) operations o.op ≡ answered view o
+  had-there view runs = of (find (has_op o.op) operations) seen.carried runs
     where
-      of : (found : Option Operation) → IsCarried walks found o → is_some found ≡ true → option_map_or (λ operation. answers_over operation.request rrs) found [] ≡ answers_over o.request rrs
-      of None walked e = absurd (cc)
-      of (Some one) same e = same rrs
+      of : (found : Option Operation) → IsCarried before after around found o → is_some found ≡ true → option_map_or (answered view) found [] ≡ answered view o
+      of None new e = absurd (cc)
+      of (Some one) same e = same.0 view
 
-  had-none : (rrs : List Rr) → is_running o.op before ≡ false → had (over rrs) before o.op ≡ []
-  had-none rrs runs = of (find (has_op o.op) before) runs
+  had-none : (view : View) → is_running o.op operations ≡ false → had (answered view) operations o.op ≡ []
+  had-none view runs = of (find (has_op o.op) operations) runs
     where
-      of : (found : Option Operation) → is_some found ≡ false → option_map_or (λ operation. answers_over operation.request rrs) found [] ≡ []
+      of : (found : Option Operation) → is_some found ≡ false → option_map_or (answered view) found [] ≡ []
       of None e = refl
       of (Some one) e = absurd (cc)
 
-  -- a request without questions has no answers
-  pub same-unasked : keys_of o.request ≡ [] → had (over (rrs_of held)) before o.op ≡ answers_over o.request (rrs_of later)
-  same-unasked none = of (is_running o.op before) refl ∙ sym (nothing_unasked o.request (rrs_of later) none)
-    where
-      of : (b : Bool) → is_running o.op before ≡ b → had (over (rrs_of held)) before o.op ≡ []
-      of true e = had-there (rrs_of held) e ∙ nothing_unasked o.request (rrs_of held) none
-      of false e = had-none (rrs_of held) e
+  -- ---- of an operation that is no registration
+  module _ (other : is_register o.request ≡ false) where
+    over_known : (view : View) → answered view o ≡ answers_over o.request (known view)
+    over_known view = ap (λ (b : Bool). cond b (view.registered o.session o.op) (answers_over o.request (known view))) other
 
-  module _ (question : Key) (more : List Key) (asked : keys_of o.request ≡ question ∷ more) where
-    -- an operation whose name was not walked has the answers that it had
-    pub same-unwalked : walk_of question.name walks ≡ None → had (over (rrs_of held)) before o.op ≡ answers_over o.request (rrs_of later)
-    same-unwalked none =
-        of (find (has_op o.op) before) seen.carried
-        ∙ sym (of_name o.request question more held asked) ∙ ap (λ (l : List Held). answers_over o.request (rrs_of l)) (sym (known.0 not_walked)) ∙ of_name o.request question more later asked
+    -- a request without questions has no answers
+    same-unasked : keys_of o.request ≡ [] → had (answered before) operations o.op ≡ answered after o
+    same-unasked none = of (is_running o.op operations) refl ∙ sym (over_known after ∙ nothing_unasked o.request (known after) none)
       where
-        not_walked : is_walked walks question.name ≡ false
-        not_walked = unwalked question.name walks none
+        of : (b : Bool) → is_running o.op operations ≡ b → had (answered before) operations o.op ≡ []
+        of true e = had-there before e ∙ over_known before ∙ nothing_unasked o.request (known before) none
+        of false e = had-none before e
 
-        known : AllByRecursion (λ (key : Key). is_walked walks key.name ≡ false → held_of key.name later ≡ held_of key.name held) (question ∷ more)
-        known = subst (AllByRecursion (λ (key : Key). is_walked walks key.name ≡ false → held_of key.name later ≡ held_of key.name held)) asked seen.known
+    module _ (question : Key) (more : List Key) (asked : keys_of o.request ≡ question ∷ more) where
+      -- an operation whose name was not walked has the answers that it had
+      same-unwalked : walk_of question.name around.walks.now ≡ None → had (answered before) operations o.op ≡ answered after o
+      same-unwalked none = of (find (has_op o.op) operations) seen.carried
+        where
+          not_walked : is_walked around.walks.now question.name ≡ false
+          not_walked = unwalked question.name around.walks.now none
 
-        of : (found : Option Operation) → IsCarried walks found o → option_map_or (λ operation. answers_over operation.request (rrs_of held)) found [] ≡ answers_over o.request (rrs_of held)
-        of None walked =
-            let first : AllByRecursion (λ (key : Key). is_walked walks key.name ≡ true) (question ∷ more) = subst (AllByRecursion (λ (key : Key). is_walked walks key.name ≡ true)) asked walked in
-            absurd (true≢false (sym first.0 ∙ not_walked))
-        of (Some one) same = same (rrs_of held)
+          held_stays : AllByRecursion (λ (key : Key). is_walked around.walks.now key.name ≡ false → held_of key.name after.held ≡ held_of key.name before.held) (question ∷ more)
+          held_stays = subst (AllByRecursion (λ (key : Key). is_walked around.walks.now key.name ≡ false → held_of key.name after.held ≡ held_of key.name before.held)) asked seen.known
 
-    module _ (walk : Walk) (found : walk_of question.name walks ≡ Some walk) where
-      pub has-walked : answers_over o.request (rrs_of walk.later.items) ≡ answers_over o.request (rrs_of later)
-      has-walked = ap (λ (l : List Held). answers_over o.request (rrs_of l)) (walk-has held later question.name walks walk seen.walked found).1 ∙ of_name o.request question more later asked
+          own_stays : IsBeside before after around o → AllByRecursion (λ (key : Key). is_walked around.walks.now key.name ≡ false → own_of key.name after.own ≡ own_of key.name before.own) (question ∷ more)
+          own_stays beside = subst (AllByRecursion (λ (key : Key). is_walked around.walks.now key.name ≡ false → own_of key.name after.own ≡ own_of key.name before.own)) asked beside.own
 
-      pub had-walked : is_running o.op before ≡ true → answers_over o.request (rrs_of walk.earlier.items) ≡ had (over (rrs_of held)) before o.op
-      had-walked runs =
-          ap (λ (l : List Held). answers_over o.request (rrs_of l)) (walk-has held later question.name walks walk seen.walked found).0
-          ∙ of_name o.request question more held asked ∙ sym (had-there (rrs_of held) runs)
+          of : (found : Option Operation) → IsCarried before after around found o → option_map_or (answered before) found [] ≡ answered after o
+          of None new =
+              let first : AllByRecursion (λ (key : Key). is_walked around.walks.now key.name ≡ true) (question ∷ more) = subst (AllByRecursion (λ (key : Key). is_walked around.walks.now key.name ≡ true)) asked new.walked in
+              absurd (true≢false (sym first.0 ∙ not_walked))
+          of (Some one) same =
+              let own : own_of question.name after.own ≡ own_of question.name before.own = (own_stays same.1).0 not_walked in
+              let held : held_of question.name after.held ≡ held_of question.name before.held = held_stays.0 not_walked in
+              same.0 before ∙ over_known before ∙ sym (of_name o.request question more before asked)
+              ∙ sym (λ i. answers_over o.request (rrs_of (held i) ++ own i))
+              ∙ of_name o.request question more after asked ∙ sym (over_known after)
 
-      pub new-walked : is_running o.op before ≡ false → [] ≡ had (over (rrs_of held)) before o.op
-      new-walked runs = sym (had-none (rrs_of held) runs)
+      module _ (walk : Walk) (found : walk_of question.name around.walks.now ≡ Some walk) where
+        walk_is : IsWalk before.held after.held walk × (is_for question.name walk ≡ true)
+        walk_is = all_found (IsWalk before.held after.held) (is_for question.name) around.walks.now walk seen.walked found
 
--- by the walk that is found for the questions, or not
-module _ (held later : List Held) (walks : List Walk) (before : List Operation) (o : Operation) (seen : IsSeenOf held later walks before o) where
-  pub same-apart : walk_for (keys_of o.request) walks ≡ None → had (over (rrs_of held)) before o.op ≡ answers_over o.request (rrs_of later)
-  same-apart none = of (keys_of o.request) refl none
-    where
-      of : (keys : List Key) → keys_of o.request ≡ keys → walk_for keys walks ≡ None → had (over (rrs_of held)) before o.op ≡ answers_over o.request (rrs_of later)
-      of [] e f = same-unasked held later walks before o seen e
-      of (question ∷ more) e f = same-unwalked held later walks before o seen question more e f
+        own_is : IsOwnWalk before.own after.own walk × (is_for question.name walk ≡ true)
+        own_is = all_found (IsOwnWalk before.own after.own) (is_for question.name) around.walks.now walk seen.own found
 
-  module _ (walk : Walk) (found : walk_for (keys_of o.request) walks ≡ Some walk) where
-    pub has-found : answers_over o.request (rrs_of walk.later.items) ≡ answers_over o.request (rrs_of later)
-    has-found = of (keys_of o.request) refl found
+        has-walked : answers_over o.request (rrs_of walk.later.items ++ walk.own.later) ≡ answered after o
+        has-walked =
+            let held : walk.later.items ≡ held_of question.name after.held = (walk_is.0).later ∙ held-alike walk.name question.name walk_is.1 after.held in
+            let own : walk.own.later ≡ own_of question.name after.own = (own_is.0).later ∙ own-alike walk.name question.name own_is.1 after.own in
+            (λ i. answers_over o.request (rrs_of (held i) ++ own i)) ∙ of_name o.request question more after asked ∙ sym (over_known after)
+
+        had-walked : is_running o.op operations ≡ true → answers_over o.request (rrs_of walk.earlier.items ++ walk.own.earlier) ≡ had (answered before) operations o.op
+        had-walked runs =
+            let held : walk.earlier.items ≡ held_of question.name before.held = (walk_is.0).earlier ∙ held-alike walk.name question.name walk_is.1 before.held in
+            let own : walk.own.earlier ≡ own_of question.name before.own = (own_is.0).earlier ∙ own-alike walk.name question.name own_is.1 before.own in
+            (λ i. answers_over o.request (rrs_of (held i) ++ own i)) ∙ of_name o.request question more before asked ∙ sym (over_known before) ∙ sym (had-there before runs)
+
+        new-walked : is_running o.op operations ≡ false → [] ≡ had (answered before) operations o.op
+        new-walked runs = sym (had-none before runs)
+
+    -- by the walk that is found for the questions, or not
+    pub same-apart : walk_for (keys_of o.request) around.walks.now ≡ None → had (answered before) operations o.op ≡ answered after o
+    same-apart none = of (keys_of o.request) refl none
       where
-        of : (keys : List Key) → keys_of o.request ≡ keys → walk_for keys walks ≡ Some walk → answers_over o.request (rrs_of walk.later.items) ≡ answers_over o.request (rrs_of later)
-        of [] e f = absurd (cc)
-        of (question ∷ more) e f = has-walked held later walks before o seen question more e walk f
+        of : (keys : List Key) → keys_of o.request ≡ keys → walk_for keys around.walks.now ≡ None → had (answered before) operations o.op ≡ answered after o
+        of [] e f = same-unasked e
+        of (question ∷ more) e f = same-unwalked question more e f
 
-    pub had-found : cond (is_running o.op before) (answers_over o.request (rrs_of walk.earlier.items)) [] ≡ had (over (rrs_of held)) before o.op
-    had-found = of (keys_of o.request) refl found
+    module _ (walk : Walk) (found : walk_for (keys_of o.request) around.walks.now ≡ Some walk) where
+      pub has-found : answers_over o.request (rrs_of walk.later.items ++ walk.own.later) ≡ answered after o
+      has-found = of (keys_of o.request) refl found
+        where
+          of : (keys : List Key) → keys_of o.request ≡ keys → walk_for keys around.walks.now ≡ Some walk → answers_over o.request (rrs_of walk.later.items ++ walk.own.later) ≡ answered after o
+          of [] e f = absurd (cc)
+          of (question ∷ more) e f = has-walked question more e walk f
+
+      pub had-found : cond (is_running o.op operations) (answers_over o.request (rrs_of walk.earlier.items ++ walk.own.earlier)) [] ≡ had (answered before) operations o.op
+      had-found = of (keys_of o.request) refl found
+        where
+          at : (question : Key) (more : List Key) → keys_of o.request ≡ question ∷ more → walk_of question.name around.walks.now ≡ Some walk → (b : Bool) → is_running o.op operations ≡ b →
+              cond b (answers_over o.request (rrs_of walk.earlier.items ++ walk.own.earlier)) [] ≡ had (answered before) operations o.op
+          at question more e f true runs = had-walked question more e walk f runs
+          at question more e f false runs = new-walked question more e walk f runs
+
+          of : (keys : List Key) → keys_of o.request ≡ keys → walk_for keys around.walks.now ≡ Some walk →
+              cond (is_running o.op operations) (answers_over o.request (rrs_of walk.earlier.items ++ walk.own.earlier)) [] ≡ had (answered before) operations o.op
+          of [] e f = absurd (cc)
+          of (question ∷ more) e f = at question more e f (is_running o.op operations) refl
+
+  -- ---- of a registration
+  module _ (registers : is_register o.request ≡ true) where
+    its_own : (view : View) → answered view o ≡ view.registered o.session o.op
+    its_own view = ap (λ (b : Bool). cond b (view.registered o.session o.op) (answers_over o.request (known view))) registers
+
+    -- one of which nothing is told has the answers that it had
+    pub same-untold : registered_in around.registered.now o.session o.op ≡ None → had (answered before) operations o.op ≡ answered after o
+    same-untold none = of (find (has_op o.op) operations) seen.carried
       where
-        at : (question : Key) (more : List Key) → keys_of o.request ≡ question ∷ more → walk_of question.name walks ≡ Some walk → (b : Bool) → is_running o.op before ≡ b →
-            cond b (answers_over o.request (rrs_of walk.earlier.items)) [] ≡ had (over (rrs_of held)) before o.op
-        at question more e f true runs = had-walked held later walks before o seen question more e walk f runs
-        at question more e f false runs = new-walked held later walks before o seen question more e walk f runs
+        untold : is_told around.registered.now o.session o.op ≡ false
+        untold = none_found (is_of o.session o.op) around.registered.now none
 
-        of : (keys : List Key) → keys_of o.request ≡ keys → walk_for keys walks ≡ Some walk → cond (is_running o.op before) (answers_over o.request (rrs_of walk.earlier.items)) [] ≡ had (over (rrs_of held)) before o.op
-        of [] e f = absurd (cc)
-        of (question ∷ more) e f = at question more e f (is_running o.op before) refl
+        of : (found : Option Operation) → IsCarried before after around found o → option_map_or (answered before) found [] ≡ answered after o
+        of None new = sym (its_own after ∙ new.begun registers untold)
+        of (Some one) same = same.0 before ∙ its_own before ∙ sym (same.1.registered registers untold) ∙ sym (its_own after)
+
+    module _ (one : Registered) (found : registered_in around.registered.now o.session o.op ≡ Some one) where
+      told_is : IsRegistered before.registered after.registered one × (is_of o.session o.op one ≡ true)
+      told_is = all_found (IsRegistered before.registered after.registered) (is_of o.session o.op) around.registered.now one seen.registered found
+
+      session_is : one.session ≡ o.session
+      session_is = let both = and_parts (one.session == o.session) (one.op == o.op) told_is.1 in let first : (one.session == o.session) ≡ true = both.0 in grind arith
+
+      op_is : one.op ≡ o.op
+      op_is = let both = and_parts (one.session == o.session) (one.op == o.op) told_is.1 in let second : (one.op == o.op) ≡ true = both.1 in grind arith
+
+      pub has-told : option_to_list one.has ≡ answered after o
+      has-told = (told_is.0).has ∙ (λ i. after.registered (session_is i) (op_is i)) ∙ sym (its_own after)
+
+      pub had-told : cond (is_running o.op operations) (option_to_list one.had) [] ≡ had (answered before) operations o.op
+      had-told = of (is_running o.op operations) refl
+        where
+          of : (b : Bool) → is_running o.op operations ≡ b → cond b (option_to_list one.had) [] ≡ had (answered before) operations o.op
+          of true runs = (told_is.0).had ∙ (λ i. before.registered (session_is i) (op_is i)) ∙ sym (its_own before) ∙ sym (had-there before runs)
+          of false runs = sym (had-none before runs)
 
 same_answer : (answer : Answer) → answer_eq answer answer ≡ true
 unfolding answer_eq answer_cmp
@@ -177,48 +253,70 @@ none-lost before earlier later o same = ap (map (λ answer. Remove o.op answer))
 none-gained : (before : List Operation) (earlier later : Answering) (o : Operation) → had earlier before o.op ≡ later o → gained earlier later before o ≡ []
 none-gained before earlier later o same = ap (map (λ answer. Add o.op answer)) (without-same (later o) (had earlier before o.op) (sym same))
 
--- Where nothing was walked nothing is lost and gained.
-same_all : (held later : List Held) (before : List Operation) (o : Operation) → IsSeenOf held later [] before o → had (over (rrs_of held)) before o.op ≡ answers_over o.request (rrs_of later)
-same_all held later before o seen = of (keys_of o.request) refl
-  where
-    of : (keys : List Key) → keys_of o.request ≡ keys → had (over (rrs_of held)) before o.op ≡ answers_over o.request (rrs_of later)
-    of [] e = same-unasked held later [] before o seen e
-    of (question ∷ more) e = same-unwalked held later [] before o seen question more e refl
+-- Where nothing was walked and nothing is told nothing is lost and gained.
+no_walk : (keys : List Key) → walk_for keys [] ≡ None
+no_walk [] = refl
+no_walk (key ∷ keys) = refl
 
-pub lost-concerned : (held later : List Held) (walks : List Walk) (before os : List Operation) → AllByRecursion (IsSeenOf held later walks before) os →
-    flat_map (lost (over (rrs_of held)) (over (rrs_of later)) before) (concerned walks os) ≡ flat_map (lost (over (rrs_of held)) (over (rrs_of later)) before) os
-lost-concerned held later (walk ∷ walks) before os seen = refl
-lost-concerned held later [] before [] seen = refl
-lost-concerned held later [] before (o ∷ os) seen =
-    lost-concerned held later [] before os seen.1
-    ∙ ap (λ (l : List Item). l ++ flat_map (lost (over (rrs_of held)) (over (rrs_of later)) before) os) (sym (none-lost before (over (rrs_of held)) (over (rrs_of later)) o (same_all held later before o seen.0)))
+module _ (before after : View) (around : Around) (operations : List Operation) where
+  module _ (unwalked_all : around.walks.now ≡ []) (untold_all : around.registered.now ≡ []) where
+    same_all : (o : Operation) → IsSeenOf before after around operations o → had (answered before) operations o.op ≡ answered after o
+    same_all o seen = of (is_register o.request) refl
+      where
+        of : (b : Bool) → is_register o.request ≡ b → had (answered before) operations o.op ≡ answered after o
+        of true e = same-untold before after around operations o seen e (ap (λ (told : List Registered). registered_in told o.session o.op) untold_all)
+        of false e = same-apart before after around operations o seen e (ap (walk_for (keys_of o.request)) unwalked_all ∙ no_walk (keys_of o.request))
 
-pub gained-concerned : (held later : List Held) (walks : List Walk) (before os : List Operation) → AllByRecursion (IsSeenOf held later walks before) os →
-    flat_map (gained (over (rrs_of held)) (over (rrs_of later)) before) (concerned walks os) ≡ flat_map (gained (over (rrs_of held)) (over (rrs_of later)) before) os
-gained-concerned held later (walk ∷ walks) before os seen = refl
-gained-concerned held later [] before [] seen = refl
-gained-concerned held later [] before (o ∷ os) seen =
-    gained-concerned held later [] before os seen.1
-    ∙ ap (λ (l : List Item). l ++ flat_map (gained (over (rrs_of held)) (over (rrs_of later)) before) os) (sym (none-gained before (over (rrs_of held)) (over (rrs_of later)) o (same_all held later before o seen.0)))
+    none_lost : (os : List Operation) → AllByRecursion (IsSeenOf before after around operations) os → [] ≡ flat_map (lost (answered before) (answered after) operations) os
+    none_lost [] seen = refl
+    none_lost (o ∷ os) seen =
+        none_lost os seen.1
+        ∙ ap (λ (l : List Item). l ++ flat_map (lost (answered before) (answered after) operations) os) (sym (none-lost operations (answered before) (answered after) o (same_all o seen.0)))
 
-pub all-concerned : (P : Operation → Type 0) (walks : List Walk) (os : List Operation) → AllByRecursion P os → AllByRecursion P (concerned walks os)
-all-concerned P [] os all = tt
-all-concerned P (walk ∷ walks) os all = all
+    none_gained : (os : List Operation) → AllByRecursion (IsSeenOf before after around operations) os → [] ≡ flat_map (gained (answered before) (answered after) operations) os
+    none_gained [] seen = refl
+    none_gained (o ∷ os) seen =
+        none_gained os seen.1
+        ∙ ap (λ (l : List Item). l ++ flat_map (gained (answered before) (answered after) operations) os) (sym (none-gained operations (answered before) (answered after) o (same_all o seen.0)))
 
--- What is put for the operations that walks concern is what a session is brought.
-pub items-assembled : (held later : List Held) (walks : List Walk) (before after ops : List Operation) (n : ℕ) (reply : Option Item) (start brought adds items : List Item) →
-    ops ≡ concerned walks after → start ≡ option_to_list reply → take n ops ≡ ops → items ≡ brought ++ adds → AllByRecursion (IsSeenOf held later walks before) after →
-    (AllByRecursion (IsSeenOf held later walks before) ops → brought ≡ start ++ flat_map (lost (over (rrs_of held)) (over (rrs_of later)) before) (take n ops)) →
-    (AllByRecursion (IsSeenOf held later walks before) ops → adds ≡ flat_map (gained (over (rrs_of held)) (over (rrs_of later)) before) (take n ops)) →
-    items ≡ items_between (over (rrs_of held)) (over (rrs_of later)) reply before after
+  module _ (os : List Operation) (seen : AllByRecursion (IsSeenOf before after around operations) os) where
+    lost-concerned : flat_map (lost (answered before) (answered after) operations) (concerned around.walks.now around.registered.now os) ≡ flat_map (lost (answered before) (answered after) operations) os
+    lost-concerned = of around.walks.now around.registered.now refl refl
+      where
+        of : (walks : List Walk) (told : List Registered) → around.walks.now ≡ walks → around.registered.now ≡ told →
+            flat_map (lost (answered before) (answered after) operations) (concerned walks told os) ≡ flat_map (lost (answered before) (answered after) operations) os
+        of [] [] e f = none_lost e f os seen
+        of [] (one ∷ told) e f = refl
+        of (walk ∷ walks) told e f = refl
+
+    gained-concerned : flat_map (gained (answered before) (answered after) operations) (concerned around.walks.now around.registered.now os) ≡ flat_map (gained (answered before) (answered after) operations) os
+    gained-concerned = of around.walks.now around.registered.now refl refl
+      where
+        of : (walks : List Walk) (told : List Registered) → around.walks.now ≡ walks → around.registered.now ≡ told →
+            flat_map (gained (answered before) (answered after) operations) (concerned walks told os) ≡ flat_map (gained (answered before) (answered after) operations) os
+        of [] [] e f = none_gained e f os seen
+        of [] (one ∷ told) e f = refl
+        of (walk ∷ walks) told e f = refl
+
+pub all-concerned : (P : Operation → Type 0) (walks : List Walk) (told : List Registered) (os : List Operation) → AllByRecursion P os → AllByRecursion P (concerned walks told os)
+all-concerned P [] [] os all = tt
+all-concerned P [] (one ∷ told) os all = all
+all-concerned P (walk ∷ walks) told os all = all
+
+-- What is put for the operations that are concerned is what a session is brought.
+pub items-assembled : (before after : View) (around : Around) (operations os ops : List Operation) (n : ℕ) (reply : Option Item) (start brought adds items : List Item) →
+    ops ≡ concerned around.walks.now around.registered.now os → start ≡ option_to_list reply → take n ops ≡ ops → items ≡ brought ++ adds → AllByRecursion (IsSeenOf before after around operations) os →
+    (AllByRecursion (IsSeenOf before after around operations) ops → brought ≡ start ++ flat_map (lost (answered before) (answered after) operations) (take n ops)) →
+    (AllByRecursion (IsSeenOf before after around operations) ops → adds ≡ flat_map (gained (answered before) (answered after) operations) (take n ops)) →
+    items ≡ items_between (answered before) (answered after) reply operations os
 unfolding items_between
-items-assembled held later walks before after ops n reply start brought adds items are begins whole joined seen removes gains =
+items-assembled before after around operations os ops n reply start brought adds items are begins whole joined seen removes gains =
     joined ∙ (λ i. removes concerned_seen i ++ gains concerned_seen i)
-    ∙ (λ i. (begins i ++ flat_map (lost (over (rrs_of held)) (over (rrs_of later)) before) ((whole ∙ are) i)) ++ flat_map (gained (over (rrs_of held)) (over (rrs_of later)) before) ((whole ∙ are) i))
-    ∙ (λ i. (option_to_list reply ++ lost-concerned held later walks before after seen i) ++ gained-concerned held later walks before after seen i)
+    ∙ (λ i. (begins i ++ flat_map (lost (answered before) (answered after) operations) ((whole ∙ are) i)) ++ flat_map (gained (answered before) (answered after) operations) ((whole ∙ are) i))
+    ∙ (λ i. (option_to_list reply ++ lost-concerned before after around operations os seen i) ++ gained-concerned before after around operations os seen i)
   where
-    concerned_seen : AllByRecursion (IsSeenOf held later walks before) ops
-    concerned_seen = subst (AllByRecursion (IsSeenOf held later walks before)) (sym are) (all-concerned (IsSeenOf held later walks before) walks after seen)
+    concerned_seen : AllByRecursion (IsSeenOf before after around operations) ops
+    concerned_seen = subst (AllByRecursion (IsSeenOf before after around operations)) (sym are) (all-concerned (IsSeenOf before after around operations) around.walks.now around.registered.now os seen)
 
 -- a session that isn't cut or ended is brought what its operations change
 pub brought-uncut : (told : Told) (earlier later : Answering) (session : Session) (items : List Item) → (session.cut || is_number session.number told.detached) ≡ false →

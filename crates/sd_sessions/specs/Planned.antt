@@ -4,7 +4,7 @@ use Rattle.std.specs.Option.{is_some}
 use Rattle.mdns_history.specs.declared.event.Event.{Event}
 use Rattle.mdns_history.specs.declared.mark.Mark.{Mark}
 use Rattle.mdns_happened.specs.Told.{Told, told_of}
-use Rattle.sd_sessions.specs.Codes.{kept_outcome}
+use Rattle.sd_sessions.specs.Codes.{Knowing, kept_outcome}
 use Rattle.sd_sessions.specs.declared.sessions.Plan.{Plan}
 use Rattle.sd_sessions.specs.Sessions.{Session, State}
 use Rattle.sd_sessions.specs.Answered.{Answering}
@@ -24,9 +24,10 @@ pub record IsReady (told : Told) (plan : Plan) (state : State) : Type 0 where
   pub queues : HasRoom state.room plan.changes.items
   pub place : is_some told.opened ≡ true → 0 < state.places
 
--- What is told is what an event amounts to for these sessions.
+-- What is told is what an event amounts to for these sessions, whatever is known of registrations.
 abbrev pub IsTold : Told → State → Type 0
-IsTold told state = (event : Event) × (marks : List Mark) × (told ≡ told_of event (kept_outcome state.opened state.sessions event) marks)
+IsTold told state =
+    (knowing : Knowing) × (event : Event) × (marks : List Mark) × (told ≡ told_of event (kept_outcome knowing state.opened state.sessions event) marks)
 
 -- A plan is of what happened to these sessions, by some answers before it and after it.
 abbrev pub IsAnyPlan : Told → List Session → Plan → Type 0

@@ -2,7 +2,6 @@
 use Rattle.std.specs.Prelude.{ℕ, suc, ◌==◌, nat_lt, false, not, ◌||◌, List, [], ◌∷◌, ◌++◌, map, filter, Option, Some, None, if◌then◌else◌, take, drop}
 use Rattle.std.specs.List.{flat_map, find}
 use Rattle.std.specs.Option.{unwrap_or}
-use Rattle.dns_record.specs.declared.record.Rr.{Rr}
 use Rattle.sd_call.specs.declared.item.Item.{Item}
 use Rattle.mdns_history.specs.declared.operation.Operation.{Operation}
 use Rattle.mdns_history.specs.declared.event.Event.{Event}
@@ -11,7 +10,6 @@ use Rattle.mdns_history.specs.declared.mark.Mark.TheVariants as mark
 use Rattle.mdns_history.specs.declared.entry.Given.{Given}
 use Rattle.mdns_history.specs.declared.entry.Outcome.{Outcome}
 use Rattle.mdns_history.specs.declared.entry.Outcome.TheVariants as outcome
-use Rattle.mdns_history.specs.declared.held.Held.{Held}
 use Rattle.mdns_history.specs.Outcomes.{items_or_empty}
 use Rattle.mdns_history.specs.Sessions.{Accepted, accepted_call, after_request, detached, is_number}
 use Rattle.mdns_history.specs.Items.{given_to}
@@ -21,10 +19,6 @@ use Rattle.sd_sessions.specs.Sessions.{Session}
 use Rattle.sd_sessions.specs.Codes.{has_number}
 use Rattle.sd_sessions.specs.Answered.{Answering}
 use Rattle.sd_sessions.specs.Changes.{items_between, passes}
-
--- the records of what is held
-abbrev pub rrs_of : List Held → List Rr
-rrs_of held = map (λ one. one.rr) held
 
 -- how many operations stand before the first of a number or of a greater one
 abbrev pub count_below : ℕ → List Operation → ℕ

@@ -1,22 +1,25 @@
 -- Which names of records an event is looked at by, for the operations of sessions.
-use Rattle.std.specs.Prelude.{◌≡◌, ℕ, true, List, [], ◌∷◌, Option, Some, None}
+use Rattle.std.specs.Prelude.{◌≡◌, ℕ, true, false, List, [], ◌∷◌, Option, Some, None}
 use Rattle.std.specs.List.{find, AllByRecursion}
 use Rattle.std.specs.List.Sorted.{IsSorted}
-use Rattle.dns_record.specs.declared.record.Rr.{Rr}
 use Rattle.dns_record.specs.declared.record.Key.{Key}
 use Rattle.sd_call.specs.declared.answer.Answer.{Answer}
 use Rattle.sd_call.specs.declared.request.Request.{Request}
 use Rattle.sd_call.specs.Answers.{answer_cmp}
+use Rattle.sd_call.specs.Requests.{is_register}
 use Rattle.mdns_history.specs.declared.held.Held.{Held}
 use Rattle.mdns_history.specs.declared.operation.Operation.{Operation}
 use Rattle.mdns_history.specs.Questions.{keys_of}
-use Rattle.mdns_history.specs.Answers.{answers_over}
 use Rattle.mdns_history.specs.Sessions.{Accepted, has_op}
 use Rattle.mdns_cache.specs.Ended.{is_among}
+use Rattle.mdns_happened.specs.declared.around.Around.{Around}
+use Rattle.mdns_happened.specs.declared.around.Registered.{Registered}
 use Rattle.mdns_happened.specs.declared.walk.Walk.{Walk}
+use Rattle.mdns_happened.specs.Registrations.{is_told, AreRegistered}
 use Rattle.mdns_happened.specs.Told.{Told}
-use Rattle.mdns_happened.specs.Walks.{is_walked, walk_of, AreWalks, IsKnown}
+use Rattle.mdns_happened.specs.Walks.{is_walked, walk_of, AreWalks, AreOwnWalks, IsKnown, IsOwnKnown}
 use Rattle.sd_sessions.specs.declared.by_names.Compared.{Compared}
+use Rattle.sd_sessions.specs.Answered.{View, answered}
 use Rattle.sd_sessions.specs.Sessions.{Session}
 use Rattle.sd_sessions.specs.Kept.{AreRising, IsNewIn}
 
@@ -50,25 +53,57 @@ abbrev pub IsCallWalked : List Walk → Option Accepted → Type 0
 IsCallWalked walks None = Unit {0}
 IsCallWalked walks (Some call) = AllByRecursion (λ (key : Key). is_walked walks key.name ≡ true) (keys_of call.request)
 
--- What is seen of a session by walks: its operations' names are known, what an accepted call asks for was walked, and each operation has a number
--- of its own.
-pub record IsSeen (told : Told) (held later : List Held) (walks : List Walk) (session : Session) : Type 0 where
-  pub walked : AreWalks held later walks
-  pub known : AllByRecursion (λ (operation : Operation). IsAskedKnown held later walks operation.request) session.operations
-  pub call : IsCallWalked walks told.call
+-- What an event makes of the own records of each name that an operation asks for is known by walks; and of a registration's answers it is told, or
+-- they stay as they are.
+pub record IsBeside (before after : View) (around : Around) (operation : Operation) : Type 0 where
+  pub own : AllByRecursion (λ (key : Key). IsOwnKnown before.own after.own around.walks.now key.name) (keys_of operation.request)
+  pub registered : is_register operation.request ≡ true → is_told around.registered.now operation.session operation.op ≡ false
+      → after.registered operation.session operation.op ≡ before.registered operation.session operation.op
+
+-- What a registration has that an accepted call begins is told, or it has nothing.
+abbrev pub IsBegunTold : View → Around → Option Accepted → Type 0
+IsBegunTold after around None = Unit {0}
+IsBegunTold after around (Some call) =
+    is_register call.request ≡ true → is_told around.registered.now call.session call.op ≡ false → after.registered call.session call.op ≡ []
+
+-- What is handed over around an event tells, beside the records that are held, what becomes of own records and of registrations.
+pub record AreBeside (told : Told) (before after : View) (around : Around) (sessions : List Session) : Type 0 where
+  pub own : AreOwnWalks before.own after.own around.walks.now
+  pub registered : AreRegistered before.registered after.registered around.registered.now
+  pub known : AllByRecursion (λ (session : Session). AllByRecursion (IsBeside before after around) session.operations) sessions
+  pub begun : IsBegunTold after around told.call
+
+-- What is seen of a session around an event: its operations' names are known, what an accepted call asks for was walked, what becomes of own records
+-- and registrations is told, and each operation has a number of its own.
+pub record IsSeen (told : Told) (before after : View) (around : Around) (session : Session) : Type 0 where
+  pub walked : AreWalks before.held after.held around.walks.now
+  pub own : AreOwnWalks before.own after.own around.walks.now
+  pub registered : AreRegistered before.registered after.registered around.registered.now
+  pub known : AllByRecursion (λ (operation : Operation). IsAskedKnown before.held after.held around.walks.now operation.request) session.operations
+  pub beside : AllByRecursion (IsBeside before after around) session.operations
+  pub call : IsCallWalked around.walks.now told.call
+  pub begun : IsBegunTold after around told.call
   pub fresh : IsNewIn told.call session
   pub rising : AreRising session.operations
 
--- An operation was there before and has the same answers, or it is new and what it asks for was walked.
-abbrev pub IsCarried : List Walk → Option Operation → Operation → Type 0
-IsCarried walks None operation = AllByRecursion (λ (key : Key). is_walked walks key.name ≡ true) (keys_of operation.request)
-IsCarried walks (Some one) operation = (rrs : List Rr) → answers_over one.request rrs ≡ answers_over operation.request rrs
+-- An operation that is new: what it asks for was walked, and what it has as a registration is told, or it has nothing.
+pub record IsNewSeen (after : View) (around : Around) (operation : Operation) : Type 0 where
+  pub walked : AllByRecursion (λ (key : Key). is_walked around.walks.now key.name ≡ true) (keys_of operation.request)
+  pub begun : is_register operation.request ≡ true → is_told around.registered.now operation.session operation.op ≡ false
+      → after.registered operation.session operation.op ≡ []
 
--- what is seen of an operation by walks, behind the operations before
-pub record IsSeenOf (held later : List Held) (walks : List Walk) (before : List Operation) (operation : Operation) : Type 0 where
-  pub walked : AreWalks held later walks
-  pub known : IsAskedKnown held later walks operation.request
-  pub carried : IsCarried walks (find (has_op operation.op) before) operation
+-- An operation was there before, with the same answers of whatever is known, and what becomes of them is told; or it is new.
+abbrev pub IsCarried : View → View → Around → Option Operation → Operation → Type 0
+IsCarried before after around None operation = IsNewSeen after around operation
+IsCarried before after around (Some one) operation = ((view : View) → answered view one ≡ answered view operation) × IsBeside before after around operation
+
+-- what is seen of an operation around an event, behind the operations before
+pub record IsSeenOf (before after : View) (around : Around) (operations : List Operation) (operation : Operation) : Type 0 where
+  pub walked : AreWalks before.held after.held around.walks.now
+  pub own : AreOwnWalks before.own after.own around.walks.now
+  pub registered : AreRegistered before.registered after.registered around.registered.now
+  pub known : IsAskedKnown before.held after.held around.walks.now operation.request
+  pub carried : IsCarried before after around (find (has_op operation.op) operations) operation
 
 -- the answers of an operation before and after, where they may differ
 abbrev pub IsCompared : Option Compared → List Answer → List Answer → Type 0
@@ -85,10 +120,11 @@ abbrev pub walk_for : List Key → List Walk → Option Walk
 walk_for [] walks = None
 walk_for (question ∷ more) walks = walk_of question.name walks
 
--- the operations that walks may concern
-abbrev pub concerned : List Walk → List Operation → List Operation
-concerned [] operations = []
-concerned (walk ∷ walks) operations = operations
+-- the operations that walks and registrations may concern
+abbrev pub concerned : List Walk → List Registered → List Operation → List Operation
+concerned [] [] operations = []
+concerned [] (one ∷ told) operations = operations
+concerned (walk ∷ walks) told operations = operations
 
 -- the names that are among some are among more
 abbrev pub AreWithin : List (List (List ℕ)) → List (List (List ℕ)) → Type 0

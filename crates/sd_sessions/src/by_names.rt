@@ -1,5 +1,5 @@
-// What an event changes in the sessions, told by the records of the names that were walked.
-ghost use Rattle.std.specs.Prelude.{◌≡◌, ◌||◌, ◌++◌, [], List, map, if◌then◌else◌, IsTrue, IfOk, OnOk, IfSome};
+// What an event changes in the sessions, told by the records of the names that were walked, and by what is told of registrations.
+ghost use Rattle.std.specs.Prelude.{◌≡◌, ◌||◌, ◌++◌, [], List, map, true, false, if◌then◌else◌, IsTrue, IfOk, OnOk, IfSome};
 ghost use Rattle.std.specs.List.{AllByRecursion};
 ghost use Rattle.std.specs.List.Sorted.{IsSorted};
 ghost use Rattle.std.specs.Option.{option_copied, option_to_list, unwrap_or};
@@ -7,28 +7,28 @@ ghost use Rattle.dns_name.specs.Lists.{without};
 ghost use Rattle.sd_call.specs.declared.answer.Answer.{Answer};
 ghost use Rattle.sd_call.specs.declared.item.Item.TheVariants as item;
 ghost use Rattle.sd_call.specs.Answers.{answer_cmp, answer_eq};
-ghost use Rattle.sd_call.specs.Requests.{well_formed};
-ghost use Rattle.mdns_history.specs.declared.held.Held.{Held};
+ghost use Rattle.sd_call.specs.Requests.{is_register, well_formed};
+ghost use Rattle.sd_answer.specs.Known.{rrs_in, rrs_of};
 ghost use Rattle.mdns_history.specs.Answers.{answers_over};
 ghost use Rattle.mdns_history.specs.Questions.{keys_of};
 ghost use Rattle.mdns_history.specs.Sessions.{is_number};
 ghost use Rattle.mdns_happened.specs.Told.{told_by};
-ghost use Rattle.sd_sessions.specs.Answered.{over};
+ghost use Rattle.sd_sessions.specs.Answered.{answered, View};
 ghost use Rattle.sd_sessions.specs.Changes.{had, items_between};
 ghost use Rattle.sd_sessions.specs.Codes.{is_running};
-ghost use Rattle.sd_sessions.specs.Settling.{called, brought_told, change_told, rrs_of};
+ghost use Rattle.sd_sessions.specs.Settling.{called, brought_told, change_told};
 ghost use Rattle.sd_sessions.specs.Kept.{session_of, sessions_of, AreWellFormed, HaveWellFormed, IsWellFormedCall};
 ghost use Rattle.sd_sessions.specs.Walked.{concerned, walk_for, IsSeen, IsSeenOf, IsCompared, IsInOrder};
 
 use crate::change::{SessionChange, called, or_own};
-use crate::codes::is_running;
+use crate::codes::{is_running, registers};
 use crate::items::{put_adds, put_removes};
 use crate::session::SessionState;
 use dns_record::Key;
-use mdns_happened::{Happened, Walk, walk_of};
-use mdns_history::{Held, Items, Operation};
-use sd_answer::{Answers, answers_of, questions_of};
-use sd_call::Item;
+use mdns_happened::{Around, Happened, Registered, Walk, registered_in, walk_of};
+use mdns_history::{Items, Operation};
+use sd_answer::{Answers, KnownRecords, answers_of, questions_of};
+use sd_call::{Answer, Item};
 use std::alloc::{AllocError, Global};
 
 /// The answers of an operation before an event and after it.
@@ -43,16 +43,16 @@ pub fn changes_by_names(
     alloc: Global,
     sessions: &[SessionState],
     happened: &Happened<'_>,
-    walks: &[Walk],
+    around: &Around<'_>,
 ) -> Result<Vec<SessionChange>, AllocError>
     requires operations { HaveWellFormed (sessions_of sessions.now) }
     requires call { IsWellFormedCall (told_by happened.now).call }
-    ensures { IfOk result (λ changes. (held later : List Held) → AllByRecursion (IsSeen (told_by happened.now) held later walks.now) (sessions_of sessions.now)
-        → changes.items ≡ map (change_told (told_by happened.now) (over (rrs_of held)) (over (rrs_of later))) (sessions_of sessions.now)) }
+    ensures { IfOk result (λ changes. (earlier later : View) → AllByRecursion (IsSeen (told_by happened.now) earlier later around.now) (sessions_of sessions.now)
+        → changes.items ≡ map (change_told (told_by happened.now) (answered earlier) (answered later)) (sessions_of sessions.now)) }
 {
     let mut changes = Vec::new(alloc);
     for session in sessions {
-        changes.push(change_by_names(alloc, session, happened, walks)?)?;
+        changes.push(change_by_names(alloc, session, happened, around)?)?;
     }
     Ok(changes)
 }
@@ -61,16 +61,16 @@ fn change_by_names(
     alloc: Global,
     session: &SessionState,
     happened: &Happened<'_>,
-    walks: &[Walk],
+    around: &Around<'_>,
 ) -> Result<SessionChange, AllocError>
     requires operations { AreWellFormed session.now.operations }
     requires call { IsWellFormedCall (told_by happened.now).call }
-    ensures { IfOk result (λ change. (held later : List Held) → IsSeen (told_by happened.now) held later walks.now (session_of session.now)
-        → change ≡ change_told (told_by happened.now) (over (rrs_of held)) (over (rrs_of later)) (session_of session.now)) }
+    ensures { IfOk result (λ change. (earlier later : View) → IsSeen (told_by happened.now) earlier later around.now (session_of session.now)
+        → change ≡ change_told (told_by happened.now) (answered earlier) (answered later) (session_of session.now)) }
 {
     let operations = called(alloc, session, happened)?;
     let after = or_own(&operations, &session.operations);
-    let brought = bring_by_names(alloc, session, after, happened, walks)?;
+    let brought = bring_by_names(alloc, session, after, happened, around)?;
     let cuts = session.outbox.passes(brought.as_slice());
     Ok(SessionChange {
         session: session.number,
@@ -86,19 +86,19 @@ fn bring_by_names(
     session: &SessionState,
     after: &[Operation],
     happened: &Happened<'_>,
-    walks: &[Walk],
+    around: &Around<'_>,
 ) -> Result<Items, AllocError>
     requires { AreWellFormed after.now }
-    ensures { IfOk result (λ items. (held later : List Held) → IsSeen (told_by happened.now) held later walks.now (session_of session.now)
+    ensures { IfOk result (λ items. (earlier later : View) → IsSeen (told_by happened.now) earlier later around.now (session_of session.now)
         → after.now ≡ unwrap_or (called (told_by happened.now).call session.now.number session.now.operations) session.now.operations
-        → items ≡ brought_told (told_by happened.now) (over (rrs_of held)) (over (rrs_of later)) (session_of session.now)) }
+        → items ≡ brought_told (told_by happened.now) (answered earlier) (answered later) (session_of session.now)) }
 {
     if gets_nothing(session, happened) {
         return Ok(Items::new(alloc));
     }
     let reply = happened.reply_to(session.number);
     let before = session.operations.as_slice();
-    let items = items_by_names(alloc, reply, before, after, walks)?;
+    let items = items_by_names(alloc, reply, before, after, around)?;
     Ok(items)
 }
 
@@ -115,17 +115,17 @@ fn items_by_names(
     reply: Option<Item>,
     before: &[Operation],
     after: &[Operation],
-    walks: &[Walk],
+    around: &Around<'_>,
 ) -> Result<Items, AllocError>
     requires { AreWellFormed after.now }
-    ensures { IfOk result (λ items. (held later : List Held) → AllByRecursion (IsSeenOf held later walks.now before.now) after.now
-        → items ≡ items_between (over (rrs_of held)) (over (rrs_of later)) reply before.now after.now) }
+    ensures { IfOk result (λ items. (earlier later : View) → AllByRecursion (IsSeenOf earlier later around.now before.now) after.now
+        → items ≡ items_between (answered earlier) (answered later) reply before.now after.now) }
 {
     let mut brought = replied(alloc, reply)?;
     let mut adds = Items::new(alloc);
-    let operations = concerned(after, walks);
+    let operations = concerned(after, around);
     for operation in operations {
-        let found = compare_answers(alloc, before, operation, walks)?;
+        let found = compare_answers(alloc, before, operation, around)?;
         put_compared(&mut brought, &mut adds, operation.op, found)?;
     }
     brought.append(adds)?;
@@ -166,31 +166,78 @@ fn put_compared(
     }
 }
 
-// The operations that walks may concern: none where nothing was walked.
-fn concerned<'a>(operations: &'a [Operation], walks: &[Walk]) -> &'a [Operation]
-    ensures { result.now ≡ concerned walks.now operations.now }
+// The operations that walks and registrations may concern: none where there are neither.
+fn concerned<'a>(operations: &'a [Operation], around: &Around<'_>) -> &'a [Operation]
+    ensures { result.now ≡ concerned around.now.walks.now around.now.registered.now operations.now }
 {
-    if walks.is_empty() { &[] } else { operations }
+    if around.walks.is_empty() && around.registered.is_empty() {
+        &[]
+    } else {
+        operations
+    }
 }
 
-// The answers of an operation before and after; `None` where its name was not walked, so that they are the same.
+// The answers of an operation before and after; `None` where they are the same: its name was not walked, or nothing is told of it as a
+// registration.
 fn compare_answers(
     alloc: Global,
     before: &[Operation],
     operation: &Operation,
-    walks: &[Walk],
+    around: &Around<'_>,
 ) -> Result<Option<Compared>, AllocError>
     requires { IsTrue (well_formed operation.now.request) }
-    ensures value { IfOk result (λ found. (held later : List Held) → IsSeenOf held later walks.now before.now operation.now
-        → IsCompared found (had (over (rrs_of held)) before.now operation.now.op) (over (rrs_of later) operation.now)) }
+    ensures value { IfOk result (λ found. (earlier later : View) → IsSeenOf earlier later around.now before.now operation.now
+        → IsCompared found (had (answered earlier) before.now operation.now.op) (answered later operation.now)) }
+    ensures sorted { IfOk result (λ found. IfSome found (λ compared. IsInOrder compared)) }
+{
+    if registers(&operation.request) {
+        compare_registered(alloc, before, operation, around)
+    } else {
+        compare_walked(alloc, before, operation, around)
+    }
+}
+
+// The answers of a registration before and after; `None` where nothing is told of it.
+fn compare_registered(
+    alloc: Global,
+    before: &[Operation],
+    operation: &Operation,
+    around: &Around<'_>,
+) -> Result<Option<Compared>, AllocError>
+    requires { is_register operation.now.request ≡ true }
+    ensures value { IfOk result (λ found. (earlier later : View) → IsSeenOf earlier later around.now before.now operation.now
+        → IsCompared found (had (answered earlier) before.now operation.now.op) (answered later operation.now)) }
+    ensures sorted { IfOk result (λ found. IfSome found (λ compared. IsInOrder compared)) }
+{
+    match registered_in(around.registered, operation.session, operation.op) {
+        Some(told) => {
+            let had = had_registered(alloc, before, operation, told)?;
+            let has = one_answer(alloc, &told.has)?;
+            Ok(Some(Compared { had, has }))
+        }
+        None => Ok(None),
+    }
+}
+
+// The answers over records before and after; `None` where the operation's name was not walked.
+fn compare_walked(
+    alloc: Global,
+    before: &[Operation],
+    operation: &Operation,
+    around: &Around<'_>,
+) -> Result<Option<Compared>, AllocError>
+    requires formed { IsTrue (well_formed operation.now.request) }
+    requires other { is_register operation.now.request ≡ false }
+    ensures value { IfOk result (λ found. (earlier later : View) → IsSeenOf earlier later around.now before.now operation.now
+        → IsCompared found (had (answered earlier) before.now operation.now.op) (answered later operation.now)) }
     ensures sorted { IfOk result (λ found. IfSome found (λ compared. IsInOrder compared)) }
 {
     let questions = questions_of(&operation.request);
     let questions = questions.as_slice();
-    match walk_for(questions, walks) {
+    match walk_for(questions, around.walks) {
         Some(walk) => {
-            let had = had_by(alloc, before, operation, questions, &walk.earlier)?;
-            let has = answers_of(alloc, &operation.request, questions, &walk.later)?;
+            let had = had_by(alloc, before, operation, questions, &earlier_of(walk))?;
+            let has = answers_of(alloc, &operation.request, questions, &later_of(walk))?;
             Ok(Some(Compared { had, has }))
         }
         None => Ok(None),
@@ -207,20 +254,72 @@ fn walk_for<'a>(questions: &[Key], walks: &'a [Walk]) -> Option<&'a Walk>
     }
 }
 
-// What an operation had, nothing where it wasn't there.
+// The records of a walked name before the event, held and own.
+fn earlier_of(walk: &Walk) -> KnownRecords<'_>
+    ensures { rrs_in result ≡ rrs_of walk.now.earlier.items ++ walk.now.own.earlier }
+{
+    KnownRecords {
+        held: &walk.earlier,
+        own: walk.own.earlier.as_slice(),
+    }
+}
+
+// And after it.
+fn later_of(walk: &Walk) -> KnownRecords<'_>
+    ensures { rrs_in result ≡ rrs_of walk.now.later.items ++ walk.now.own.later }
+{
+    KnownRecords {
+        held: &walk.later,
+        own: walk.own.later.as_slice(),
+    }
+}
+
+// What an operation had over records, nothing where it wasn't there.
 fn had_by(
     alloc: Global,
     before: &[Operation],
     operation: &Operation,
     questions: &[Key],
-    held: &[Held],
+    known: &KnownRecords<'_>,
 ) -> Result<Answers, AllocError>
     requires { questions.now ≡ keys_of operation.now.request }
-    ensures value { IfOk result (λ answers. answers ≡ (if is_running operation.now.op before.now then answers_over operation.now.request (rrs_of held.now) else [])) }
+    ensures value { IfOk result (λ answers. answers ≡ (if is_running operation.now.op before.now then answers_over operation.now.request (rrs_in known.now) else [])) }
     ensures sorted { IfOk result (λ answers. IsSorted answer_cmp answers) }
 {
     if !is_running(before, operation.op) {
         return Ok(Answers::new(alloc));
     }
-    answers_of(alloc, &operation.request, questions, held)
+    answers_of(alloc, &operation.request, questions, known)
+}
+
+// What a registration had, nothing where it wasn't there.
+fn had_registered(
+    alloc: Global,
+    before: &[Operation],
+    operation: &Operation,
+    told: &Registered,
+) -> Result<Answers, AllocError>
+    ensures value { IfOk result (λ answers. answers ≡ (if is_running operation.now.op before.now then option_to_list told.now.had else [])) }
+    ensures sorted { IfOk result (λ answers. IsSorted answer_cmp answers) }
+{
+    if is_running(before, operation.op) {
+        one_answer(alloc, &told.had)
+    } else {
+        Ok(Answers::new(alloc))
+    }
+}
+
+// An answer that may be there, copied.
+fn one_answer(alloc: Global, answer: &Option<Answer>) -> Result<Answers, AllocError>
+    ensures value { IfOk result (λ answers. answers ≡ option_to_list answer.now) }
+    ensures sorted { IfOk result (λ answers. IsSorted answer_cmp answers) }
+{
+    let mut answers = Answers::new(alloc);
+    match answer {
+        Some(answer) => {
+            answers.push(answer.copy()?)?;
+            Ok(answers)
+        }
+        None => Ok(answers),
+    }
 }

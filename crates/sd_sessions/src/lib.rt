@@ -13,5 +13,6 @@ mod sessions;
 mod settle;
 
 pub use change::SessionChange;
+pub use codes::Registering;
 pub use law::sessions_follow_the_history;
 pub use sessions::{Plan, Sessions};

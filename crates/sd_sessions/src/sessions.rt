@@ -2,25 +2,24 @@
 ghost use Rattle.std.specs.Prelude.{◌≡◌, ℕ, List, ◌+◌, ◌++◌, ◌^◌, ◌||◌, ◌<◌, ◌≤◌, [], length, nat_le, vec_len, vec_capacity, true, IfOk, OnOk, if◌then◌else◌};
 ghost use Rattle.std.specs.List.{find};
 ghost use Rattle.std.specs.Option.{is_some, unwrap_or};
-ghost use Rattle.mdns_history.specs.declared.held.Held.{Held};
 ghost use Rattle.mdns_cache.specs.Ended.{is_among};
 ghost use Rattle.mdns_happened.specs.Told.{told_of, told_by};
 ghost use Rattle.mdns_happened.specs.Walks.{AreWalks};
-ghost use Rattle.sd_sessions.specs.Answered.{over};
+ghost use Rattle.sd_sessions.specs.Answered.{answered, View};
 ghost use Rattle.sd_sessions.specs.Codes.{call_outcome_of, has_number};
-ghost use Rattle.sd_sessions.specs.Settling.{cuts_of, gifts_of, most_taken, outcome_told, rrs_of, sessions_told, shifted_told};
+ghost use Rattle.sd_sessions.specs.Settling.{cuts_of, gifts_of, most_taken, outcome_told, sessions_told, shifted_told};
 ghost use Rattle.sd_sessions.specs.Kept.{operations_in, session_of, sessions_of, AreFit, AreWellFormed, HaveRoom, IsWellFormedCall};
 ghost use Rattle.sd_sessions.specs.Planned.{IsPlan, IsAnyPlan, IsReady, IsTold};
-ghost use Rattle.sd_sessions.specs.Walked.{AreNamed, IsCallNamed, AreKnown, IsCallWalked};
+ghost use Rattle.sd_sessions.specs.Walked.{AreBeside, AreNamed, IsCallNamed, AreKnown, IsCallWalked};
 
 use crate::by_names::changes_by_names;
 use crate::change::{SessionChange, gifts, put_cuts};
-use crate::codes::call_code;
+use crate::codes::{Registering, call_code};
 use crate::names::{put_called, put_touched};
 use crate::session::{SessionState, find};
 use crate::settle::{finish, make_room, settle};
 use dns_name::Name;
-use mdns_happened::{Happened, Idle, Walk};
+use mdns_happened::{Around, Happened, Idle};
 use mdns_history::{Event, Gifts, Marks, Operation, Outcome};
 use sd_call::{Item, Request};
 use std::alloc::{AllocError, Global};
@@ -120,13 +119,19 @@ impl Sessions {
         }
     }
 
-    /// What a call amounts to.
-    pub fn call<'a>(&self, session: u64, op: u32, request: &'a Request) -> Happened<'a>
-        ensures told { told_by result ≡ told_of (Event.Call session op request.now) (call_outcome_of (find (has_number session) self.now.sessions) op request.now) [] }
+    /// What a call amounts to, where this is known of registrations.
+    pub fn call<'a>(
+        &self,
+        session: u64,
+        op: u32,
+        request: &'a Request,
+        known: Registering,
+    ) -> Happened<'a>
+        ensures told { told_by result ≡ told_of (Event.Call session op request.now) (call_outcome_of known (find (has_number session) self.now.sessions) op request.now) [] }
         ensures well_formed { IsWellFormedCall (told_by result).call }
     {
         match find(&self.attached, session) {
-            Some(state) => call_of(state, session, op, request),
+            Some(state) => call_of(state, session, op, request, known),
             None => Happened::Nothing { why: Idle::Closed },
         }
     }
@@ -150,15 +155,18 @@ impl Sessions {
         Ok(())
     }
 
-    /// What an event changes in the sessions, told by the records of the names that were walked: each name that an operation
-    /// asks for was, or its records stay as they are, and what an accepted call asks for was. Nothing is changed. Refused only
-    /// for want of memory.
-    pub fn plan(&self, happened: &Happened<'_>, walks: &[Walk]) -> Result<Plan, AllocError>
+    /// What an event changes in the sessions, told by what was looked up around it. Each name that an operation asks for was
+    /// walked, or its records stay as they are, and what an accepted call asks for was. Of each registration it is told what it had
+    /// and has, or that stays. Nothing is changed. Refused only for want of memory.
+    pub fn plan(&self, happened: &Happened<'_>, around: &Around<'_>) -> Result<Plan, AllocError>
         requires { IsTold (told_by happened.now) self.now }
-        ensures { IfOk result (λ plan. (held later : List Held) → AreWalks held later walks.now → AreKnown held later walks.now self.now.sessions
-            → IsCallWalked walks.now (told_by happened.now).call → IsPlan (told_by happened.now) (over (rrs_of held)) (over (rrs_of later)) self.now.sessions plan) }
+        // The answers are those of any two views, before and after, of which enough is told.
+        ensures { IfOk result (λ plan. (earlier later : View) → AreWalks earlier.held later.held around.now.walks.now
+            → AreKnown earlier.held later.held around.now.walks.now self.now.sessions → IsCallWalked around.now.walks.now (told_by happened.now).call
+            → AreBeside (told_by happened.now) earlier later around.now self.now.sessions
+            → IsPlan (told_by happened.now) (answered earlier) (answered later) self.now.sessions plan) }
     {
-        let changes = changes_by_names(self.alloc, &self.attached, happened, walks)?;
+        let changes = changes_by_names(self.alloc, &self.attached, happened, around)?;
         let taken = room_to_take(self.alloc, happened)?;
         Ok(Plan { changes, taken })
     }
@@ -214,8 +222,14 @@ impl Plan {
 
 // What a call of an attached session amounts to.
 #[tactic(auto, unfolding(crate::specs::Codes::kept_code))]
-fn call_of<'a>(state: &SessionState, session: u64, op: u32, request: &'a Request) -> Happened<'a>
-    ensures told { told_by result ≡ told_of (Event.Call session op request.now) (call_outcome_of (Some (session_of state.now)) op request.now) [] }
+fn call_of<'a>(
+    state: &SessionState,
+    session: u64,
+    op: u32,
+    request: &'a Request,
+    known: Registering,
+) -> Happened<'a>
+    ensures told { told_by result ≡ told_of (Event.Call session op request.now) (call_outcome_of known (Some (session_of state.now)) op request.now) [] }
     ensures well_formed { IsWellFormedCall (told_by result).call }
 {
     if state.outbox.is_cut() {
@@ -225,7 +239,7 @@ fn call_of<'a>(state: &SessionState, session: u64, op: u32, request: &'a Request
         session,
         op,
         request,
-        code: call_code(state.operations.as_slice(), op, request),
+        code: call_code(known, state.operations.as_slice(), op, request),
     }
 }
 

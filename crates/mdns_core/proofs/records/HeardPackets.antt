@@ -239,6 +239,10 @@ pub ok_two : {T E : Type 0} {A B C : T → Type 0} (r : Result T E) → ((x : T)
 ok_two (Ok x) f a b = f x a b
 ok_two (Err e) f a b = tt
 
+pub ok_three : {T E : Type 0} {A B C D : T → Type 0} (r : Result T E) → ((x : T) → A x → B x → C x → D x) → IfOk r A → IfOk r B → IfOk r C → IfOk r D
+ok_three (Ok x) f a b c = f x a b c
+ok_three (Err e) f a b c = tt
+
 pub ok_always : {T E : Type 0} (P : Type 0) (r : Result T E) → P → IfOk r (λ _. P)
 ok_always P (Ok x) p = p
 ok_always P (Err e) p = tt

@@ -20,7 +20,7 @@ use Rattle.mdns_history.proofs.LifetimeSteps.{live_of-renewal, live_of-goodbye, 
 use Rattle.mdns_cache.specs.Lifetimes.{hearing_at, hearings_at, renewed, shortened}
 use Rattle.mdns_core.specs.State.{State, Stands}
 use Rattle.mdns_core.specs.Next.{is_full, heard_with, IsHeard}
-use Rattle.sd_sessions.specs.Settling.{rrs_of}
+use Rattle.sd_answer.specs.Known.{rrs_of}
 use Rattle.mdns_core.proofs.ticks.Due.{list_all-IsPermutation}
 
 -- whether the data of a held record have their form

@@ -3,19 +3,25 @@ use Rattle.std.proofs.Common.{◌≡◌, ℕ, Bool, true, false, cond, ◌||◌,
 use Rattle.std.specs.List.{AllByRecursion}
 use Rattle.dns_name.specs.Names.{folded_eq}
 use Rattle.dns_name.proofs.Folding.{folded_eq-equivalence}
+use Rattle.dns_record.specs.declared.record.Key.{Key}
 use Rattle.mdns_history.specs.declared.held.Held.{Held}
+use Rattle.mdns_history.specs.declared.operation.Operation.{Operation}
 use Rattle.mdns_history.specs.Questions.{keys_of}
 use Rattle.mdns_history.specs.Sessions.{Accepted}
 use Rattle.mdns_cache.specs.Ended.{is_among}
 use Rattle.mdns_cache.specs.Lifetimes.{held_of, AllHeard}
 use Rattle.mdns_happened.specs.declared.walk.Walk.{Walk}
 use Rattle.mdns_happened.specs.Told.{Told}
-use Rattle.mdns_happened.specs.Walks.{is_walked, AreWalks, IsKnown}
+use Rattle.mdns_happened.specs.declared.around.Around.{Around}
+use Rattle.mdns_happened.specs.declared.around.Registered.{Registered}
+use Rattle.mdns_happened.specs.Registrations.{AreRegistered}
+use Rattle.mdns_happened.specs.Walks.{is_walked, own_of, AreWalks, AreOwnWalks, IsKnown}
 use Rattle.mdns_question.specs.declared.tracked.Tracked.{Tracked}
 use Rattle.mdns_asking.specs.Asked.{begun_keys}
 use Rattle.mdns_asking.specs.Walked as for_asking
 use Rattle.sd_sessions.specs.Sessions.{Session}
 use Rattle.sd_sessions.specs.Walked as for_sessions
+use Rattle.mdns_core.specs.Alone.{alone}
 use Rattle.mdns_core.specs.Planned.{AreEnough}
 
 each_also : {X : Type 0} (P Q : X → Type 0) → ((x : X) → P x → Q x) → (xs : List X) → AllByRecursion P xs → AllByRecursion Q xs
@@ -56,14 +62,41 @@ module _ (held later : List Held) (touched names : List (List (List ℕ))) (walk
     for_call (Some call) named = each_also _ _ (λ key among. walked key.name (kept key.name among)) (keys_of call.request) named
 
     -- What was walked is enough, where the names of the sessions were put before those of the questions.
-    pub enough-walked : (told : Told) (moment : ℕ) (questions : List Tracked) (sessions : List Session) → AreWalks held later walks → for_asking.AreNamed told moment questions touched names →
+    pub enough-walked : (told : Told) (moment : ℕ) (questions : List Tracked) (sessions : List Session) → AreWalks held later walks → AreOwnWalks [] [] walks → for_asking.AreNamed told moment questions touched names →
         for_sessions.AreNamed touched before sessions → for_sessions.IsCallNamed before told.call → AreEnough told moment held later questions sessions walks
-    enough-walked told moment questions sessions walks_are asked served called = record {
+    enough-walked told moment questions sessions walks_are unowned asked served called = record {
       records = walks_are;
+      own = unowned;
       asking = for_questions told moment questions asked;
       sessions = for_operations sessions served;
       call = for_call told.call called;
     }
+
+-- Beside the held records nothing is to be told, where there are no own records and nothing is registered.
+pub beside-alone : (told : Told) (held later : List Held) (around : Around) (sessions : List Session) → AreOwnWalks [] [] around.walks.now → around.registered.now ≡ [] →
+    for_sessions.AreBeside told (alone held) (alone later) around sessions
+beside-alone told held later around sessions unowned untold = record {
+  own = unowned;
+  registered = subst (AreRegistered (λ session op. []) (λ session op. [])) (sym untold) tt;
+  known = each_session sessions;
+  begun = begins told.call;
+}
+  where
+    each_key : (keys : List Key) → AllByRecursion (λ (key : Key). is_walked around.walks.now key.name ≡ false → own_of key.name [] ≡ own_of key.name []) keys
+    each_key [] = tt
+    each_key (key ∷ keys) = ((λ none. refl), each_key keys)
+
+    each_operation : (os : List Operation) → AllByRecursion (for_sessions.IsBeside (alone held) (alone later) around) os
+    each_operation [] = tt
+    each_operation (o ∷ os) = (record { own = each_key (keys_of o.request); registered = λ registers unheard. refl }, each_operation os)
+
+    each_session : (ss : List Session) → AllByRecursion (λ (s : Session). AllByRecursion (for_sessions.IsBeside (alone held) (alone later) around) s.operations) ss
+    each_session [] = tt
+    each_session (s ∷ ss) = (each_operation s.operations, each_session ss)
+
+    begins : (call : Option Accepted) → for_sessions.IsBegunTold (alone later) around call
+    begins None = tt
+    begins (Some call) = λ registers unheard. refl
 
 -- The later records of walks were heard by a moment, where all were.
 heard-of : (moment : ℕ) (name : List (List ℕ)) (held : List Held) → AllHeard moment held → AllHeard moment (held_of name held)

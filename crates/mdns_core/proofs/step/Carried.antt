@@ -19,11 +19,11 @@ use Rattle.sd_sessions.specs.declared.change.SessionChange.{SessionChange}
 use Rattle.mdns_happened.specs.Told.{Told, told_of}
 use Rattle.mdns_core.specs.State.{State, Stands}
 use Rattle.sd_sessions.specs.Sessions.{Session}
-use Rattle.sd_sessions.specs.Answered.{over}
-use Rattle.sd_sessions.specs.Codes.{kept_outcome}
+use Rattle.sd_sessions.specs.Answered.{answered}
 use Rattle.mdns_asking.specs.Asked.{sent_told, questions_told}
 use Rattle.mdns_asking.specs.Timed.{all_timed}
-use Rattle.sd_sessions.specs.Settling.{change_told, cuts_of, gifts_of, shifted_told, rrs_of, outcome_told, sessions_told}
+use Rattle.sd_sessions.specs.Settling.{change_told, cuts_of, gifts_of, shifted_told, outcome_told, sessions_told}
+use Rattle.mdns_core.specs.Alone.{alone, kept_outcome}
 use Rattle.mdns_core.specs.Next.{entry_for, state_after, IsHeard}
 use Rattle.mdns_core.specs.Planned.{chosen_for}
 use Rattle.mdns_core.proofs.step.Stepped.{stepped}
@@ -44,7 +44,7 @@ pub record IsCarriedOut (state : State) (moment word : ℕ) (ev : Event) (after 
   pub reads : told ≡ told_of ev (kept_outcome state.opened state.sessions ev) told.refusal
   pub heard : (past : List Hearing) (before : ℕ) → before ≤ moment → Holds state.held past before → IsHeard moment word ev past after told.refusal
   pub parts : have_data (counted_records (brought ev)) ≡ true
-  pub changed : changes ≡ map (change_told told (over (rrs_of state.held)) (over (rrs_of after))) state.sessions
+  pub changed : changes ≡ map (change_told told (answered (alone state.held)) (answered (alone after))) state.sessions
   pub marked : marks ≡ told.refusal ++ map mark_of (chosen_for told state.questions after moment) ++ cuts_of changes
   pub sends : sent ≡ sent_told told.ticks after moment (chosen_for told state.questions after moment)
   pub gifts : given ≡ gifts_of changes
@@ -56,7 +56,7 @@ pub record IsCarriedOut (state : State) (moment word : ℕ) (ev : Event) (after 
 -- the changes, the entry and what is kept, by what is told
 module _ (state : State) (moment word : ℕ) (ev : Event) (after : List Held) where
   abbrev changes_by : Told → List SessionChange
-  changes_by told = map (change_told told (over (rrs_of state.held)) (over (rrs_of after))) state.sessions
+  changes_by told = map (change_told told (answered (alone state.held)) (answered (alone after))) state.sessions
 
   abbrev entry_by : Told → List SessionChange → Entry
   entry_by told changes =

@@ -21,9 +21,9 @@ use Rattle.mdns_asking.specs.Asked.{sent_told, begun_keys, ended_told, all_begun
 use Rattle.mdns_asking.specs.Timed.{all_timed}
 use Rattle.mdns_asking.specs.Walked.{AreKnown, AreWalked}
 use Rattle.sd_sessions.specs.Sessions.{Session}
-use Rattle.sd_sessions.specs.Codes.{kept_outcome}
 use Rattle.sd_sessions.specs.Settling.{cuts_of, shifted_told, outcome_told, sessions_told}
 use Rattle.mdns_core.specs.declared.plan.Plan.{Plan}
+use Rattle.mdns_core.specs.Alone.{kept_outcome}
 use Rattle.mdns_core.specs.InForce.{in_force}
 use Rattle.mdns_core.specs.State.{Stands, due_of}
 use Rattle.mdns_core.specs.Planned.{chosen_for, IsPlanFor}

@@ -1,8 +1,8 @@
 -- What is kept makes the entry that fits, and stands for the history with it.
-use Rattle.std.proofs.Common.{◌≡◌, ℕ, ◌≤◌, true, false, List, ◌∷◌, ◌++◌, map, None, ap, subst, ◌∙◌, sym}
-use Rattle.std.proofs.lemmas.List.Sorted.{IsPermutation-map}
+use Rattle.std.proofs.Common.{◌≡◌, ℕ, ◌≤◌, true, false, List, ◌∷◌, ◌++◌, map, None, ap, subst, ◌∙◌, sym, append-nil}
 use Rattle.std.specs.List.Sorted.{IsPermutation}
 use Rattle.std.specs.Option.{unwrap_or}
+use Rattle.sd_answer.specs.Known.{rrs_of}
 use Rattle.sd_answer.specs.Laws.{have_data}
 use Rattle.dns_record.specs.declared.record.Key.{Key}
 use Rattle.mdns_history.specs.declared.event.Event.{Event}
@@ -31,16 +31,16 @@ use Rattle.sd_sessions.specs.Sessions.{Session, sessions_in}
 use Rattle.mdns_asking.specs.Asked.{asked_for, sent_for, questions_after}
 use Rattle.mdns_asking.specs.State.{asker_of}
 use Rattle.mdns_asking.specs.Timed.{all_timed}
-use Rattle.sd_sessions.specs.Codes.{kept_outcome}
-use Rattle.sd_sessions.specs.Settling.{change_for, cuts_of, gifts_of, all_settled, remaining, with_opened, rrs_of, outcome_then, sessions_after}
+use Rattle.sd_sessions.specs.Settling.{change_for, cuts_of, gifts_of, all_settled, remaining, with_opened, outcome_then, sessions_after}
+use Rattle.mdns_core.specs.Alone.{alone, kept_outcome}
 use Rattle.mdns_core.specs.Next.{changes_for, sessions_then, entry_for, state_after, IsHeard}
 use Rattle.mdns_core.proofs.step.Stage.{sent_by, bare, duty_marks, entry_after, entry_is, marks_are, sent-next, IsLegal-next}
 use Rattle.mdns_core.proofs.records.Hears.{refusal-is, records-is}
 use Rattle.mdns_core.proofs.asking.AskedFor.{marks-asked, sends-asked}
 use Rattle.mdns_core.proofs.asking.AskedAfter.{asking-next}
 use Rattle.mdns_asking.proofs.Timed.{stands_timed}
-use Rattle.mdns_core.proofs.step.WithoutHost.{rrs_of as live_rrs, hostless-next, outcome-kept, changes-kept}
-use Rattle.sd_sessions.specs.Answered.{over}
+use Rattle.mdns_core.proofs.step.WithoutHost.{live, hostless-next, outcome-kept, changes-kept}
+use Rattle.sd_sessions.specs.Answered.{answered}
 use Rattle.sd_sessions.specs.Laws.{answers_in}
 use Rattle.sd_sessions.proofs.KeptChanges.{marks-kept, given-kept}
 use Rattle.sd_sessions.proofs.Permuted.{changes-permuted}
@@ -95,12 +95,10 @@ module _ (history : List Entry) (moment word : ℕ) (ev : Event) where
       records-after = subst (λ m. IsPermutation after (live_records (entry_after history moment word ev ∷ history) m)) (sym moment-is)
           (subst (λ live. IsPermutation after live) (records-is history moment word ev) heard.records)
 
-      changes-are : map (change_for ev early (over (rrs_of before)) (over (rrs_of after))) (sessions_in history) ≡ changes
+      changes-are : map (change_for ev early (answered (alone before)) (answered (alone after))) (sessions_in history) ≡ changes
       changes-are =
-          changes-permuted ev early (rrs_of before) (rrs_of after) (live_rrs history) (live_rrs (entry_after history moment word ev ∷ history)) data_before data_after
-          (IsPermutation-map (λ one. one.rr) before (live_records history (now history)) held)
-          (IsPermutation-map (λ one. one.rr) after (live_records (entry_after history moment word ev ∷ history) (entry_after history moment word ev).moment) records-after)
-          (sessions_in history)
+          changes-permuted ev early (alone before) (alone after) (live history) (live (entry_after history moment word ev ∷ history))
+          (ap have_data (append-nil (rrs_of before)) ∙ data_before) (ap have_data (append-nil (rrs_of after)) ∙ data_after) held records-after (sessions_in history)
           ∙ changes-kept history legal hostless moment word ev no_boot
 
       kept-early : kept_outcome (opened_count history) (sessions_in history) ev ≡ early
@@ -111,7 +109,7 @@ module _ (history : List Entry) (moment word : ℕ) (ev : Event) where
           let marks : List Mark = map mark_of asked in
           let sent : List Sent = sent_for after moment ev asked in
           let refused : List Mark = refusal_marks (bare history moment word ev) history ev in
-          ap (λ o. entry_with o (map (change_for ev o (over (rrs_of before)) (over (rrs_of after))) (sessions_in history)) refusal marks sent) kept-early
+          ap (λ o. entry_with o (map (change_for ev o (answered (alone before)) (answered (alone after))) (sessions_in history)) refusal marks sent) kept-early
           ∙ ap (λ cs. entry_with early cs refusal marks sent) changes-are
           ∙ ap (λ r. entry_with early changes r marks sent) (heard.refused ∙ refusal-is history moment word ev)
           ∙ ap (λ ms. entry_with early changes refused ms sent) (marks-asked history moment word questions before after refusal questions_stand ev heard)
@@ -120,7 +118,7 @@ module _ (history : List Entry) (moment word : ℕ) (ev : Event) where
 
       sessions-are : sessions_after ev (sessions_then state ev (changes_for state ev after)) ≡ sessions_in (entry_after history moment word ev ∷ history)
       sessions-are =
-          ap (λ o. sessions_after ev (then_sessions o (map (change_for ev o (over (rrs_of before)) (over (rrs_of after))) (sessions_in history)))) kept-early
+          ap (λ o. sessions_after ev (then_sessions o (map (change_for ev o (answered (alone before)) (answered (alone after))) (sessions_in history)))) kept-early
           ∙ ap (λ cs. sessions_after ev (then_sessions early cs)) changes-are
           ∙ sym (sessions-is in_force history moment word ev legal no_boot)
 

@@ -1,9 +1,9 @@
-use Rattle.std.proofs.Common.{◌≡◌, ◌∙◌, ℕ, List, ap, subst, sym}
+use Rattle.std.proofs.Common.{◌≡◌, ◌∙◌, ℕ, List, [], refl, ap, subst, sym}
 use Rattle.mdns_history.specs.declared.held.Held.{Held}
 use Rattle.mdns_history.specs.Hearings.{counted_records}
 use Rattle.mdns_happened.specs.declared.walk.Walk.{Walk}
 use Rattle.mdns_happened.specs.Told.{Told, told_by}
-use Rattle.mdns_happened.specs.Walks.{AreWalks}
+use Rattle.mdns_happened.specs.Walks.{AreWalks, AreOwnWalks}
 use Rattle.mdns_records.specs.After.{held_after}
 use Rattle.mdns_records.proofs.Holding.{after-holds, after-live, after-heard}
 use Rattle.mdns_question.specs.declared.tracked.Tracked.{Tracked}
@@ -12,7 +12,8 @@ use Rattle.mdns_asking.specs.Walked as for_asking
 use Rattle.sd_sessions.specs.Sessions.{Session}
 use Rattle.sd_sessions.specs.Walked as for_sessions
 use Rattle.mdns_core.proofs.records.HeardPackets.{heard-read}
-use Rattle.mdns_core.proofs.records.Walked.{heard-walked}
+use Rattle.mdns_core.specs.Alone.{alone}
+use Rattle.mdns_core.proofs.records.Walked.{heard-walked, beside-alone}
 use Rattle.mdns_core.proofs.plan.make_plan.Goals as goal
 
 pub plan-requires-clause-heard : goal.plan-requires-clause-heard
@@ -48,9 +49,10 @@ returns g c =
           (after-live now c.args.when.word c.in_ok-reading.reading.heard held)
           (subst (for_asking.AreEnough told now questions held later) (sym asked_of) c.in_ok-walks.ensures.asking));
       gaps = c.in_ok-asking.ensures.gaps;
-      sessions = c.in_ok-sessions.ensures held later (subst (AreWalks held later) (sym served_of) c.in_ok-walks.ensures.records)
+      sessions = c.in_ok-sessions.ensures (alone held) (alone later) (subst (AreWalks held later) (sym served_of) c.in_ok-walks.ensures.records)
           (subst (λ (ws : List Walk). for_sessions.AreKnown held later ws sessions) (sym served_of) c.in_ok-walks.ensures.sessions)
-          (subst (λ (ws : List Walk). for_sessions.IsCallWalked ws told.call) (sym served_of) c.in_ok-walks.ensures.call);
+          (subst (λ (ws : List Walk). for_sessions.IsCallWalked ws told.call) (sym served_of) c.in_ok-walks.ensures.call)
+          (beside-alone told held later _ sessions (subst (AreOwnWalks [] []) (sym served_of) c.in_ok-walks.ensures.own) refl);
       marks = c.in_ok-marks.ensures;
       given = c.in_ok-given.ensures;
     }

@@ -2,10 +2,20 @@ use Rattle.std.specs.List.{list_any, filter_map}
 use Rattle.dns_record.specs.declared.record.Rr.{Rr}
 use Rattle.dns_record.specs.Records.{matches}
 use Rattle.mdns_history.specs.Answers.{matching, resolved_with}
-use Rattle.sd_answer.proofs.Puts.{rrs_of, put_more_lists}
+use Rattle.sd_answer.specs.Known.{rrs_in}
+use Rattle.sd_answer.proofs.Puts.{put_more_lists, put_own_lists, put_both_lists}
 use Rattle.sd_answer.proofs.answers.put_places.Goals as goal
 
 pub loop-one-preserved : goal.loop-one-preserved
 loop-one-preserved c =
-    put_more_lists (λ (srv : Rr). filter_map (λ (txt : Rr). resolved_with srv.rdata txt.rdata) (matching c.args.questions.now (rrs_of c.args.held.now))) (λ rr. list_any (λ key. matches key rr) c.args.questions.now) c.args.held.now c.loop-one.one-index c.one-item.result c.loop-one-test.true c.one-item.is _ _ _ c.loop-one.invariant
+    put_more_lists (λ (srv : Rr). filter_map (λ (txt : Rr). resolved_with srv.rdata txt.rdata) (matching c.args.questions.now (rrs_in c.args.known.now))) (λ rr. list_any (λ key. matches key rr) c.args.questions.now) c.args.known.now.held.now c.loop-one.one-index c.one-item.result c.loop-one-test.true c.one-item.is _ _ _ c.loop-one.invariant
     c.in_ok-put_place.ensures
+
+pub loop-rr-preserved : goal.loop-rr-preserved
+loop-rr-preserved c =
+    put_own_lists (λ (srv : Rr). filter_map (λ (txt : Rr). resolved_with srv.rdata txt.rdata) (matching c.args.questions.now (rrs_in c.args.known.now))) (λ rr. list_any (λ key. matches key rr) c.args.questions.now) c.args.known.now.own.now c.loop-rr.rr-index c.rr-item.result c.loop-rr-test.true c.rr-item.is _ _ _ c.loop-rr.invariant
+    c.in_ok-put_place-2.ensures
+
+pub returns : goal.returns
+returns c =
+    put_both_lists (λ (srv : Rr). filter_map (λ (txt : Rr). resolved_with srv.rdata txt.rdata) (matching c.args.questions.now (rrs_in c.args.known.now))) (λ rr. list_any (λ key. matches key rr) c.args.questions.now) c.args.known.now.held.now c.loop-one.one-index c.args.known.now.own.now c.loop-rr.rr-index c.loop-one-test.false c.loop-rr-test.false _ _ _ c.loop-one.invariant c.loop-rr.invariant

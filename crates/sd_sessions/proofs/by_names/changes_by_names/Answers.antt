@@ -1,9 +1,9 @@
 use Rattle.std.proofs.Common.{◌∙◌, ◌++◌, ◌∷◌, [], List, ap, map, subst, sym}
 use Rattle.std.proofs.lemmas.List.{take_all}
 use Rattle.mdns_happened.specs.Told.{Told, told_by}
-use Rattle.sd_sessions.specs.Answered.{over}
+use Rattle.sd_sessions.specs.Answered.{answered}
 use Rattle.sd_sessions.specs.declared.session.SessionState.{SessionState}
-use Rattle.sd_sessions.specs.Settling.{change_told, rrs_of}
+use Rattle.sd_sessions.specs.Settling.{change_told}
 use Rattle.sd_sessions.specs.Kept.{session_of, sessions_of, HaveWellFormed}
 use Rattle.sd_sessions.specs.Walked.{IsSeen}
 use Rattle.sd_sessions.proofs.Nexts.{all-at, drop-next, map_map-next}
@@ -13,15 +13,15 @@ pub loop-session-preserved : goal.loop-session-preserved
 loop-session-preserved c =
     let told : Told = told_by c.args.happened.now in
     record {
-      made = λ held later seen.
+      made = λ earlier later seen.
           c.in_ok-push.ensures.items
-          ∙ (λ i. c.loop-session.invariant.made held later seen i ++ c.in_ok-change_by_names.ensures held later
-          (all-at (IsSeen told held later c.args.walks.now) session_of c.args.sessions.now c.loop-session.session-index c.session-item.result c.loop-session-test.true c.session-item.is seen) i ∷ [])
-          ∙ sym (map_map-next (change_told told (over (rrs_of held)) (over (rrs_of later))) session_of c.args.sessions.now c.loop-session.session-index c.session-item.result c.loop-session-test.true c.session-item.is);
+          ∙ (λ i. c.loop-session.invariant.made earlier later seen i ++ c.in_ok-change_by_names.ensures earlier later
+          (all-at (IsSeen told earlier later c.args.around.now) session_of c.args.sessions.now c.loop-session.session-index c.session-item.result c.loop-session-test.true c.session-item.is seen) i ∷ [])
+          ∙ sym (map_map-next (change_told told (answered earlier) (answered later)) session_of c.args.sessions.now c.loop-session.session-index c.session-item.result c.loop-session-test.true c.session-item.is);
       formed = (subst (λ (l : List SessionState). HaveWellFormed (sessions_of l)) (drop-next c.args.sessions.now c.loop-session.session-index c.session-item.result c.loop-session-test.true c.session-item.is) c.loop-session.invariant.formed).1;
     }
 
 pub returns : goal.returns
-returns c = λ held later seen.
-    c.loop-session.invariant.made held later seen
-    ∙ ap (λ (l : List SessionState). map (change_told (told_by c.args.happened.now) (over (rrs_of held)) (over (rrs_of later))) (sessions_of l)) (take_all c.loop-session.session-index c.args.sessions.now c.loop-session-test.false)
+returns c = λ earlier later seen.
+    c.loop-session.invariant.made earlier later seen
+    ∙ ap (λ (l : List SessionState). map (change_told (told_by c.args.happened.now) (answered earlier) (answered later)) (sessions_of l)) (take_all c.loop-session.session-index c.args.sessions.now c.loop-session-test.false)

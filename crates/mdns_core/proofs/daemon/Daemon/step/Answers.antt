@@ -12,9 +12,10 @@ use Rattle.mdns_records.specs.After.{held_after}
 use Rattle.mdns_records.proofs.Holding.{after-live}
 use Rattle.sd_sessions.specs.declared.change.SessionChange.{SessionChange}
 use Rattle.sd_sessions.specs.Sessions.{Session}
-use Rattle.sd_sessions.specs.Answered.{Answering, over}
+use Rattle.sd_sessions.specs.Answered.{Answering, answered}
 use Rattle.sd_sessions.specs.Planned as sessions
-use Rattle.sd_sessions.specs.Settling.{rrs_of, shifted_told, outcome_told, sessions_told}
+use Rattle.sd_sessions.specs.Settling.{shifted_told, outcome_told, sessions_told}
+use Rattle.mdns_core.specs.Alone.{alone}
 use Rattle.mdns_core.specs.InForce.{in_force}
 use Rattle.mdns_core.specs.State.{State, Stands}
 use Rattle.mdns_core.proofs.step.Standing.{replayed-stands, queued-stands}
@@ -29,8 +30,8 @@ apply-requires-clause-fits g c =
 
 pub apply-outcome-requires-clause-planned : goal.apply-outcome-requires-clause-planned
 apply-outcome-requires-clause-planned g c =
-    let earlier : Answering = over (rrs_of c.self.inside.records.held) in
-    let later : Answering = over (rrs_of (held_after c.args.now c.args.word c.in_ok-plan.plan.heard c.self.inside.records.held)) in (
+    let earlier : Answering = answered (alone c.self.inside.records.held) in
+    let later : Answering = answered (alone (held_after c.args.now c.args.word c.in_ok-plan.plan.heard c.self.inside.records.held)) in (
       earlier,
       later,
       subst (λ (ss : List Session). sessions.IsPlan (told_by c.in_ok-plan.plan.happened) earlier later ss c.in_ok-plan.plan.sessions) (sym c.reserve-3.ensures.sessions) c.in_ok-plan.ensures.sessions,

@@ -1,9 +1,9 @@
 use Rattle.std.proofs.Common.{◌∙◌, ◌++◌, ◌∷◌, [], map, ap, sym, subst}
 use Rattle.std.proofs.lemmas.List.{map-append}
 use Rattle.mdns_happened.specs.declared.walk.Walk.{Walk}
-use Rattle.mdns_happened.specs.Walks.{AreWalks}
+use Rattle.mdns_happened.specs.Walks.{AreWalks, AreOwnWalks}
 use Rattle.mdns_records.specs.After.{held_after}
-use Rattle.mdns_records.proofs.Walking.{walks-push}
+use Rattle.mdns_records.proofs.Walking.{walks-push, own_walks-push}
 use Rattle.mdns_records.proofs.records.Records.walk.Goals as goal
 
 pub loop-name-preserved : goal.loop-name-preserved
@@ -12,4 +12,5 @@ loop-name-preserved g c = record {
       (walks-push _ _ c.loop-name.walks.items c.in_ok-walk_one.field-0 c.loop-name.invariant.walks c.in_ok-walk_one.ensures.walk);
   names = ap (map (λ (walk : Walk). walk.name)) c.in_ok-push.ensures.items ∙ map-append (λ (walk : Walk). walk.name) c.loop-name.walks.items (c.in_ok-walk_one.field-0 ∷ [])
       ∙ ap (λ (l : _). l ++ c.in_ok-walk_one.field-0.name ∷ []) c.loop-name.invariant.names ∙ ap (λ (n : _). c.loop-name.yielded ++ n ∷ []) c.in_ok-walk_one.ensures.name;
+  own = subst (AreOwnWalks [] []) (sym c.in_ok-push.ensures.items) (own_walks-push [] [] c.loop-name.walks.items c.in_ok-walk_one.field-0 c.loop-name.invariant.own c.in_ok-walk_one.ensures.own);
 }

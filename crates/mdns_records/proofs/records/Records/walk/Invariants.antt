@@ -1,5 +1,5 @@
-use Rattle.std.proofs.Common.{◌≡◌, map}
-use Rattle.mdns_happened.specs.Walks.{AreWalks}
+use Rattle.std.proofs.Common.{◌≡◌, [], map}
+use Rattle.mdns_happened.specs.Walks.{AreWalks, AreOwnWalks}
 use Rattle.mdns_records.specs.After.{held_after}
 use Rattle.mdns_records.proofs.records.Records.walk.Given as goal
 
@@ -7,4 +7,5 @@ abbrev pub invariant-loop-name : goal.invariant-loop-name
 invariant-loop-name g l = record {
   walks : AreWalks l.self.held (held_after l.when.moment l.when.word l.heard l.self.held) l.walks.items;
   names : map (λ walk. walk.name) l.walks.items ≡ l.yielded;
+  own : AreOwnWalks [] [] l.walks.items;
 }

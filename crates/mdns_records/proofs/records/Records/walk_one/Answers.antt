@@ -10,3 +10,6 @@ returns-clause-walk g c = record {
       ∙ ap (held_after c.args.when.moment c.args.when.word (filter (is_named c.args.name) c.args.heard.now)) (c.deref.ensures.value ∙ c.in_ok-earlier.ensures)
       ∙ sym (later_of c.args.name c.args.when.moment c.args.when.word c.args.heard.now c.args.self.now.held);
 }
+
+pub returns-clause-own : goal.returns-clause-own
+returns-clause-own g c = record { earlier = c.none.ensures.earlier; later = c.none.ensures.later }

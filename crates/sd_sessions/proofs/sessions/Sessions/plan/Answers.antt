@@ -1,9 +1,9 @@
 use Rattle.std.proofs.Common.{◌≡◌, ◌∙◌, List, ap, map, subst, sym}
 use Rattle.std.specs.List.{AllByRecursion}
 use Rattle.mdns_happened.specs.Told.{Told, told_by}
-use Rattle.sd_sessions.specs.Answered.{over}
+use Rattle.sd_sessions.specs.Answered.{answered}
 use Rattle.sd_sessions.specs.Sessions.{Session, State}
-use Rattle.sd_sessions.specs.Settling.{change_told, rrs_of}
+use Rattle.sd_sessions.specs.Settling.{change_told}
 use Rattle.sd_sessions.specs.Kept.{sessions_of, AreKept, IsFresh}
 use Rattle.sd_sessions.specs.Walked.{IsSeen}
 use Rattle.sd_sessions.proofs.Fresh.{told-formed, told-fresh}
@@ -14,15 +14,15 @@ pub changes_by_names-requires-clause-call : goal.changes_by_names-requires-claus
 changes_by_names-requires-clause-call c = told-formed (told_by c.args.happened.now) c.args.self.now c.requires
 
 pub returns : goal.returns
-returns c = λ held later are known called.
+returns c = λ earlier later are known called beside.
     let told : Told = told_by c.args.happened.now in
     let kept : AreKept c.args.self.now.opened c.args.self.now.sessions = subst (λ (s : State). AreKept s.opened s.sessions) c.self.view_is c.self.invariant in
     let fresh : IsFresh told c.args.self.now.sessions = told-fresh told c.args.self.now c.requires kept in
-    let seen : AllByRecursion (IsSeen told held later c.args.walks.now) c.args.self.now.sessions = all-seen told held later c.args.walks.now c.args.self.now.sessions are known called fresh.operation kept.rising in
+    let seen : AllByRecursion (IsSeen told earlier later c.args.around.now) c.args.self.now.sessions = all-seen told earlier later c.args.around.now c.args.self.now.sessions are known called beside fresh.operation kept.rising in
     let same : sessions_of c.deref.result.now ≡ c.args.self.now.sessions = ap sessions_of c.deref.ensures.value ∙ ap (λ (s : State). s.sessions) c.self.view_is in
     record {
-      changes = c.in_ok-changes.ensures held later (subst (AllByRecursion (IsSeen told held later c.args.walks.now)) (sym same) seen)
-          ∙ ap (λ (ss : List Session). map (change_told told (over (rrs_of held)) (over (rrs_of later))) ss) same;
+      changes = c.in_ok-changes.ensures earlier later (subst (AllByRecursion (IsSeen told earlier later c.args.around.now)) (sym same) seen)
+          ∙ ap (λ (ss : List Session). map (change_told told (answered earlier) (answered later)) ss) same;
       call = told-formed told c.args.self.now c.requires;
       fresh = fresh;
       empty = c.in_ok-taken.ensures.items;

@@ -1,0 +1,13 @@
+-- The records that answers are made of.
+use Rattle.std.specs.Prelude.{List, ◌++◌, map}
+use Rattle.dns_record.specs.declared.record.Rr.{Rr}
+use Rattle.mdns_history.specs.declared.held.Held.{Held}
+use Rattle.sd_answer.specs.declared.records.KnownRecords.{KnownRecords}
+
+-- the records of what is held
+abbrev pub rrs_of : List Held → List Rr
+rrs_of held = map (λ one. one.rr) held
+
+-- the records that are held or own
+abbrev pub rrs_in : KnownRecords → List Rr
+rrs_in known = rrs_of known.held.now ++ known.own.now
