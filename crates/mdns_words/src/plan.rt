@@ -14,14 +14,15 @@ const SEED: u32 = 1;
 /// What the words of `serve` ask for.
 #[derive(Drop)]
 pub struct Asked {
-    /// The label of the host.
-    pub host: PathText,
+    /// The label of the host, where one is given.
+    pub host: Option<PathText>,
     /// What is served.
     pub plan: ServePlan,
 }
 
-/// What the words behind `serve` ask for; none where they aren't as the command wants them: `--socket PATH`, `--host LABEL`,
-/// `--address IPV4` and `--relay PORT` once each, `--seed N` at most once, and any number of peers' ports, in any order.
+/// What the words behind `serve` ask for; none where they aren't as the command wants them: `--socket PATH`,
+/// `--address IPV4` and `--relay PORT` once each, `--host LABEL` and `--seed N` at most once, and any number of peers' ports,
+/// in any order.
 /// Refused only for want of memory.
 pub fn serve_words(alloc: Global, words: &[String]) -> Result<Option<Asked>, AllocError>
     ensures { IfOk result (λ asked. asked ≡ serve_asked (texts words.now)) }
@@ -44,7 +45,6 @@ fn make_asked(options: Options) -> Option<Asked>
         seed,
         peers,
     } = options;
-    let host = host?;
     let socket = socket?;
     let plan = ServePlan {
         socket,

@@ -1,0 +1,125 @@
+// Serving by words.
+ghost use Rattle.std.specs.Io.KnownBytes.{Appends};
+ghost use Rattle.std.specs.Prelude.{◌≡◌, ◌≢◌, ◌⊎◌, ℕ, None, Some, IfOk, take};
+ghost use Rattle.mdns_base.specs.Outside.{Rose};
+ghost use Rattle.mdns_outside.specs.declared.plan.ServePlan.{ServePlan};
+ghost use Rattle.mdns_server.specs.Endings.{Ends, IsServeStatus, serving_line};
+ghost use Rattle.mdns_words.specs.Options.{texts};
+ghost use Rattle.mdnsd_serve.specs.Serving.{plan_of, plan_asked, Serves};
+
+use crate::booting::{Boot, boot_of, booted};
+use mdns_base::Sink;
+use mdns_outside::{Place, ServePlan};
+use mdns_server::serve;
+use mdns_words::{Asked, serve_words};
+use std::alloc::{AllocError, Global};
+use std::sync::Wait;
+
+/// The words aren't as the command wants them.
+const USAGE: u8 = 2;
+
+/// Memory was refused.
+const NO_MEMORY: u8 = 6;
+
+/// The link failed.
+const LINK_FAULT: u8 = 11;
+
+/// Serves what the words behind `serve` ask for: hands the plan to the place, boots a daemon without a host at the moment
+/// that the place's clock tells, and serves it. The status:
+/// - 0: the door gave its last connection, and all sessions ended.
+/// - 2: the words aren't as the command wants them, or name a host, which isn't built yet. Nothing is done.
+/// - 5: the output failed. Nothing was accepted.
+/// - 6: memory was refused before anything was accepted.
+/// - 9: the door failed, or couldn't be made.
+/// - 10: a thread couldn't be started, or what starts threads couldn't be made.
+/// - 11: the link failed: the ear, or a part couldn't be made.
+pub fn serve_by_words<R: Wait + Copy + Send + 'static, P: Place, K: Sink>(
+    rt: R,
+    alloc: Global,
+    words: &[String],
+    place: &mut P,
+    output: &mut K,
+) -> u8
+    ensures usage { result ≡ 2 → plan_of (texts words.now) ≡ None }
+    ensures wrong { plan_of (texts words.now) ≡ None
+        → ((result ≡ 2) ⊎ (result ≡ 6)) × (place.new ≡ place.old) × (output.new ≡ output.old) }
+    ensures serves { (plan : ServePlan) → plan_of (texts words.now) ≡ Some plan
+        → Serves plan (P.counted place.old) (P.counted place.new) result ⊎ ((result ≡ 6) × (place.new ≡ place.old)) }
+    ensures status { (result ≡ 2) ⊎ IsServeStatus result }
+    // The line `serving` was put, or a beginning of it.
+    ensures put { (n : ℕ) × Appends (K.held output.old) (K.held output.new) (take n serving_line) }
+    ensures whole { result ≡ 0 → Appends (K.held output.old) (K.held output.new) serving_line }
+    ensures write { result ≡ 5 → Rose (K.faults output.old) (K.faults output.new) }
+    ensures quiet { result ≢ 5 → K.faults output.new ≡ K.faults output.old }
+{
+    match plan_by_words(alloc, words) {
+        Ok(Some(plan)) => serve_plan(rt, alloc, plan, place, output),
+        Ok(None) => USAGE,
+        Err(_) => NO_MEMORY,
+    }
+}
+
+// The plan that words ask for, where they are as the command wants them and name no host.
+fn plan_by_words(alloc: Global, words: &[String]) -> Result<Option<ServePlan>, AllocError>
+    ensures { IfOk result (λ plan. plan ≡ plan_of (texts words.now)) }
+{
+    match serve_words(alloc, words)? {
+        Some(asked) => Ok(hostless(asked)),
+        None => Ok(None),
+    }
+}
+
+// The plan of what is asked, where no host is named.
+fn hostless(asked: Asked) -> Option<ServePlan>
+    ensures { result ≡ plan_asked asked }
+{
+    let Asked { host, plan } = asked;
+    match host {
+        None => Some(plan),
+        Some(_) => None,
+    }
+}
+
+// Serves a plan.
+fn serve_plan<R: Wait + Copy + Send + 'static, P: Place, K: Sink>(
+    rt: R,
+    alloc: Global,
+    plan: ServePlan,
+    place: &mut P,
+    output: &mut K,
+) -> u8
+    ensures serves { Serves plan (P.counted place.old) (P.counted place.new) result }
+    ensures status { IsServeStatus result }
+    ensures put { (n : ℕ) × Appends (K.held output.old) (K.held output.new) (take n serving_line) }
+    ensures whole { result ≡ 0 → Appends (K.held output.old) (K.held output.new) serving_line }
+    ensures write { result ≡ 5 → Rose (K.faults output.old) (K.faults output.new) }
+    ensures quiet { result ≢ 5 → K.faults output.new ≡ K.faults output.old }
+{
+    let address = plan.address;
+    place.prepare(plan);
+    match boot_of(place, address) {
+        Ok(boot) => serve_booted(rt, alloc, boot, place, output),
+        Err(_) => LINK_FAULT,
+    }
+}
+
+// Boots a daemon and serves it.
+fn serve_booted<R: Wait + Copy + Send + 'static, P: Place, K: Sink>(
+    rt: R,
+    alloc: Global,
+    boot: Boot,
+    place: &mut P,
+    output: &mut K,
+) -> u8
+    ensures ends { Ends (P.counted place.old) (P.counted place.new) result }
+    ensures status { IsServeStatus result }
+    ensures put { (n : ℕ) × Appends (K.held output.old) (K.held output.new) (take n serving_line) }
+    ensures whole { result ≡ 0 → Appends (K.held output.old) (K.held output.new) serving_line }
+    ensures write { result ≡ 5 → Rose (K.faults output.old) (K.faults output.new) }
+    ensures quiet { result ≢ 5 → K.faults output.new ≡ K.faults output.old }
+{
+    match booted(alloc, boot) {
+        Ok((turn, mut seat)) => serve(rt, alloc, &turn, &mut seat, place, output),
+        Err(_) => NO_MEMORY,
+    }
+}
