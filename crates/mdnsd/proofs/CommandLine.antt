@@ -1,9 +1,18 @@
--- The words of the command line, taken one by one.
-use Rattle.std.proofs.Common.{◌≡◌, ℕ, length, List, [], ◌∷◌, Option, None, Some, String, Global, map, drop, refl, sym, ap, ◌∙◌, arith}
+-- The words of the command line.
+use Rattle.std.proofs.lemmas.List.{append-nil}
+use Rattle.std.proofs.lemmas.Slice.Eq.{bytes_eq-Decides}
+use Rattle.std.specs.Prelude.{codes, take}
+use Rattle.std.specs.Io.KnownBytes.{Appends}
+use Rattle.mdns_base.specs.Digits.{◌>>=◌}
+use Rattle.mdnsd_serve.specs.Serving.{plan_of}
+use Rattle.std.proofs.Common.{◌≡◌, ◌≢◌, ℕ, length, List, [], ◌∷◌, ◌++◌, Option, None, Some, true, Result, Ok, Err, String, Global, map, drop, refl, sym, ap, ◌∙◌, arith}
 use Rattle.std.specs.String.{string_bytes}
 use Rattle.std.specs.Vec.Iter.{into_iter_items, into_iter_len, into_iter_steps}
 use Rattle.std.specs.declared.vec.IntoIter.{IntoIter}
-use Rattle.mdnsd.specs.Words.{words_of}
+use Rattle.std.specs.declared.io.Error.{Error}
+use Rattle.mdns_outside.specs.declared.plan.ServePlan.{ServePlan}
+use Rattle.mdns_words.specs.Options.{texts}
+use Rattle.mdnsd.specs.Words.{words_of, told, script_words, names_script, behind_serve, serve_plan, AreScript, AskFor, AreNoCommand, LackMemory}
 
 abbrev Words : Type 0
 Words = IntoIter (String Global) Global
@@ -15,13 +24,43 @@ nothing (word ∷ words) none = absurd (omega arith)
 ended : (words : Words) → into_iter_len words ≡ 0 → into_iter_items words ≡ []
 ended words none = nothing (into_iter_items words) (sym words.rest.ok.0 ∙ none)
 
--- one word stands behind the program's name, and no further one
-pub one_word : (a b c d : Words) (program : Option (String Global)) (word : String Global) → into_iter_steps a program b → into_iter_steps b (Some word) c → into_iter_steps c None d
-    → words_of a ≡ string_bytes word ∷ []
-one_word a b c d (Some program) word first second third =
-    ap (λ (l : List (String Global)). map (λ w. string_bytes w) (drop 1 l)) first.0 ∙ ap (λ (l : List (String Global)). map (λ w. string_bytes w) l) second.0
-    ∙ ap (λ (l : List (String Global)). string_bytes word ∷ map (λ w. string_bytes w) l) (ended c third.0)
-one_word a b c d None word first second third = let none : into_iter_items b ≡ [] = ended b first.1 in let some = second.0 in cc
+-- the words behind the program's name
+pub behind : (a b : Words) (program : Option (String Global)) → into_iter_steps a program b → words_of a ≡ texts (into_iter_items b)
+behind a b (Some program) first = ap (λ (l : List (String Global)). map (λ w. string_bytes w) (drop 1 l)) first.0
+behind a b None first = ap (λ (l : List (String Global)). map (λ w. string_bytes w) (drop 1 l)) (ended a first.0) ∙ ap (λ (l : List (String Global)). map (λ w. string_bytes w) l) (sym (ended b first.1))
 
-pub same_first : {x y : List ℕ} → x ∷ [] ≡ y ∷ [] → x ≡ y
+-- what is no command is none of the commands
+pub no_script : (args : Result Words Error) → AreNoCommand args → AreScript args → ⊥
+no_script (Ok args) none is = none.0 (let e : words_of args ≡ script_words = cc in e)
+no_script (Err error) none is = let e : None ≡ Some script_words = is in cc
+
+pub no_server : (args : Result Words Error) (plan : ServePlan) → AreNoCommand args → AskFor plan args → ⊥
+no_server (Ok args) plan none is = let e : None ≡ Some plan = sym none.1 ∙ is in cc
+no_server (Err error) plan none is = let e : None ≡ Some plan = is in cc
+
+pub no_lack : (args : Result Words Error) (words : List (List ℕ)) → told args ≡ Some words → LackMemory args → ⊥
+no_lack (Ok args) words is lacks = lacks
+no_lack (Err error) words is lacks = cc
+
+-- words that are none of the commands are no command
+pub no_command : (args : Result Words Error) (words : List (List ℕ)) → told args ≡ Some words → words ≢ script_words → serve_plan words ≡ None → AreNoCommand args
+no_command (Ok args) words is other none = let e : words_of args ≡ words = cc in (λ s. other (sym e ∙ s), ap serve_plan e ∙ none)
+no_command (Err error) words is other none = absurd (let e : None ≡ Some words = is in cc)
+
+-- words that are no command, behind `serve`, ask for nothing
+pub no_plan : (args : Result Words Error) (words behind : List (List ℕ)) → AreNoCommand args → told args ≡ Some words → behind_serve words ≡ Some behind → plan_of behind ≡ None
+no_plan (Ok args) words behind none is first = let e : words_of args ≡ words = cc in sym (ap (λ b. b >>= λ r. plan_of r) first) ∙ ap serve_plan (sym e) ∙ none.1
+no_plan (Err error) words behind none is first = absurd (let e : None ≡ Some words = is in cc)
+
+same_first : {x y : List ℕ} → x ∷ [] ≡ y ∷ [] → x ≡ y
 same_first e = cc
+
+pub script_named : (words : List (List ℕ)) → (names_script words ≡ true → words ≡ script_words) × (words ≡ script_words → names_script words ≡ true)
+script_named [] = (λ yes. cc, λ same. cc)
+script_named (word ∷ []) = let test = bytes_eq-Decides word (codes "script") in (λ yes. ap (λ (l : List ℕ). l ∷ []) (test.0 yes), λ same. test.1 (same_first same))
+script_named (word ∷ next ∷ words) = (λ yes. cc, λ same. cc)
+
+-- a sink that was given nothing holds a beginning of any line
+pub unput : (line : List ℕ) (old : Option (List ℕ)) → (n : ℕ) × Appends old old (take n line)
+unput line None = (0, tt)
+unput line (Some held) = (0, sym (append-nil held))

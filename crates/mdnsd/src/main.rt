@@ -1,6 +1,8 @@
-//! A Multicast DNS daemon. `mdnsd script` runs the script on standard input and prints its transcript.
+//! A Multicast DNS daemon. `mdnsd script` runs the script on standard input and prints its transcript; `mdnsd serve` serves clients.
 #![tactic(auto)]
 
+mod command;
+mod help;
 mod input;
 mod lines;
 mod notes;
@@ -8,29 +10,51 @@ mod outside;
 mod script;
 mod stop;
 mod top;
+mod why;
 
-use crate::notes::{USAGE_TEXT, note_on};
-use crate::outside::{Input, NoPlace, Output};
-use crate::stop::USAGE;
+use crate::help::help_for;
+use crate::outside::{Input, Output};
+use crate::stop::{DONE, WRITE_FAULT};
 use crate::top::mdnsd;
+use crate::why::why;
+use mdns_real::RealPlace;
+use std::alloc::AllocError;
 use std::process::ExitCode;
 use std::{env, io};
 
 fn main(rt: HostRuntime) -> ExitCode {
     let alloc = rt.alloc();
+    let words = match read_words(rt) {
+        Ok(words) => words,
+        Err(_) => Vec::new(alloc),
+    };
+    if let Some(text) = help_for(&words) {
+        let told = rt.println(text);
+        return ExitCode::from(if told.is_ok() { DONE } else { WRITE_FAULT });
+    }
     let mut input = Input::new(alloc, rt.reader());
     let mut output = Output::new(io::writer(&rt));
+    let mut place = RealPlace::new(rt, alloc);
     let args = env::args(&rt);
-    let status = mdnsd(&rt, alloc, args, &mut input, &mut output, &mut NoPlace);
-    if status == USAGE {
-        let _ = rt.eprintln(USAGE_TEXT);
-    }
-    if let Some(number) = output.stopped_at() {
-        if let Ok(note) = note_on(alloc, input.kept(), number) {
-            let _ = eprintln!(rt; "mdnsd: {note}");
-        }
+    let status = mdnsd(&rt, alloc, args, &mut input, &mut output, &mut place);
+    let stopped = output.stopped_at().map(|line| (input.kept(), line));
+    if status != DONE
+        && let Ok(why) = why(alloc, status, words.as_slice(), stopped, place.trouble())
+    {
+        let _ = eprintln!(rt; "mdnsd: {why}");
     }
     ExitCode::from(status)
+}
+
+// The words behind the program's own name; none where they can't be read.
+fn read_words(rt: HostRuntime) -> Result<Vec<String>, AllocError> {
+    let mut words = Vec::new(rt.alloc());
+    if let Ok(args) = env::args(&rt) {
+        for word in args.skip(1) {
+            words.push(word)?;
+        }
+    }
+    Ok(words)
 }
 
 #[cfg(test)]

@@ -4,8 +4,8 @@ use mdns_base::{cut_at, is_same};
 use mdns_script::{Line, read_line};
 use std::alloc::{AllocError, Global};
 
-/// What can be typed.
-pub const USAGE_TEXT: &str = "usage: mdnsd script < SCRIPT > TRANSCRIPT
+/// The lines of a script.
+pub const SCRIPT_HELP: &str = "usage: mdnsd script < SCRIPT > TRANSCRIPT
 
 Plays a script for one daemon, and prints what the daemon does. The lines of a script:
 

@@ -3,7 +3,7 @@ ghost use Rattle.std.specs.Prelude.{◌≡◌, ◌<◌, ◌≤◌, IfOk, length}
 ghost use Rattle.std.specs.Io.KnownBytes.{WriteAppends};
 ghost use Rattle.mdns_base.specs.Outside.{HasCause};
 
-use mdns_base::{Failed, Place, Sink, Source, cut_at, read_decimal};
+use mdns_base::{Failed, Sink, Source, cut_at, read_decimal};
 use std::alloc::Global;
 use std::io::{ErrorKind, Read, Write};
 
@@ -158,9 +158,3 @@ impl<W: Write> Sink for Output<W> {
 
     fn finish(&mut self) {}
 }
-
-/// A place from which nothing is asked so far.
-#[derive(Drop)]
-pub struct NoPlace;
-
-impl Place for NoPlace {}

@@ -29,6 +29,15 @@ pub const NOT_YET: u8 = 7;
 /// The input has more than 67,108,864 bytes.
 pub const TOO_LARGE: u8 = 8;
 
+/// The door of a server failed.
+pub const DOOR_FAULT: u8 = 9;
+
+/// A thread of a server couldn't be started.
+pub const SPAWN_FAULT: u8 = 10;
+
+/// The link of a server failed.
+pub const LINK_FAULT: u8 = 11;
+
 /// Why a script stopped before its end.
 #[derive(Clone, Copy, Debug, PartialEq, Eq)]
 pub enum Stop {

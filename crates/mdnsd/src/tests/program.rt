@@ -1,12 +1,12 @@
 // Statuses, limits and faults.
 ghost use Rattle.std.specs.Prelude.{None};
 
-use crate::outside::NoPlace;
 use crate::script::run_script;
 use crate::stop::NO_MEMORY;
 use crate::tests::{expect, status_of};
 use crate::top::mdnsd;
 use mdns_base::{Failed, MemSink, MemSource, Source};
+use mdns_real::RealPlace;
 use std::alloc::{AllocError, Global};
 use std::env::Args;
 use std::io;
@@ -96,7 +96,7 @@ fn prefixes_are_bad(rt: HostRuntime) -> Result<(), Fail> {
 }
 
 // The words behind the program's name, and the status of the empty script then.
-const WORDS: [(&[&str], u8); 8] = [
+const WORDS: [(&[&str], u8); 10] = [
     (&[], 2),
     (&["scripts"], 2),
     (&["Script"], 2),
@@ -105,6 +105,8 @@ const WORDS: [(&[&str], u8); 8] = [
     (&["", "script"], 2),
     (&["script", ""], 2),
     (&[""], 2),
+    (&["serve"], 2),
+    (&["serve", "--socket", "s"], 2),
 ];
 
 // The command line of these words, as it is read, and the status wanted.
@@ -132,7 +134,8 @@ fn words(rt: HostRuntime) -> Result<(), Fail> {
         let are_read = args.is_ok();
         let mut source = MemSource::new(Vec::new(alloc), Vec::new(alloc));
         let mut sink = MemSink::new(alloc, Vec::new(alloc));
-        let found = mdnsd(&rt, alloc, args, &mut source, &mut sink, &mut NoPlace);
+        let mut place = RealPlace::new(rt, alloc);
+        let found = mdnsd(&rt, alloc, args, &mut source, &mut sink, &mut place);
         if found == NO_MEMORY && are_read {
             Err(AllocError)?;
         }

@@ -1,0 +1,90 @@
+// Why the program failed, in words for a person. No clause speaks of it.
+use crate::help::HELP;
+use crate::notes::note_on;
+use crate::stop::{
+    BAD_LINE, DOOR_FAULT, LINK_FAULT, NO_MEMORY, NOT_YET, READ_FAULT, SPAWN_FAULT, TOO_LARGE,
+    USAGE, WRITE_FAULT,
+};
+use mdns_real::Trouble;
+use mdnsd_serve::say_wrong;
+use std::alloc::{AllocError, Global};
+use std::io;
+use std::io::ErrorKind;
+
+/// What is said of a status other than 0: with the words that were typed, the line of a script that stopped it, and what failed
+/// at the place.
+pub fn why(
+    alloc: Global,
+    status: u8,
+    words: &[String],
+    stopped: Option<(&[u8], u64)>,
+    trouble: Option<&Trouble>,
+) -> Result<String, AllocError> {
+    match status {
+        USAGE => wrong_words(alloc, words),
+        BAD_LINE | NOT_YET => match stopped {
+            Some((script, line)) => note_on(alloc, script, line),
+            None => String::from_str(alloc, "the script has a bad line"),
+        },
+        DOOR_FAULT | LINK_FAULT => failed_part(alloc, status, trouble),
+        _ => String::from_str(alloc, reason(status)),
+    }
+}
+
+// What is said of a status that needs no more.
+fn reason(status: u8) -> &'static str {
+    match status {
+        READ_FAULT => "standard input can't be read",
+        WRITE_FAULT => "standard output can't be written",
+        NO_MEMORY => "out of memory",
+        TOO_LARGE => "the script has more than 67108864 bytes",
+        SPAWN_FAULT => "serve: a thread couldn't be started",
+        _ => "failed",
+    }
+}
+
+// What is said of words that are no command.
+fn wrong_words(alloc: Global, words: &[String]) -> Result<String, AllocError> {
+    match words {
+        [command, behind @ ..] if command.as_str() == "serve" => {
+            let wrong = say_wrong(alloc, behind)?;
+            format!(in alloc; "serve: {wrong}")
+        }
+        [] => format!(in alloc; "a command is wanted\n{HELP}"),
+        [command, word, ..] if command.as_str() == "script" => {
+            format!(in alloc; "script takes no further word, not {word}\n{HELP}")
+        }
+        [command, ..] => format!(in alloc; "{command} is no command\n{HELP}"),
+    }
+}
+
+// What is said where the socket of the clients or the relay failed.
+fn failed_part(alloc: Global, status: u8, trouble: Option<&Trouble>) -> Result<String, AllocError> {
+    match trouble {
+        Some(Trouble::Socket { error }) => {
+            let why = cause(
+                alloc,
+                error,
+                "another daemon listens there, or it is no socket",
+            )?;
+            format!(in alloc; "serve: the socket of the clients: {why}")
+        }
+        Some(Trouble::Relay { error }) => {
+            let why = cause(alloc, error, "the port is in use")?;
+            format!(in alloc; "serve: the port of the relay: {why}")
+        }
+        None if status == DOOR_FAULT => {
+            String::from_str(alloc, "serve: the socket of the clients failed")
+        }
+        None => String::from_str(alloc, "serve: the relay failed"),
+    }
+}
+
+// Why a socket couldn't be had.
+fn cause(alloc: Global, error: &io::Error, in_use: &str) -> Result<String, AllocError> {
+    if error.kind() == ErrorKind::AddrInUse {
+        String::from_str(alloc, in_use)
+    } else {
+        format!(in alloc; "{error}")
+    }
+}

@@ -1,0 +1,33 @@
+#!/usr/bin/env python3
+"""Plays a host with a printer for daemons that serve: announces it, and takes it back when it is ended.
+
+    python3 examples/printer.py OWN_PORT DAEMON_PORT...
+
+OWN_PORT is one of the daemons' peers, the others are their relay ports.
+"""
+import os
+import sys
+import time
+
+sys.path.insert(0, os.path.join(os.path.dirname(os.path.abspath(__file__)), "..", "bench"))
+
+from end_to_end import announcement
+from frames import Peer
+
+
+def main():
+    own, *daemons = map(int, sys.argv[1:])
+    peer = Peer(own, daemons)
+    try:
+        for _ in range(2):
+            peer.send(announcement(4500))
+            time.sleep(1)
+        print("announced Office._ipp._tcp.local; Ctrl-C takes it back", flush=True)
+        while True:
+            time.sleep(3600)
+    except KeyboardInterrupt:
+        peer.send(announcement(0))
+
+
+if __name__ == "__main__":
+    main()
