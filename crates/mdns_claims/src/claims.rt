@@ -1,25 +1,24 @@
 // The claims of a daemon.
 ghost use Rattle.std.specs.Prelude.{IfOk, List, OnOk, [], filter, is_some, map, not, vec_capacity, vec_len, ℕ, ◌++◌, ◌+◌, ◌<◌, ◌^◌, ◌∷◌, ◌≡◌, ◌≤◌};
 ghost use Rattle.std.specs.List.{flat_map};
-ghost use Rattle.std.specs.Option.{option_map, option_map_or, option_to_list};
+ghost use Rattle.std.specs.Option.{option_map, option_to_list};
 ghost use Rattle.dns_name.specs.Lists.{least};
 ghost use Rattle.mdns_claims.specs.Behind.{contents_told, ends_by, host_kept, host_named, next_in, occasion_of, probes_told, storm_told, ticked_at};
 ghost use Rattle.mdns_claims.specs.Named.{AreNamed, with_renewals};
 ghost use Rattle.mdns_claims.specs.Owned.{of_name, own_in, registered_answers};
-ghost use Rattle.mdns_claims.specs.Planned.{FitsGroups, IsAcceptable, IsDone, IsFor, IsPlan, counted_by, ends_some, going_on, is_update, kept_by, means_of, renewal_told, room_of};
-ghost use Rattle.mdns_claims.specs.Seen.{means_in, occasion_in};
+ghost use Rattle.mdns_claims.specs.Planned.{FitsGroups, IsAcceptable, IsFor, IsPlan, counted_by, kept_by, room_of};
+ghost use Rattle.mdns_claims.specs.Seen.{means_in};
 ghost use Rattle.mdns_claims.specs.State.{Stands};
 ghost use Rattle.mdns_happened.specs.Told.{told_by};
 ghost use Rattle.mdns_history.specs.Fitting.{boot_entry};
 ghost use Rattle.mdns_history.specs.Probing.{is_conflict};
 ghost use Rattle.mdns_probe.specs.Answering.{code_by};
-ghost use Rattle.mdns_probe.specs.Claiming.{begun};
-ghost use Rattle.mdns_probe.specs.Kept.{disturbed_for};
 
 use crate::answers::registered_answer;
-use crate::begin::{begun, begun_claimant};
+use crate::begin::begun_claimant;
 use crate::claimant::Claimant;
 use crate::codes::{Before, call_code};
+use crate::deciding::deed;
 use crate::own::put_own;
 use crate::plan::{Deed, Plan};
 use crate::probes::probes;
@@ -233,91 +232,6 @@ fn count_after(registered: u64, deed: &Deed) -> u64
     match deed {
         Deed::Begins(_) => registered + 1,
         _ => registered,
-    }
-}
-
-// What is done to the groups by an event. Refused only for want of memory.
-fn deed(
-    alloc: Global,
-    seen: &Seen<'_>,
-    registered: u64,
-    groups: &[Claimant],
-) -> Result<Deed, AllocError>
-    requires call { IsAcceptable registered (told_by seen.now.happened.now).call }
-    requires marks { seen.now.marks.now ≡ disturbed_for (told_by seen.now.happened.now).heard groups.now }
-    ensures done { IfOk result (λ deed. IsDone (occasion_in seen.now) registered groups.now deed) }
-    ensures fits { IfOk result (λ deed. IsFor registered groups.now deed) }
-{
-    if is_tick(seen.happened) {
-        return Ok(Deed::Ticks);
-    }
-    if is_update(seen.happened) {
-        let update = changes(alloc, seen, groups)?;
-        return Ok(update);
-    }
-    if seen.marks.is_empty() {
-        if ends_some(seen.happened) {
-            return Ok(Deed::Ends);
-        }
-        let begun = begun(alloc, seen, registered, groups)?;
-        return Ok(beginning(begun));
-    }
-    let disturbed = changes(alloc, seen, groups)?;
-    Ok(disturbed)
-}
-
-// What becomes of the groups that an event touches, as it is done. Refused only for want of memory.
-fn changes(alloc: Global, seen: &Seen<'_>, groups: &[Claimant]) -> Result<Deed, AllocError>
-    ensures kept { IfOk result (λ deed. kept_by (means_of (occasion_in seen.now)) groups.now deed
-        ≡ going_on (told_by seen.now.happened.now) seen.now.marks.now (with_renewals (map (renewal_told (occasion_in seen.now)) groups.now) groups.now)) }
-    ensures counted { IfOk result (λ deed. (registered : ℕ) → counted_by registered deed ≡ registered) }
-    ensures fits { IfOk result (λ deed. (registered : ℕ) → IsFor registered groups.now deed) }
-{
-    let renewals = seen.renewals(alloc, groups)?;
-    Ok(Deed::Changes(renewals))
-}
-
-// A group that begins, if one does.
-fn beginning(begun: Option<Claimant>) -> Deed
-    ensures { result ≡ option_map_or Deed.Begins begun Deed.Nothing }
-{
-    match begun {
-        Some(one) => Deed::Begins(one),
-        None => Deed::Nothing,
-    }
-}
-
-fn is_tick(happened: &Happened<'_>) -> bool
-    ensures { result ≡ (told_by happened.now).ticks }
-{
-    matches!(happened, Happened::Ticked)
-}
-
-fn is_update(happened: &Happened<'_>) -> bool
-    ensures { result ≡ is_update (told_by happened.now).call }
-{
-    match happened {
-        Happened::Called {
-            request: Request::Update { .. },
-            code: 0,
-            ..
-        } => true,
-        _ => false,
-    }
-}
-
-// Whether operations end.
-fn ends_some(happened: &Happened<'_>) -> bool
-    ensures { result ≡ ends_some (told_by happened.now) }
-{
-    match happened {
-        Happened::Detached { .. } => true,
-        Happened::Called {
-            request: Request::Stop,
-            code: 0,
-            ..
-        } => true,
-        _ => false,
     }
 }
 

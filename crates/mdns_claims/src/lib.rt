@@ -7,6 +7,7 @@ mod begin;
 mod claimant;
 mod claims;
 mod codes;
+mod deciding;
 mod disturb;
 mod law;
 mod own;

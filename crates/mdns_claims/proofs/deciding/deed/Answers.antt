@@ -1,7 +1,7 @@
 use Rattle.std.proofs.Common.{◌∙◌, refl, sym, inl, inr}
 use Rattle.mdns_claims.specs.Seen.{occasion_in}
 use Rattle.mdns_claims.proofs.Deeds.{ticks_done, changes_done, ends_done, begins_done}
-use Rattle.mdns_claims.proofs.claims.deed.Goals as goal
+use Rattle.mdns_claims.proofs.deciding.deed.Goals as goal
 
 pub returns-then-is_tick-clause-done : goal.returns-then-is_tick-clause-done
 returns-then-is_tick-clause-done c =
