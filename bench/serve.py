@@ -33,29 +33,35 @@ def started(program, folder, name="a"):
     return daemon, Peer(other, [own])
 
 
-def settle(client, number):
-    """Waits until the daemon has done what it was sent: a call is answered only behind it."""
-    client.send(query(number, 1, "settled.local"))
-    while client.next()[:2] != ("reply", number):
-        pass
-    client.send(stop(number))
-    while client.next()[:3] != ("reply", number, 3):
-        pass
+class Marker:
+    """A question of a session whose answers come one by one, each behind the packets that were sent before it."""
+
+    def __init__(self, peer, client):
+        self.peer, self.client, self.sent = peer, client, 0
+        client.send(query(1, 1, "marker.local"))
+        client.expect("reply", 1, 1, 0)
+
+    def wait(self):
+        """Waits until the daemon has heard all that was sent so far. Of each address but the last nothing is kept."""
+        self.sent += 1
+        self.peer.send(message(packets([address(self.sent, "marker", flush=True)])[0]))
+        while self.client.next()[:3] != ("add", 1, "datum"):
+            pass
 
 
-def hold(peer, client, count):
+def hold(marker, count):
     """Lets the daemon hold so many records. The relay drops packets where too many wait, so they go in small groups."""
     for number, line in enumerate(packets([address(number) for number in range(count)])):
-        peer.send(message(line))
+        marker.peer.send(message(line))
         if number % 10 == 9:
-            settle(client, 9_000_000 + number)
-    settle(client, 9_999_999)
+            marker.wait()
+    marker.wait()
 
 
 def call_times(client, count):
     """Seconds from each call to its reply, with the stop of each between them."""
     times = []
-    for number in range(1, count + 1):
+    for number in range(1000, 1000 + count):
         begun = time.perf_counter()
         client.send(query(number, 1, "nothing.local"))
         client.expect("reply", number, 1, 0)
@@ -70,19 +76,17 @@ def told(times):
     return f"{statistics.median(times) * 1e6:,.0f} µs, 99 of 100 within {ordered[len(ordered) * 99 // 100] * 1e6:,.0f} µs"
 
 
-def heard_a_second(peer, clients):
-    """Packets that the daemon hears a second, each with one record, while each of the clients has a question."""
-    for client in clients:
-        client.send(browse(1, "_ipp._tcp"))
-        client.expect("reply", 1, 1, 0)
-    count, each = 10_000, 50
-    lines = [message(line) for line in packets([address(number % 1000) for number in range(count)], 1)]
+def heard_a_second(marker):
+    """Packets that the daemon hears a second, each with one record that is held, in groups of fifty."""
+    groups, each = 400, 50
+    lines = [message(line) for line in packets([address(number) for number in range(1000)], 1)]
     begun = time.perf_counter()
-    for first in range(0, count, each):
+    for number in range(groups):
+        first = number * each % len(lines)
         for line in lines[first:first + each]:
-            peer.send(line)
-        settle(clients[0], 10 + first)
-    return count / (time.perf_counter() - begun)
+            marker.peer.send(line)
+        marker.wait()
+    return groups * (each + 1) / (time.perf_counter() - begun)
 
 
 def flooded(peer, client):
@@ -112,16 +116,20 @@ def rows(program, idle):
             before = daemon.processor_seconds()
             time.sleep(idle)
             yield f"idle for {idle} s", f"{(daemon.processor_seconds() - before) * 1e3:.0f} ms of a processor", ""
-            clients = [Client(daemon.path) for _ in range(10)]
+            clients = [Client(daemon.path) for _ in range(9)]
             yield "call to reply, idle", told(call_times(clients[0], CALLS)), ""
-            hold(peer, clients[1], 1000)
+            for client in clients[1:]:
+                client.send(browse(1, "_ipp._tcp"))
+                client.expect("reply", 1, 1, 0)
+            marker = Marker(peer, Client(daemon.path))
+            hold(marker, 1000)
             yield "call to reply, 1,000 records held", told(call_times(clients[0], CALLS)), ""
-            yield "packets heard, 1,000 records, ten sessions", f"{heard_a_second(peer, clients):,.0f} a second", ""
+            yield "packets heard, 1,000 records, ten sessions", f"{heard_a_second(marker):,.0f} a second", ""
             yield "call to reply, flood of packets", told(flooded(peer, clients[0])), ""
-            hold(peer, clients[1], 30_000)
+            hold(marker, 30_000)
             yield "memory with 30,000 records held", f"{daemon.status('VmRSS'):,} kB, {daemon.status('Threads')} threads", ""
             yield "call to reply, 30,000 records held", told(call_times(clients[0], CALLS)), ""
-            for client in clients:
+            for client in clients + [marker.client]:
                 client.close()
         finally:
             daemon.end()
