@@ -106,20 +106,23 @@ fn a_moment_is_the_greatest_that_was_told(rt: HostRuntime) -> Result<(), Fail> {
     Ok(())
 }
 
-// A clock that stands still, and whose nap closes the bell.
+// A clock that tells a moment three times, for the first tick and what follows it, and then closes the bell.
 #[derive(Drop)]
 struct LastClock<'a> {
     bell: &'a Bell,
+    told: u64,
 }
 
 impl<'a> Clock for LastClock<'a> {
     fn now(&mut self) -> u64 {
+        self.told = self.told.saturating_add(1);
+        if self.told > 2 {
+            self.bell.close();
+        }
         1000
     }
 
-    fn nap(&mut self) {
-        self.bell.close();
-    }
+    fn nap(&mut self) {}
 }
 
 #[test]
@@ -138,7 +141,10 @@ fn the_ticker_asks_what_is_due(rt: HostRuntime) -> Result<(), Fail> {
     };
     turn.turn(&rt, &mut seat, Step::new(0, 0, call, &bell));
     let mut air = MemAir::new(alloc, Vec::from_slice(alloc, &[1])?);
-    let mut clock = LastClock { bell: &bell };
+    let mut clock = LastClock {
+        bell: &bell,
+        told: 0,
+    };
     tick_loop(
         &rt,
         alloc,
