@@ -21,8 +21,8 @@ from tools import TOP
 TYPE, INSTANCE, HOST = "_ipp._tcp.local", "Office._ipp._tcp.local", "office.local"
 A, PTR, TXT, SRV = 1, 12, 16, 33
 FOUND = f"found {INSTANCE}."
-RESOLVED = f"resolved 0 0 631 {HOST}. a=1"
-ADDRESS = "datum A 10.0.0.9"
+RESOLVED = f"resolved 0 0 631 {HOST}. 03613d31"
+ADDRESS = "A 10.0.0.9"
 
 
 def record(owner, kind, data, ttl, flush=True):
@@ -132,7 +132,7 @@ def tools(dns_sd, daemons, peer):
     for words, line in commands:
         expect_printed(tool(dns_sd, daemons[0], "-count", "1", *words), words, f"Add {line}\n", 0)
     words = ["-R", "Hall", "_ipp._tcp", "local", "631", "a=1"]
-    expect_printed(tool(dns_sd, daemons[0], *words), words, "refused -65537\n", 3)
+    expect_printed(tool(dns_sd, daemons[0], *words), words, "refused -65544\n", 3)
     print("dns-sd prints what comes and what is there, and that a name is refused")
 
 
