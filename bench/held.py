@@ -175,6 +175,15 @@ def ticks(program):
         yield f"a tick that asks one question, {count:,} records held", f"{value:,.0f} instructions", "at most 30,000"
 
 
+def known_answers(program):
+    """A tick that asks one question again, whose answers so far are listed in the query."""
+    for count in (100, 400):
+        held = asking("many") + ["at 100"] + packets([address(number, "many") for number in range(count)])
+        value = cost(program, held, ["at 1020"])
+        wanted = "at most 1,200,000" if count == 400 else ""
+        yield f"a tick that asks one question with {count} known answers", f"{value:,.0f} instructions", wanted
+
+
 def short(number):
     """An A record whose owner is one byte: 512 of them fit a packet."""
     return record(bytes([1, 97 + number % 26, 0]), A, struct.pack(">I", number))
@@ -203,7 +212,7 @@ def rows(program=None):
     if program is None:
         subprocess.run([os.path.join(TOP, "mdnsd"), "script"], stdin=subprocess.DEVNULL, check=True)
         program = os.path.join(TOP, "crates", "mdnsd", "out", "mdnsd")
-    for part in (known, many_of_one_name, hostile, collisions, ticks, full_table, memory):
+    for part in (known, many_of_one_name, hostile, collisions, ticks, known_answers, full_table, memory):
         yield from part(program)
 
 
