@@ -16,3 +16,7 @@ pub mod Booted
 pub mod Renewed
 pub mod Wished
 pub mod Carried
+pub mod Ticked
+pub mod Made
+pub mod Changed
+pub mod Ahead

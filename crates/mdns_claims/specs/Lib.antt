@@ -6,4 +6,5 @@ pub mod Named
 pub mod Wishes
 pub mod Planned
 pub mod Seen
+pub mod Later
 pub mod Laws

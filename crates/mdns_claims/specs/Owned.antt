@@ -1,5 +1,5 @@
 -- Own records by name, and the answers of registrations, read off the groups that are kept.
-use Rattle.std.specs.Prelude.{ℕ, Bool, List, ◌∷◌, [], ◌++◌, map, filter, if◌then◌else◌}
+use Rattle.std.specs.Prelude.{◌≡◌, ℕ, Bool, true, List, ◌∷◌, [], ◌++◌, map, filter, if◌then◌else◌}
 use Rattle.std.specs.List.{list_any}
 use Rattle.std.specs.Option.{option_map_or}
 use Rattle.dns_name.specs.Names.{folded_eq}
@@ -26,6 +26,10 @@ registered_answers session op kept = option_map_or (λ one. named_if one.claim.s
 -- whether a name is one of several, case aside
 abbrev pub is_among : List (List (List ℕ)) → List (List ℕ) → Bool
 is_among names name = list_any (folded_eq name) names
+
+-- the names that are among some are among others, case aside
+abbrev pub AreWithin : List (List (List ℕ)) → List (List (List ℕ)) → Type 0
+AreWithin some others = (name : List (List ℕ)) → is_among some name ≡ true → is_among others name ≡ true
 
 -- the records of a claim that have a name, if it is sure
 abbrev pub claimed_of : List (List ℕ) → Bool → Claim → List Rr

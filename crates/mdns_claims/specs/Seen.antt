@@ -1,7 +1,7 @@
 -- An event as groups see it, in code.
 use Rattle.mdns_happened.specs.Told.{told_by}
 use Rattle.mdns_claims.specs.declared.renew.Seen.{Seen}
-use Rattle.mdns_claims.specs.declared.claims.Means.{Means}
+use Rattle.mdns_claims.specs.declared.doing.Means.{Means}
 use Rattle.mdns_claims.specs.Planned as planned
 use Rattle.mdns_claims.specs.Behind.{Occasion}
 

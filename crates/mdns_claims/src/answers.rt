@@ -1,12 +1,12 @@
 // The answers of registrations. (RFC 6763 4)
-ghost use Rattle.std.specs.Prelude.{◌≡◌};
-ghost use Rattle.std.specs.Option.{option_to_list};
+ghost use Rattle.std.specs.Prelude.{◌&&◌, ◌==◌, ◌≡◌};
+ghost use Rattle.std.specs.Option.{option_copied, option_to_list};
 ghost use Rattle.mdns_claims.specs.Owned.{registered_answers};
 ghost use Rattle.mdns_history.specs.Answers.{named_if};
+ghost use Rattle.mdns_probe.specs.Answering.{registered_by};
 ghost use Rattle.mdns_probe.specs.Kept.{name_of};
 
 use crate::claimant::Claimant;
-use crate::codes::group_of;
 use sd_call::Answer;
 
 /// What a registration knows of its group: its name once that is sure, and a conflict where there is no group any more.
@@ -19,8 +19,22 @@ pub fn registered_answer(groups: &[Claimant], session: u64, op: u32) -> Option<A
     }
 }
 
-// The name of a group, if it is sure.
-fn named_if(one: &Claimant) -> Option<Answer>
+/// The group of an operation, where it is live.
+pub fn group_of(groups: &[Claimant], session: u64, op: u32) -> Option<&Claimant>
+    ensures { option_copied result ≡ registered_by session op groups.now }
+{
+    groups.iter().find(|one| is_of(one, session, op))
+}
+
+/// Whether a group is that of an operation.
+pub fn is_of(one: &Claimant, session: u64, op: u32) -> bool
+    ensures { result ≡ ((one.now.group.session == session) && (one.now.group.op == op)) }
+{
+    one.naming().session() == session && one.naming().op() == op
+}
+
+/// The name of a group, if it is sure.
+pub fn named_if(one: &Claimant) -> Option<Answer>
     ensures { option_to_list result ≡ named_if one.now.claim.sure (name_of one.now) }
 {
     if one.claim().sure {

@@ -1,41 +1,46 @@
 // The claims of a daemon.
-ghost use Rattle.std.specs.Prelude.{IfOk, List, OnOk, [], filter, is_some, map, not, vec_capacity, vec_len, ℕ, ◌++◌, ◌+◌, ◌<◌, ◌^◌, ◌∷◌, ◌≡◌, ◌≤◌};
+ghost use Rattle.std.specs.Prelude.{IfOk, IsTrue, List, OnOk, [], is_some, nat_le, ℕ, ◌++◌, ◌<◌, ◌^◌, ◌∷◌, ◌≡◌, ◌≤◌};
 ghost use Rattle.std.specs.List.{flat_map};
 ghost use Rattle.std.specs.Option.{option_map, option_to_list};
 ghost use Rattle.dns_name.specs.Lists.{least};
-ghost use Rattle.mdns_claims.specs.Behind.{contents_told, ends_by, host_kept, host_named, next_in, occasion_of, probes_told, storm_told, ticked_at};
-ghost use Rattle.mdns_claims.specs.Named.{AreNamed, with_renewals};
+ghost use Rattle.mdns_claims.specs.Behind.{contents_told, host_kept, host_named, kept_told, next_in, occasion_of, probes_told, storm_told};
+ghost use Rattle.mdns_claims.specs.Later.{groups_behind};
 ghost use Rattle.mdns_claims.specs.Owned.{of_name, own_in, registered_answers};
-ghost use Rattle.mdns_claims.specs.Planned.{FitsGroups, IsAcceptable, IsFor, IsPlan, counted_by, kept_by, room_of};
-ghost use Rattle.mdns_claims.specs.Seen.{means_in};
+ghost use Rattle.mdns_claims.specs.Planned.{IsAcceptable, IsFor, IsPlan, counted_by, kept_by, room_of};
 ghost use Rattle.mdns_claims.specs.State.{Stands};
 ghost use Rattle.mdns_happened.specs.Told.{told_by};
 ghost use Rattle.mdns_history.specs.Fitting.{boot_entry};
 ghost use Rattle.mdns_history.specs.Probing.{is_conflict};
-ghost use Rattle.mdns_probe.specs.Answering.{code_by};
+ghost use Rattle.mdns_history.specs.Outcomes.{most_over_life};
+ghost use Rattle.mdns_probe.specs.Answering.{is_held_name, registered_by};
+ghost use Rattle.sd_call.specs.Requests.{well_formed};
 
-use crate::answers::registered_answer;
+use crate::answers::{group_of, registered_answer};
 use crate::begin::begun_claimant;
+use crate::behind::Behind;
 use crate::claimant::Claimant;
-use crate::codes::{Before, call_code};
 use crate::deciding::deed;
+use crate::doing::Means;
+use crate::held::is_held_name;
 use crate::own::put_own;
 use crate::plan::{Deed, Plan};
 use crate::probes::probes;
-use crate::renew::{Seen, ends, number_after};
-use crate::renewal::Renewal;
+use crate::renew::{Seen, number_after};
 use crate::turns::claim_marks;
 use bytes::Bytes;
 use dns_message::Rrs;
 use dns_name::{Label, Name};
 use mdns_conflict::Storm;
 use mdns_happened::{Happened, When};
-use mdns_history::{Config, HostConfig, Mark, Operation, Sends};
+use mdns_history::{Config, HostConfig, Mark, Sends};
 use mdns_probe::{Naming, Published};
 use sd_call::{Answer, Request};
 use sd_service::host_name;
 use std::alloc::{AllocError, Global};
 use std::marker::Model;
+
+/// The most registrations of a daemon over its life.
+const MOST_OVER_LIFE: u64 = 1 << 63;
 
 /// What a daemon claims: the names of its host and of registrations, each with its probes; how many registrations were accepted; and
 /// the conflicts of the last time. Moments are in ms. (RFC 6762 8 and 9)
@@ -93,20 +98,6 @@ impl Claims {
         first_due(&self.groups, self.announces)
     }
 
-    /// The code of a session's call, where these are its operations: 0, or that of the first fault. The codes are those of
-    /// `dns_sd.h`.
-    pub fn code(&self, session: u64, op: u32, request: &Request, operations: &[Operation]) -> i32
-        ensures { result ≡ code_by (is_some self.now.contents.config.host) self.now.contents.registered self.now.contents.kept operations.now session op request.now }
-    {
-        let before = Before {
-            hosted: self.config.host.is_some(),
-            registered: self.registered,
-            groups: &self.groups,
-            operations,
-        };
-        call_code(&before, session, op, request)
-    }
-
     /// The answer of a registration: its name once that is sure, and a conflict where its group failed.
     pub fn answer(&self, session: u64, op: u32) -> Option<Answer>
         ensures { option_to_list result ≡ registered_answers session op self.now.contents.kept }
@@ -127,6 +118,35 @@ impl Claims {
         ensures { IfOk result (λ sent. sent ≡ probes_told (told_by happened.now).ticks self.now.contents.kept when.moment) }
     {
         probes(self.alloc, &self.groups, when, happened)
+    }
+
+    /// Whether there is a host.
+    pub fn hosted(&self) -> bool
+        ensures { result ≡ is_some self.now.contents.config.host }
+    {
+        self.config.host.is_some()
+    }
+
+    /// Whether no registration can be accepted any more, since there were so many over the daemon's life.
+    pub fn spent(&self) -> bool
+        ensures { result ≡ nat_le most_over_life self.now.contents.registered }
+    {
+        self.registered >= MOST_OVER_LIFE
+    }
+
+    /// Whether a registration has a group: it hasn't failed.
+    pub fn is_live(&self, session: u64, op: u32) -> bool
+        ensures { result ≡ is_some (registered_by session op self.now.contents.kept) }
+    {
+        group_of(&self.groups, session, op).is_some()
+    }
+
+    /// Whether a registration is asked for that is to keep its name, and a group has that name. (RFC 6763 D)
+    pub fn is_held_name(&self, request: &Request) -> bool
+        requires { IsTrue (well_formed request.now) }
+        ensures { result ≡ is_held_name request.now self.now.contents.kept }
+    {
+        is_held_name(&self.groups, request)
     }
 
     /// What an event makes of claims. Nothing is changed. Refused only for want of memory.
@@ -154,6 +174,29 @@ impl Claims {
             storm,
             deed,
         })
+    }
+
+    /// What a plan of an event leads to, read before it is carried out.
+    pub fn behind<'a>(
+        &'a self,
+        when: When,
+        happened: &'a Happened<'a>,
+        plan: &'a Plan,
+    ) -> Behind<'a>
+        ensures before { result.groups.now ≡ self.now.contents.kept }
+        ensures behind { groups_behind result ≡ kept_by (record { moment = when.moment; announces = self.now.contents.announces; told = told_by happened.now; marks = plan.now.marks }) self.now.contents.kept plan.now.deed }
+        ensures told { (word : ℕ) → let at = occasion_of self.now.contents (told_by happened.now) when.moment word in IsPlan self.now.contents at plan.now → groups_behind result ≡ kept_told self.now.contents at }
+    {
+        Behind {
+            groups: &self.groups,
+            means: Means {
+                moment: when.moment,
+                announces: self.announces,
+                happened,
+                marks: plan.marks.as_slice(),
+            },
+            deed: &plan.deed,
+        }
     }
 
     /// Takes the room that a plan needs. Nothing else changes. Refused only for want of memory.
@@ -189,38 +232,6 @@ impl Claims {
         self.storm = storm;
         self.registered = count_after(self.registered, &deed);
         means.carry_out(&mut self.groups, deed);
-    }
-}
-
-// What a deed is done with: when, whether there are announcements, what happened, and the marks that it gives to claims.
-#[derive(Drop)]
-struct Means<'a> {
-    moment: u64,
-    announces: bool,
-    happened: &'a Happened<'a>,
-    marks: &'a [Mark],
-}
-
-impl Means<'_> {
-    // Does a deed. It takes no memory.
-    fn carry_out(&self, groups: &mut Vec<Claimant>, deed: Deed)
-        requires bound { self.now.moment ≤ 2 ^ 53 }
-        requires room { vec_len groups.old + room_of deed ≤ vec_capacity groups.old }
-        requires fits { FitsGroups groups.old.items deed }
-        ensures { groups.new.items ≡ kept_by (means_in self.now) groups.old.items deed }
-    {
-        match deed {
-            Deed::Nothing => {}
-            Deed::Ticks => tick_all(groups, self.moment, self.announces),
-            Deed::Begins(one) => {
-                let _ = groups.push(one);
-            }
-            Deed::Ends => end(groups, self.happened, self.marks),
-            Deed::Changes(renewals) => {
-                renew_all(groups, renewals);
-                end(groups, self.happened, self.marks);
-            }
-        }
     }
 }
 
@@ -344,30 +355,4 @@ fn earlier(one: Option<u64>, other: Option<u64>) -> Option<u64>
         (Some(one), None) => Some(one),
         (None, other) => other,
     }
-}
-
-fn tick_all(groups: &mut [Claimant], now: u64, announces: bool)
-    requires { now ≤ 2 ^ 53 }
-    ensures { groups.new ≡ map (ticked_at now announces) groups.old }
-{
-    for one in groups.iter_mut() {
-        one.tick(now, announces);
-    }
-}
-
-// Gives groups other numbers and records, each in its place.
-fn renew_all(groups: &mut [Claimant], mut renewals: Vec<Option<Renewal>>)
-    requires { AreNamed renewals.items groups.old }
-    ensures { groups.new ≡ with_renewals renewals.items groups.old }
-{
-    while let Some(renewal) = renewals.pop() {
-        groups[renewals.len()].renew(renewal);
-    }
-}
-
-// Takes out the groups that end.
-fn end(groups: &mut Vec<Claimant>, happened: &Happened<'_>, marks: &[Mark])
-    ensures { groups.new.items ≡ filter (λ one. not (ends_by (told_by happened.now) marks.now one.group)) groups.old.items }
-{
-    groups.retain(|one| !ends(happened, marks, one.naming()));
 }

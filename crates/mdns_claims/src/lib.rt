@@ -4,12 +4,16 @@
 
 mod answers;
 mod begin;
+mod behind;
 mod claimant;
 mod claims;
-mod codes;
 mod deciding;
 mod disturb;
+mod doing;
+mod held;
+mod later;
 mod law;
+mod names;
 mod own;
 mod plan;
 mod probes;
@@ -17,6 +21,7 @@ mod renew;
 mod renewal;
 mod turns;
 
+pub use behind::Behind;
 pub use claims::Claims;
 pub use law::claims_follow_the_history;
 pub use plan::{Deed, Plan};

@@ -1,7 +1,7 @@
 use Rattle.std.proofs.Common.{◌∙◌, sym, ap, set}
 use Rattle.std.proofs.lemmas.List.Edits.{map_over_more}
 use Rattle.mdns_claims.specs.Behind.{ticked_at}
-use Rattle.mdns_claims.proofs.claims.tick_all.Goals as goal
+use Rattle.mdns_claims.proofs.doing.tick_all.Goals as goal
 
 pub loop-one-preserved : goal.loop-one-preserved
 loop-one-preserved c =

@@ -1,7 +1,7 @@
 use Rattle.std.proofs.Common.{◌∙◌, ◌≤◌, length, refl, arith}
 use Rattle.std.proofs.lemmas.List.{length-set}
 use Rattle.mdns_claims.proofs.Loops.{last_named, last_leaves, named_within}
-use Rattle.mdns_claims.proofs.claims.renew_all.Goals as goal
+use Rattle.mdns_claims.proofs.doing.renew_all.Goals as goal
 
 pub loop-renewal-init : goal.loop-renewal-init
 loop-renewal-init c =

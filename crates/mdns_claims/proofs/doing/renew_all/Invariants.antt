@@ -1,6 +1,6 @@
 use Rattle.std.proofs.Common.{◌≡◌, ◌≤◌, length, vec_len}
 use Rattle.mdns_claims.specs.Named.{with_renewals, AreNamed}
-use Rattle.mdns_claims.proofs.claims.renew_all.Given as goal
+use Rattle.mdns_claims.proofs.doing.renew_all.Given as goal
 
 abbrev pub invariant-loop-renewal : goal.invariant-loop-renewal
 invariant-loop-renewal l = record {

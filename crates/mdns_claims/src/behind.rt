@@ -1,0 +1,174 @@
+// What a plan of claims leads to, read before it is carried out.
+ghost use Rattle.std.specs.Prelude.{IfOk, List, OnOk, [], false, ℕ, ◌++◌, ◌≡◌};
+ghost use Rattle.std.specs.Option.{option_map, option_map_or, option_to_list};
+ghost use Rattle.mdns_claims.specs.Later.{begun_by, groups_behind, later_from, later_of, shown_of, shown_own};
+ghost use Rattle.mdns_claims.specs.Owned.{AreWithin, is_among, of_name, own_in, registered_answers};
+ghost use Rattle.mdns_claims.specs.Seen.{means_in};
+ghost use Rattle.mdns_probe.specs.Kept.{Kept};
+ghost use Rattle.mdns_happened.specs.Registrations.{AreRegistered, IsRegistered, is_told};
+
+use crate::answers::{is_of, named_if, registered_answer};
+use crate::claimant::Claimant;
+use crate::doing::Means;
+use crate::later::{begun, is_still};
+use crate::names::put_claim_names;
+use crate::own::put_claimed;
+use crate::plan::Deed;
+use dns_message::Rrs;
+use dns_name::Name;
+use mdns_happened::Registered;
+use mdns_probe::Naming;
+use sd_call::Answer;
+use std::alloc::{AllocError, Global};
+
+/// What a plan of claims leads to, read without changing anything. (RFC 6762 8 and 9)
+#[derive(Drop)]
+pub struct Behind<'a> {
+    pub groups: &'a [Claimant],
+    pub means: Means<'a>,
+    pub deed: &'a Deed,
+}
+
+impl Behind<'_> {
+    /// Puts the names behind others of which own records come or go, each once, case aside. Refused only for want of memory.
+    pub fn put_names(&self, names: &mut Vec<Name>) -> Result<(), AllocError>
+        ensures kept { OnOk result (AreWithin names.old.items names.new.items) }
+        ensures changed { OnOk result ((name : List (List ℕ)) → is_among names.new.items name ≡ false → of_name name (own_in (groups_behind self.now)) ≡ of_name name (own_in self.now.groups.now)) }
+    {
+        self.put_touched_names(names)?;
+        if let Some(one) = begun(self.deed) {
+            put_claim_names(names, one.claim(), one.claim().sure)?;
+        }
+        Ok(())
+    }
+
+    /// Puts the own records of a name, as they are behind the plan, behind others. Refused only for want of memory.
+    pub fn put_own(&self, rrs: &mut Rrs, name: &Name) -> Result<(), AllocError>
+        ensures { OnOk result (rrs.new ≡ rrs.old ++ of_name name.now (own_in (groups_behind self.now))) }
+    {
+        self.put_later(rrs, name)?;
+        if let Some(one) = begun(self.deed) {
+            put_claimed(rrs, one.claim(), one.claim().sure, name)?;
+        }
+        Ok(())
+    }
+
+    /// The registrations whose answers change with the plan, each with the answer before it and behind it. One that begins had a
+    /// conflict by this, as one that isn't there, and so has one that ends. Refused only for want of memory. (RFC 6763 4)
+    pub fn registered(&self, alloc: Global) -> Result<Vec<Registered>, AllocError>
+        ensures are { IfOk result (λ lines. AreRegistered (λ session op. registered_answers session op self.now.groups.now) (λ session op. registered_answers session op (groups_behind self.now)) lines.items) }
+        ensures rest { IfOk result (λ lines. (session op : ℕ) → is_told lines.items session op ≡ false → registered_answers session op (groups_behind self.now) ≡ registered_answers session op self.now.groups.now) }
+    {
+        let mut lines = self.touched_lines(alloc)?;
+        if let Some(one) = begun(self.deed) {
+            lines.push(self.line(one.naming()))?;
+        }
+        Ok(lines)
+    }
+
+    // Puts the names of own records that come or go with groups that are there.
+    fn put_touched_names(&self, names: &mut Vec<Name>) -> Result<(), AllocError>
+        ensures kept { OnOk result (AreWithin names.old.items names.new.items) }
+        ensures changed { OnOk result ((name : List (List ℕ)) → is_among names.new.items name ≡ false → of_name name (own_in (later_from (means_in self.now.means) self.now.deed.now 0 self.now.groups.now)) ≡ of_name name (own_in self.now.groups.now)) }
+    {
+        if is_still(self.deed) {
+            return Ok(());
+        }
+        let groups = self.groups;
+        for (place, one) in groups.iter().enumerate() {
+            self.put_group_names(names, place, one)?;
+        }
+        Ok(())
+    }
+
+    // Puts the names of own records that come or go with a group.
+    fn put_group_names(
+        &self,
+        names: &mut Vec<Name>,
+        place: usize,
+        one: &Claimant,
+    ) -> Result<(), AllocError>
+        ensures kept { OnOk result (AreWithin names.old.items names.new.items) }
+        ensures changed { OnOk result ((name : List (List ℕ)) → is_among names.new.items name ≡ false → option_map_or (shown_own name) (option_map shown_of (later_of (means_in self.now.means) self.now.deed.now place one.now)) [] ≡ shown_own name (shown_of one.now)) }
+    {
+        if self.means.touches(self.deed, place, one) {
+            put_claim_names(names, one.claim(), one.claim().sure)?;
+            if let Some(later) = self.means.later(self.deed, place, one) {
+                put_claim_names(names, later.claim, later.sure)?;
+            }
+        }
+        Ok(())
+    }
+
+    // Puts the own records of a name that the groups that are there have behind the plan.
+    fn put_later(&self, rrs: &mut Rrs, name: &Name) -> Result<(), AllocError>
+        ensures { OnOk result (rrs.new ≡ rrs.old ++ of_name name.now (own_in (later_from (means_in self.now.means) self.now.deed.now 0 self.now.groups.now))) }
+    {
+        let groups = self.groups;
+        for (place, one) in groups.iter().enumerate() {
+            if let Some(later) = self.means.later(self.deed, place, one) {
+                put_claimed(rrs, later.claim, later.sure, name)?;
+            }
+        }
+        Ok(())
+    }
+
+    // What is told of the registrations of the groups that are there and touched.
+    fn touched_lines(&self, alloc: Global) -> Result<Vec<Registered>, AllocError>
+        ensures are { IfOk result (λ lines. AreRegistered (λ session op. registered_answers session op self.now.groups.now) (λ session op. registered_answers session op (groups_behind self.now)) lines.items) }
+        ensures rest { IfOk result (λ lines. (session op : ℕ) → is_told lines.items session op ≡ false → (new : List Kept) → registered_answers session op new ≡ registered_answers session op [] → registered_answers session op (later_from (means_in self.now.means) self.now.deed.now 0 self.now.groups.now ++ new) ≡ registered_answers session op self.now.groups.now) }
+    {
+        let mut lines = Vec::new(alloc);
+        if is_still(self.deed) {
+            return Ok(lines);
+        }
+        let groups = self.groups;
+        for (place, one) in groups.iter().enumerate() {
+            if self.means.touches(self.deed, place, one) {
+                lines.push(self.line(one.naming()))?;
+            }
+        }
+        Ok(lines)
+    }
+
+    // What is told of a registration.
+    fn line(&self, naming: &Naming) -> Registered
+        ensures session { result.session ≡ naming.now.session }
+        ensures op { result.op ≡ naming.now.op }
+        ensures is { IsRegistered (λ session op. registered_answers session op self.now.groups.now) (λ session op. registered_answers session op (groups_behind self.now)) result }
+    {
+        let session = naming.session();
+        let op = naming.op();
+        Registered {
+            session,
+            op,
+            had: registered_answer(self.groups, session, op),
+            has: self.later_answer(session, op),
+        }
+    }
+
+    // The answer of a registration behind the plan.
+    fn later_answer(&self, session: u64, op: u32) -> Option<Answer>
+        ensures { option_to_list result ≡ registered_answers session op (groups_behind self.now) }
+    {
+        let groups = self.groups;
+        for (place, one) in groups.iter().enumerate() {
+            if is_of(one, session, op) {
+                if let Some(later) = self.means.later(self.deed, place, one) {
+                    return later.answer();
+                }
+            }
+        }
+        begun_answer(self.deed, session, op)
+    }
+}
+
+// The answer of a registration among the group that a deed begins.
+fn begun_answer(deed: &Deed, session: u64, op: u32) -> Option<Answer>
+    ensures { option_to_list result ≡ registered_answers session op (option_to_list (begun_by deed.now)) }
+{
+    match begun(deed) {
+        Some(one) if is_of(one, session, op) => named_if(one),
+        _ => Some(Answer::Conflict),
+    }
+}
