@@ -1,7 +1,6 @@
 pub mod OfNames
 pub mod EachTold
 pub mod Gaps
-pub mod KnownBy
 pub mod Heards
 pub mod WalksTell
 pub mod PutNames

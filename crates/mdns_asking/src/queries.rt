@@ -11,7 +11,7 @@ use dns_record::Key;
 use mdns_base::Dest;
 use mdns_happened::{Happened, Walk, When};
 use mdns_history::{Cause, Sends, Sent};
-use mdns_known::{known_answers, put_all_new};
+use mdns_known::{in_order, known_answers};
 use mdns_pack::{Messages, pack_query};
 use std::alloc::{AllocError, Global};
 
@@ -58,6 +58,7 @@ fn queries_for(alloc: Global, when: When, walks: &[Walk], keys: &[Key]) -> Resul
 }
 
 // The known answers of questions, each once and in record order: those of each question are over the later records of its name.
+#[tactic(auto, unfolding(crate::specs::ByWalks::known_by))]
 fn all_known(alloc: Global, when: When, walks: &[Walk], keys: &[Key]) -> Result<Rrs, AllocError>
     requires { AreHeard when.moment walks.now }
     ensures { IfOk result (λ known. known ≡ known_by keys.now walks.now when.moment) }
@@ -65,9 +66,10 @@ fn all_known(alloc: Global, when: When, walks: &[Walk], keys: &[Key]) -> Result<
     let mut all = Vec::new(alloc);
     for key in keys {
         let held = later_of(&key.name, walks);
-        put_all_new(&mut all, known_answers(alloc, key, held, when.moment)?)?;
+        let mut known = known_answers(alloc, key, held, when.moment)?.into_vec();
+        all.append(&mut known)?;
     }
-    Ok(Rrs::from_vec(all))
+    in_order(all)
 }
 
 // Messages as they are sent to all.

@@ -1,3 +1,4 @@
-pub mod Places
+pub mod Sorting
+pub mod Fits
 pub mod Live
 pub mod Union

@@ -24,7 +24,7 @@ use Rattle.mdns_history.specs.Asking.{is_half_fresh, listed, fits_alone, fresh_m
 use Rattle.mdns_known.specs.Known.{is_listed, known_of, stand_once}
 use Rattle.mdns_known.specs.Laws.{IsOfLiveRecords, IsOrderFree}
 use Rattle.mdns_base.proofs.Permutations.{along_permutation}
-use Rattle.dns_name.proofs.InOrder.{none-filter, tied-turned, insert-swapped, put_behind, sorted-push}
+use Rattle.dns_name.proofs.InOrder.{none-filter, tied-turned, insert-swapped}
 
 -- ---- sameness and record order
 
@@ -258,63 +258,46 @@ of_live_records question history moment held moved =
 
 -- ---- one more held record behind the others
 
-known_of-push : (question : Key) (moment : ℕ) (before : List Held) (one : Held) →
-    known_of question (before ++ one ∷ []) moment ≡ cond (is_listed question moment one) (put_behind record_cmp record_cmp_total (listed moment one) (known_of question before moment)) (known_of question before moment)
-unfolding known_of
-known_of-push question moment before one =
-    ap (λ (l : List Held). sorted_by record_cmp (map (listed moment) l)) (filter-append (is_listed question moment) before (one ∷ [])) ∙ at (is_listed question moment one)
+-- how so many of the held records are listed, those that are
+abbrev pub listed_up_to : Key → List Held → ℕ → ℕ → List Rr
+listed_up_to question held moment n = map (listed moment) (filter (is_listed question moment) (take n held))
+
+listed-push : (question : Key) (moment : ℕ) (before : List Held) (one : Held) →
+    map (listed moment) (filter (is_listed question moment) (before ++ one ∷ []))
+    ≡ map (listed moment) (filter (is_listed question moment) before) ++ cond (is_listed question moment one) (listed moment one ∷ []) []
+listed-push question moment before one =
+    ap (map (listed moment)) (filter-append (is_listed question moment) before (one ∷ []))
+    ∙ map-append (listed moment) (filter (is_listed question moment) before) (filter (is_listed question moment) (one ∷ []))
+    ∙ ap (λ (l : List Rr). map (listed moment) (filter (is_listed question moment) before) ++ l) (at (is_listed question moment one))
   where
-    kept : List Held
-    kept = filter (is_listed question moment) before
+    at : (b : Bool) → map (listed moment) (cond b (one ∷ []) []) ≡ cond b (listed moment one ∷ []) []
+    at true = refl
+    at false = refl
 
-    at : (b : Bool) → sorted_by record_cmp (map (listed moment) (kept ++ cond b (one ∷ []) [])) ≡ cond b (put_behind record_cmp record_cmp_total (listed moment one) (sorted_by record_cmp (map (listed moment) kept))) (sorted_by record_cmp (map (listed moment) kept))
-    at true = ap (sorted_by record_cmp) (map-append (listed moment) kept (one ∷ [])) ∙ sorted-push record_cmp record_cmp_total (listed moment one) (map (listed moment) kept)
-    at false = ap (λ (l : List Held). sorted_by record_cmp (map (listed moment) l)) (append-nil kept)
+listed-more : (question : Key) (held : List Held) (moment n : ℕ) (one : Held) → n < length held → one ≡ get_or held n one →
+    listed_up_to question held moment (n + 1) ≡ listed_up_to question held moment n ++ cond (is_listed question moment one) (listed moment one ∷ []) []
+listed-more question held moment n one within is =
+    ap (λ (l : List Held). map (listed moment) (filter (is_listed question moment) l)) (take_more held n one within ∙ sym (ap (λ (x : Held). take n held ++ x ∷ []) is))
+    ∙ listed-push question moment (take n held) one
 
-known_of-is : (question : Key) (moment : ℕ) (held : List Held) → known_of question held moment ≡ sorted_by record_cmp (map (listed moment) (filter (is_listed question moment) held))
-unfolding known_of
-known_of-is question moment held = refl
-
--- the known answers of so many held records, and of one more
-abbrev pub known_up_to : Key → List Held → ℕ → ℕ → List Rr
-known_up_to question held moment n = known_of question (take n held) moment
-
-pub known_more-in : (question : Key) (held : List Held) (moment n : ℕ) (one : Held) (rr : Rr) (before after : List Rr) → n < length held → one ≡ get_or held n one →
-    Some rr ≡ cond (is_listed question moment one) (Some (listed moment one)) None → before ≡ known_up_to question held moment n →
-    ((xs : List Rr) → before ≡ sorted_by record_cmp xs → after ≡ sorted_by record_cmp (xs ++ rr ∷ [])) → after ≡ known_up_to question held moment (n + 1)
-known_more-in question held moment n one rr before after within is e so_far put = at (is_listed question moment one) refl e
+pub listed_more-in : (question : Key) (held : List Held) (moment n : ℕ) (one : Held) (rr : Rr) → n < length held → one ≡ get_or held n one →
+    Some rr ≡ cond (is_listed question moment one) (Some (listed moment one)) None →
+    listed_up_to question held moment n ++ rr ∷ [] ≡ listed_up_to question held moment (n + 1)
+listed_more-in question held moment n one rr within is e = at (is_listed question moment one) refl e
   where
-    up_to : List Held
-    up_to = take n held
-
-    more : List Held → List Rr
-    more held = known_of question held moment
-
-    pushed : (b : Bool) → is_listed question moment one ≡ b →
-        known_of question (take (n + 1) held) moment ≡ cond b (put_behind record_cmp record_cmp_total (listed moment one) (more up_to)) (more up_to)
-    pushed b k =
-        ap more (take_more held n one within ∙ sym (ap (λ (x : Held). up_to ++ x ∷ []) is)) ∙ known_of-push question moment up_to one
-        ∙ ap (λ (d : Bool). cond d (put_behind record_cmp record_cmp_total (listed moment one) (more up_to)) (more up_to)) k
-
-    at : (b : Bool) → is_listed question moment one ≡ b → Some rr ≡ cond b (Some (listed moment one)) None → after ≡ known_up_to question held moment (n + 1)
+    at : (b : Bool) → is_listed question moment one ≡ b → Some rr ≡ cond b (Some (listed moment one)) None → listed_up_to question held moment n ++ rr ∷ [] ≡ listed_up_to question held moment (n + 1)
     at true k h =
         let same : rr ≡ listed moment one = cc in
-        let xs : List Rr = map (listed moment) (filter (is_listed question moment) up_to) in
-        put xs (so_far ∙ known_of-is question moment up_to)
-        ∙ sorted-push record_cmp record_cmp_total rr xs
-        ∙ ap (λ (l : List Rr). put_behind record_cmp record_cmp_total rr l) (sym (known_of-is question moment up_to))
-        ∙ ap (λ (x : Rr). put_behind record_cmp record_cmp_total x (more up_to)) same
-        ∙ sym (pushed true k)
+        ap (λ (x : Rr). listed_up_to question held moment n ++ x ∷ []) same
+        ∙ sym (listed-more question held moment n one within is ∙ ap (λ (b : Bool). listed_up_to question held moment n ++ cond b (listed moment one ∷ []) []) k)
     at false k h = absurd (cc)
 
-pub known_more-over : (question : Key) (held : List Held) (moment n : ℕ) (one : Held) → n < length held → one ≡ get_or held n one →
-    None ≡ cond (is_listed question moment one) (Some (listed moment one)) None → known_up_to question held moment n ≡ known_up_to question held moment (n + 1)
-known_more-over question held moment n one within is e =
-    at (is_listed question moment one) e
-    ∙ sym (known_of-push question moment (take n held) one)
-    ∙ ap (λ (l : List Held). known_of question l moment) (ap (λ (x : Held). take n held ++ x ∷ []) is ∙ sym (take_more held n one within))
+pub listed_more-over : (question : Key) (held : List Held) (moment n : ℕ) (one : Held) → n < length held → one ≡ get_or held n one →
+    None ≡ cond (is_listed question moment one) (Some (listed moment one)) None → listed_up_to question held moment n ≡ listed_up_to question held moment (n + 1)
+listed_more-over question held moment n one within is e = at (is_listed question moment one) refl e
   where
-    at : (b : Bool) → None ≡ cond b (Some (listed moment one)) None →
-        known_up_to question held moment n ≡ cond b (put_behind record_cmp record_cmp_total (listed moment one) (known_up_to question held moment n)) (known_up_to question held moment n)
-    at true h = absurd (cc)
-    at false h = refl
+    at : (b : Bool) → is_listed question moment one ≡ b → None ≡ cond b (Some (listed moment one)) None → listed_up_to question held moment n ≡ listed_up_to question held moment (n + 1)
+    at true k h = absurd (cc)
+    at false k h =
+        sym (listed-more question held moment n one within is ∙ ap (λ (b : Bool). listed_up_to question held moment n ++ cond b (listed moment one ∷ []) []) k
+        ∙ append-nil (listed_up_to question held moment n))

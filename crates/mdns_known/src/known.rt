@@ -4,7 +4,7 @@ ghost use Rattle.std.specs.List.{All};
 ghost use Rattle.mdns_known.specs.Known.{known_of};
 
 use crate::listing::listing;
-use crate::order::put_behind;
+use crate::order::sorted;
 use dns_message::Rrs;
 use dns_record::Key;
 use mdns_history::Held;
@@ -28,8 +28,8 @@ pub fn known_answers(
     let mut known = Vec::new(alloc);
     for one in held {
         if let Some(rr) = listing(alloc, question, one, now)? {
-            put_behind(&mut known, rr)?;
+            known.push(rr)?;
         }
     }
-    Ok(Rrs::from_vec(known))
+    sorted(known)
 }

@@ -1,13 +1,13 @@
 // Which held records are listed, and how.
-ghost use Rattle.std.specs.Prelude.{◌≡◌, ◌+◌, ◌-◌, ◌/◌, ◌≤◌, ◌^◌, ◌&&◌, [], ◌∷◌, Some, None, false, IsTrue, IfOk, if◌then◌else◌};
-ghost use Rattle.dns_record.specs.Records.{matches};
+ghost use Rattle.std.specs.Prelude.{◌≡◌, ◌+◌, ◌-◌, ◌/◌, ◌≤◌, ◌^◌, ◌&&◌, [], ◌∷◌, Some, None, true, false, length, IsTrue, IfOk, if◌then◌else◌};
+ghost use Rattle.dns_record.specs.Records.{matches, data_of};
 ghost use Rattle.dns_message.specs.Packing.{query_with};
 ghost use Rattle.mdns_history.specs.Lifetimes.{is_live_at, is_uncut};
 ghost use Rattle.mdns_history.specs.Asking.{is_half_fresh, listed, fits_alone};
 ghost use Rattle.mdns_known.specs.Known.{is_listed};
 
 use dns_message::{Message, Questions, Rrs, WriteError, write};
-use dns_record::{Key, Rr, matches};
+use dns_record::{Key, Rdata, Rr, matches};
 use mdns_history::Held;
 use std::alloc::{AllocError, Global};
 
@@ -81,8 +81,40 @@ fn seconds_left(one: &Held, now: u64) -> u32
     ((left + 999) / 1000) as u32
 }
 
-// A record, where it fits a message alone, and nothing where it doesn't.
+// A record, where it fits a message alone, and nothing where it doesn't. Only of a long one a message is written to tell.
 fn if_it_fits(alloc: Global, rr: Rr) -> Result<Option<Rr>, AllocError>
+    ensures { IfOk result (λ fitting. fitting ≡ (if fits_alone rr then Some rr else None)) }
+{
+    if is_short(&rr) {
+        return Ok(Some(rr));
+    }
+    if_written_fits(alloc, rr)
+}
+
+// Whether a record is so short that it fits a message alone even where none of its names is compressed.
+fn is_short(rr: &Rr) -> bool
+    ensures { IsTrue result → fits_alone rr.now ≡ true }
+{
+    // A header has 12 bytes, and 10 stand between the owner and the data.
+    plain_len(&rr.rdata) <= LONGEST_MESSAGE - 22 - rr.owner.wire_len()
+}
+
+// How many bytes data have in which no name is compressed.
+fn plain_len(rdata: &Rdata) -> usize
+    ensures { result ≡ length (data_of rdata.now) }
+{
+    match rdata {
+        Rdata::A(_) => 4,
+        Rdata::Aaaa(_) => 16,
+        Rdata::Ptr(name) | Rdata::Cname(name) => name.wire_len(),
+        Rdata::Srv { target, .. } => 6 + target.wire_len(),
+        Rdata::Nsec { next, bitmap } => next.wire_len() + bitmap.as_slice().len(),
+        Rdata::Txt(bytes) | Rdata::Raw { bytes, .. } => bytes.as_slice().len(),
+    }
+}
+
+// A record, where a message of it alone isn't too long, and nothing where it is.
+fn if_written_fits(alloc: Global, rr: Rr) -> Result<Option<Rr>, AllocError>
     ensures { IfOk result (λ fitting. fitting ≡ (if fits_alone rr then Some rr else None)) }
 {
     let message = query_with(alloc, rr)?;
