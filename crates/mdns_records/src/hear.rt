@@ -21,7 +21,7 @@ pub fn heard_copy(
     ensures { IfOk result (λ later. later.items ≡ held_after when.moment when.word (filter (is_named name.now) heard.now) earlier.now) }
 {
     let records = of_name(alloc, name, heard)?;
-    let mut later = live_copies(alloc, earlier, when.moment)?;
+    let mut later = live_copies(alloc, earlier, when.moment, records.len())?;
     later.reserve(records.len())?;
     hear_all(&mut later, when.moment, when.word, records);
     Ok(later)
@@ -31,7 +31,8 @@ pub fn heard_copy(
 fn of_name(alloc: Global, name: &Name, heard: &[Rr]) -> Result<Vec<Rr>, AllocError>
     ensures { IfOk result (λ records. records.items ≡ filter (is_named name.now) heard.now) }
 {
-    let mut records = Vec::new(alloc);
+    // Most names own one record of a packet.
+    let mut records = Vec::with_capacity(alloc, heard.len().min(1))?;
     for rr in heard {
         if rr.owner.folded_eq(name) {
             records.push(rr.copy()?)?;
@@ -40,11 +41,11 @@ fn of_name(alloc: Global, name: &Name, heard: &[Rr]) -> Result<Vec<Rr>, AllocErr
     Ok(records)
 }
 
-// Those of the records that are live at `now`, in ms, copied.
-fn live_copies(alloc: Global, held: &[Held], now: u64) -> Result<Vec<Held>, AllocError>
+// Those of the records that are live at `now`, in ms, copied. As a rule there is room for so many more.
+fn live_copies(alloc: Global, held: &[Held], now: u64, more: usize) -> Result<Vec<Held>, AllocError>
     ensures { IfOk result (λ live. live.items ≡ filter (is_live_at now) held.now) }
 {
-    let mut live = Vec::new(alloc);
+    let mut live = Vec::with_capacity(alloc, held.len().saturating_add(more))?;
     for one in held {
         if now < one.end {
             live.push(one.copy()?)?;

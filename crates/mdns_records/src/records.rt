@@ -154,7 +154,8 @@ impl Records {
     ) -> Result<Vec<Held>, AllocError>
         ensures { IfOk result (λ held. held.items ≡ held_of name.now self.now.held) }
     {
-        let mut held = Vec::new(self.alloc);
+        // Most names have one record.
+        let mut held = Vec::with_capacity(self.alloc, 1)?;
         while let Some(one) = self.cache.visit(name, held.len(), steps) {
             held.push(one.copy()?)?;
         }

@@ -6,7 +6,7 @@ use Rattle.mdns_records.proofs.Walking.{AreCopied, copied-none, copied-more, cop
 use Rattle.mdns_records.proofs.records.Records.records_of.Goals as goal
 
 pub loop-one-init : goal.loop-one-init
-loop-one-init g c = subst (AreCopied (held_of c.args.name.now c.args.self.now.held)) (sym c.new-held.ensures.items) (copied-none (held_of c.args.name.now c.args.self.now.held))
+loop-one-init g c = subst (AreCopied (held_of c.args.name.now c.args.self.now.held)) (sym c.in_ok-held.ensures.items) (copied-none (held_of c.args.name.now c.args.self.now.held))
 
 pub loop-one-preserved : goal.loop-one-preserved
 loop-one-preserved g c =
