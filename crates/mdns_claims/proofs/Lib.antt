@@ -8,6 +8,7 @@ pub mod Goes
 pub mod Following
 pub mod Loops
 pub mod Named
+pub mod Typed
 pub mod Clashing
 pub mod Numbers
 pub mod Turned

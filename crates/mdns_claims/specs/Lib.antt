@@ -3,6 +3,7 @@ pub mod Behind
 pub mod Turning
 pub mod Owned
 pub mod Named
+pub mod Typed
 pub mod Wishes
 pub mod Planned
 pub mod Seen

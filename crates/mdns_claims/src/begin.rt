@@ -1,9 +1,10 @@
 // The group that begins with a registration, and that of the host. (RFC 6762 8.1, RFC 6763 4 and 7)
-ghost use Rattle.std.specs.Prelude.{IfOk, Some, map, ◌<◌, ◌^◌, ◌≡◌, ◌≤◌};
+ghost use Rattle.std.specs.Prelude.{IfOk, MatchOption, Some, map, true, ◌<◌, ◌^◌, ◌≡◌, ◌≤◌};
 ghost use Rattle.std.specs.Option.{option_map};
 ghost use Rattle.mdns_claims.specs.Behind.{begun_kept, registration_told};
 ghost use Rattle.mdns_claims.specs.Planned.{IsAcceptable};
 ghost use Rattle.mdns_claims.specs.Seen.{occasion_in};
+ghost use Rattle.mdns_claims.specs.Typed.{have_data, records_of};
 ghost use Rattle.mdns_claims.specs.Wishes.{asked_by, registering, registration_of};
 ghost use Rattle.mdns_happened.specs.Told.{told_by};
 ghost use Rattle.mdns_history.specs.Groups.{free_number, numbered_name};
@@ -13,6 +14,7 @@ ghost use Rattle.mdns_probe.specs.Naming.{shared_named, unique_named};
 ghost use Rattle.sd_name.specs.ServiceTypes.{service_type};
 
 use crate::claimant::Claimant;
+use crate::looks::look_at;
 use crate::renew::Seen;
 use crate::turns::MOST_GROUPS;
 use bytes::Bytes;
@@ -44,7 +46,8 @@ pub fn begun(
     groups: &[Claimant],
 ) -> Result<Option<Claimant>, AllocError>
     requires { IsAcceptable registered (told_by seen.now.happened.now).call }
-    ensures { IfOk result (λ one. one ≡ option_map (begun_kept registered groups.now (occasion_in seen.now)) (registration_told (told_by seen.now.happened.now).call)) }
+    ensures typed { IfOk result (λ one. MatchOption one (Unit {0}) (λ group. have_data (records_of group.claim) ≡ true)) }
+    ensures value { IfOk result (λ one. one ≡ option_map (begun_kept registered groups.now (occasion_in seen.now)) (registration_told (told_by seen.now.happened.now).call)) }
 {
     match wished(seen.happened) {
         Some(wish) => {
@@ -93,7 +96,8 @@ fn granted(
     wish: &Wish<'_>,
 ) -> Result<Claimant, AllocError>
     requires room { registered < 2 ^ 63 }
-    ensures { IfOk result (λ one. (told_by seen.now.happened.now).call ≡ Some (asked_by wish.now) → one ≡ begun_kept registered groups.now (occasion_in seen.now) (registration_of wish.now)) }
+    ensures typed { IfOk result (λ one. have_data (records_of one.claim) ≡ true) }
+    ensures value { IfOk result (λ one. (told_by seen.now.happened.now).call ≡ Some (asked_by wish.now) → one ≡ begun_kept registered groups.now (occasion_in seen.now) (registration_of wish.now)) }
 {
     let service = Service {
         session: wish.session,
@@ -125,7 +129,8 @@ pub fn begun_claimant(
 ) -> Result<Claimant, AllocError>
     requires bound { now ≤ 2 ^ 53 }
     requires wait { wait ≤ 5000 }
-    ensures { IfOk result (λ one. one ≡ record {
+    ensures typed { IfOk result (λ one. have_data (records_of one.claim) ≡ true) }
+    ensures value { IfOk result (λ one. one ≡ record {
       group = naming;
       number = naming.first;
       claim = begun now wait naming.id (unique_named published.now.config.now published.now.host.now naming (numbered_name naming naming.first) published.now.txt.now) (shared_named naming (numbered_name naming naming.first));
@@ -135,6 +140,8 @@ pub fn begun_claimant(
     let name = naming.name_under(number);
     let unique = naming.unique_records(alloc, &name, published)?;
     let shared = naming.shared_records(alloc, &name)?;
+    look_at(unique.as_slice());
+    look_at(shared.as_slice());
     let claim = Claim::begun(now, wait, naming.id(), unique, shared);
     Ok(Claimant::new(naming, number, claim))
 }

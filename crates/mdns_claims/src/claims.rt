@@ -1,5 +1,5 @@
 // The claims of a daemon.
-ghost use Rattle.std.specs.Prelude.{IfOk, IsTrue, List, OnOk, [], is_some, nat_le, ℕ, ◌++◌, ◌<◌, ◌^◌, ◌∷◌, ◌≡◌, ◌≤◌};
+ghost use Rattle.std.specs.Prelude.{IfOk, IsTrue, List, OnOk, [], is_some, nat_le, true, ℕ, ◌++◌, ◌<◌, ◌^◌, ◌∷◌, ◌≡◌, ◌≤◌};
 ghost use Rattle.std.specs.List.{flat_map};
 ghost use Rattle.std.specs.Option.{option_map, option_to_list};
 ghost use Rattle.dns_name.specs.Lists.{least};
@@ -8,6 +8,7 @@ ghost use Rattle.mdns_claims.specs.Later.{groups_behind};
 ghost use Rattle.mdns_claims.specs.Owned.{of_name, own_in, registered_answers};
 ghost use Rattle.mdns_claims.specs.Planned.{IsAcceptable, IsFor, IsPlan, counted_by, kept_by, room_of};
 ghost use Rattle.mdns_claims.specs.State.{Stands};
+ghost use Rattle.mdns_claims.specs.Typed.{HaveData, have_data, records_of};
 ghost use Rattle.mdns_happened.specs.Told.{told_by};
 ghost use Rattle.mdns_history.specs.Fitting.{boot_entry};
 ghost use Rattle.mdns_history.specs.Probing.{is_conflict};
@@ -58,6 +59,7 @@ pub struct Claims {
 impl Model for Claims {
     ghost use Rattle.std.specs.Prelude.{◌-◌, vec_len, vec_capacity};
     ghost use Rattle.mdns_claims.specs.State.{State};
+    ghost use Rattle.mdns_claims.specs.Typed.{HaveData};
 
     ghost Value = { State };
 
@@ -65,6 +67,8 @@ impl Model for Claims {
       contents = record { config = a.config; announces = a.announces; number = a.number; registered = a.registered; kept = a.groups.items; storm = a.storm };
       spare = vec_capacity a.groups - vec_len a.groups;
     } };
+
+    ghost invariant = { λ a. HaveData a.groups.items };
 }
 
 impl Claims {
@@ -79,6 +83,7 @@ impl Claims {
         ensures stands { IfOk result (λ claims. Stands claims.contents (boot_entry when.moment when.word config.now ∷ [])) }
         ensures config { IfOk result (λ claims. claims.contents.config ≡ config.now) }
         ensures announces { IfOk result (λ claims. claims.contents.announces ≡ announces) }
+        ensures data { IfOk result (λ claims. HaveData claims.contents.kept) }
     {
         Ok(Claims {
             alloc,
@@ -154,6 +159,7 @@ impl Claims {
         requires { IsAcceptable self.now.contents.registered (told_by happened.now).call }
         ensures plan { IfOk result (λ plan. IsPlan self.now.contents (occasion_of self.now.contents (told_by happened.now) when.moment when.word) plan) }
         ensures fits { IfOk result (λ plan. IsFor self.now.contents.registered self.now.contents.kept plan.deed) }
+        ensures data { HaveData self.now.contents.kept }
     {
         let marks = claim_marks(self.alloc, &self.groups, happened)?;
         let number = number_after(0, marks.as_slice(), self.number);
@@ -185,6 +191,7 @@ impl Claims {
     ) -> Behind<'a>
         ensures before { result.groups.now ≡ self.now.contents.kept }
         ensures behind { groups_behind result ≡ kept_by (record { moment = when.moment; announces = self.now.contents.announces; told = told_by happened.now; marks = plan.now.marks }) self.now.contents.kept plan.now.deed }
+        ensures data { IsFor self.now.contents.registered self.now.contents.kept plan.now.deed → HaveData (groups_behind result) }
         ensures told { (word : ℕ) → let at = occasion_of self.now.contents (told_by happened.now) when.moment word in IsPlan self.now.contents at plan.now → groups_behind result ≡ kept_told self.now.contents at }
     {
         Behind {
@@ -214,7 +221,8 @@ impl Claims {
     pub fn apply(&mut self, when: When, happened: &Happened<'_>, plan: Plan)
         requires room { room_of plan.deed ≤ self.old.spare }
         requires fits { IsFor self.old.contents.registered self.old.contents.kept plan.deed }
-        ensures { (word : ℕ) → let at = occasion_of self.old.contents (told_by happened.now) when.moment word in IsPlan self.old.contents at plan → self.new.contents ≡ contents_told self.old.contents at }
+        ensures data { HaveData self.new.contents.kept }
+        ensures contents { (word : ℕ) → let at = occasion_of self.old.contents (told_by happened.now) when.moment word in IsPlan self.old.contents at plan → self.new.contents ≡ contents_told self.old.contents at }
     {
         let Plan {
             marks,
@@ -248,7 +256,8 @@ fn count_after(registered: u64, deed: &Deed) -> u64
 
 // The groups at the boot: that of the host, if there is one. Refused only for want of memory.
 fn first_groups(alloc: Global, config: &Config, when: When) -> Result<Vec<Claimant>, AllocError>
-    ensures { IfOk result (λ groups. groups.items ≡ option_to_list (option_map (host_kept when.moment when.word config.now) config.now.host)) }
+    ensures typed { IfOk result (λ groups. HaveData groups.items) }
+    ensures value { IfOk result (λ groups. groups.items ≡ option_to_list (option_map (host_kept when.moment when.word config.now) config.now.host)) }
 {
     let mut groups = Vec::new(alloc);
     if let Some(host) = &config.host {
@@ -264,7 +273,8 @@ fn host_claimant(
     host: &HostConfig,
     when: When,
 ) -> Result<Claimant, AllocError>
-    ensures { IfOk result (λ one. one ≡ host_kept when.moment when.word config.now host.now) }
+    ensures typed { IfOk result (λ one. have_data (records_of one.claim) ≡ true) }
+    ensures value { IfOk result (λ one. one ≡ host_kept when.moment when.word config.now host.now) }
 {
     let naming = Naming::host(copy_label(&host.label));
     let name = naming.name_under(1);

@@ -13,6 +13,7 @@ mod doing;
 mod held;
 mod later;
 mod law;
+mod looks;
 mod names;
 mod own;
 mod plan;

@@ -1,11 +1,12 @@
 // What becomes of the groups that an event touches. (RFC 6762 8 and 9)
-ghost use Rattle.std.specs.Prelude.{IfOk, is_some, map, ◌||◌, ◌≡◌, ◌≤◌};
-ghost use Rattle.std.specs.List.{list_any};
+ghost use Rattle.std.specs.Prelude.{IfOk, is_some, map, true, ◌||◌, ◌≡◌, ◌≤◌};
+ghost use Rattle.std.specs.List.{list_all, list_any};
 ghost use Rattle.std.specs.Option.{option_copied};
 ghost use Rattle.mdns_claims.specs.Behind.{claim_told, ends_by, is_touched, number_after, renaming_in, renewed, txt_behind, txt_given, txt_in, wait_told};
 ghost use Rattle.mdns_claims.specs.Named.{AreNamed, IsNamed, with_renewal};
 ghost use Rattle.mdns_claims.specs.Planned.{renewal_told};
 ghost use Rattle.mdns_claims.specs.Seen.{occasion_in};
+ghost use Rattle.mdns_claims.specs.Typed.{have_data, is_typed, records_of};
 ghost use Rattle.mdns_happened.specs.Told.{told_by};
 ghost use Rattle.mdns_history.specs.Groups.{is_failure_of};
 ghost use Rattle.mdns_history.specs.Probing.{is_lost_tie_of};
@@ -13,6 +14,7 @@ ghost use Rattle.mdns_history.specs.Sessions.{is_number, stops};
 ghost use Rattle.mdns_history.specs.Sureness.{is_setback_of};
 
 use crate::claimant::Claimant;
+use crate::looks::look_at;
 use crate::renewal::Renewal;
 use bytes::Bytes;
 use dns_message::Rrs;
@@ -46,6 +48,7 @@ impl Seen<'_> {
     ) -> Result<Vec<Option<Renewal>>, AllocError>
         ensures value { IfOk result (λ renewals. renewals.items ≡ map (renewal_told (occasion_in self.now)) groups.now) }
         ensures named { IfOk result (λ renewals. AreNamed renewals.items groups.now) }
+        ensures typed { IfOk result (λ renewals. list_all is_typed renewals.items ≡ true) }
     {
         let mut renewals = Vec::new(alloc);
         for one in groups {
@@ -58,6 +61,7 @@ impl Seen<'_> {
     fn renewal(&self, alloc: Global, one: &Claimant) -> Result<Option<Renewal>, AllocError>
         ensures value { IfOk result (λ renewal. renewal ≡ renewal_told (occasion_in self.now) one.now) }
         ensures named { IfOk result (λ renewal. IsNamed (with_renewal renewal one.now)) }
+        ensures typed { IfOk result (λ renewal. is_typed renewal ≡ true) }
     {
         if ends(self.happened, self.marks, one.naming()) {
             return Ok(None);
@@ -84,6 +88,7 @@ impl Seen<'_> {
     fn renewed(&self, alloc: Global, one: &Claimant) -> Result<Renewal, AllocError>
         ensures value { IfOk result (λ renewal. (renewal.number ≡ (renewed (occasion_in self.now) one.now).number) × (renewal.claim ≡ (renewed (occasion_in self.now) one.now).claim)) }
         ensures named { IfOk result (λ renewal. IsNamed (record { group = one.now.group; number = renewal.number; claim = renewal.claim })) }
+        ensures typed { IfOk result (λ renewal. have_data (records_of renewal.claim) ≡ true) }
     {
         let naming = one.naming();
         let number = number_after(naming.id(), self.marks, one.number());
@@ -95,6 +100,8 @@ impl Seen<'_> {
         };
         let unique = naming.unique_records(alloc, &name, &published)?;
         let shared = naming.shared_records(alloc, &name)?;
+        look_at(unique.as_slice());
+        look_at(shared.as_slice());
         let claim = self.claim_with(one, unique, shared);
         Ok(Renewal { number, claim })
     }
@@ -103,6 +110,7 @@ impl Seen<'_> {
     fn claim_with(&self, one: &Claimant, unique: Rrs, shared: Rrs) -> Claim
         ensures value { result ≡ claim_told (occasion_in self.now) one.now.group.id unique shared one.now.claim }
         ensures unique { result.unique ≡ unique }
+        ensures shared { result.shared ≡ shared }
     {
         let id = one.naming().id();
         if is_set_back(self.marks, id) {

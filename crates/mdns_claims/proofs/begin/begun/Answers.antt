@@ -15,7 +15,7 @@ granted-requires c =
     registers_some (told_by c.args.seen.now.happened.now).call (asked_by c.in-Some.wish) (sym (ap (option_map asked_by) c.in-Some.is) ∙ c.wished.ensures) in
     record { room = (subst (IsAcceptable c.args.registered) asked c.requires).1 refl }
 
-pub returns-in-None : goal.returns-in-None
-returns-in-None c =
+pub returns-in-None-clause-value : goal.returns-in-None-clause-value
+returns-in-None-clause-value c =
     sym (ap (option_map (begun_kept c.args.registered c.args.groups.now (occasion_in c.args.seen.now)))
     (registers_none (told_by c.args.seen.now.happened.now).call (sym (ap (option_map asked_by) c.in-None.is) ∙ c.wished.ensures)))

@@ -9,8 +9,8 @@ use Rattle.mdns_claims.specs.Wishes.{registration_of}
 use Rattle.mdns_claims.proofs.Wished.{granted_is}
 use Rattle.mdns_claims.proofs.begin.granted.Goals as goal
 
-pub returns : goal.returns
-returns c = λ called.
+pub returns-clause-value : goal.returns-clause-value
+returns-clause-value c = λ called.
     let type : c.in_ok-regtype_of.field-0 ≡ (registration_of c.args.wish.now).type = sym (ap (λ (o : Option ServiceType). unwrap_or o no_type) c.in_ok-regtype_of.ensures) in
     let fresh : c.service-fresh.result ≡ record {
       id = c.args.registered + 1;
@@ -36,4 +36,4 @@ returns c = λ called.
     let naming : c.in_ok-naming.naming ≡ group_of (c.args.registered + 1) (map name_of c.args.groups.now) (registration_of c.args.wish.now) =
     c.in_ok-naming.ensures ∙ ap (λ (group : Group). record group { first = free_number 1 (map name_of c.args.groups.now) group }) fresh in
     granted_is (occasion_in c.args.seen.now) c.args.registered c.args.groups.now (registration_of c.args.wish.now) c.in_ok-naming.naming c.wait-wait.result c.args.wish.now.txt.now c.in_ok-one.one
-    c.in_ok-one.ensures naming (c.wait-wait.ensures.value ∙ ap (wait_told (occasion_in c.args.seen.now)) c.id.ensures) (sym (ap txt_asked called))
+    c.in_ok-one.ensures.value naming (c.wait-wait.ensures.value ∙ ap (wait_told (occasion_in c.args.seen.now)) c.id.ensures) (sym (ap txt_asked called))

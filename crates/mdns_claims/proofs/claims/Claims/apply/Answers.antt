@@ -1,13 +1,15 @@
-use Rattle.std.proofs.Common.{◌≡◌, ◌∙◌, ap, refl}
+use Rattle.std.proofs.Common.{◌≡◌, ◌∙◌, ap, refl, subst, sym}
 use Rattle.mdns_happened.specs.Told.{told_by}
 use Rattle.mdns_claims.specs.State.{State}
 use Rattle.mdns_claims.specs.Behind.{occasion_of}
 use Rattle.mdns_claims.specs.Planned.{Means, kept_by, counted_by}
+use Rattle.mdns_claims.specs.Typed.{HaveData}
+use Rattle.mdns_claims.proofs.Typed.{behind_data}
 use Rattle.mdns_claims.proofs.Carried.{carried}
 use Rattle.mdns_claims.proofs.claims.Claims.apply.Goals as goal
 
-pub returns : goal.returns
-returns c = λ word is.
+pub returns-clause-contents : goal.returns-clause-contents
+returns-clause-contents c = λ word is.
     let announces : c.self.inside.announces ≡ c.args.self.now.contents.announces = ap (λ (s : State). s.contents.announces) c.self.view_is in
     let means : Means = record { moment = c.args.when.moment; announces = c.self.inside.announces; told = told_by c.args.happened.now; marks = c.as_slice.result.now } in
     carried c.args.self.now.contents (occasion_of c.args.self.now.contents (told_by c.args.happened.now) c.args.when.moment word) c.args.plan is
@@ -24,3 +26,13 @@ returns c = λ word is.
     means (λ i. record { moment = c.args.when.moment; announces = announces i; told = told_by c.args.happened.now; marks = (c.as_slice.ensures ∙ is.marks) i })
     (c.carry_out.ensures ∙ ap (λ (s : State). kept_by means s.contents.kept c.args.plan.deed) c.self.view_is)
     refl
+
+pub invariant_of-self : goal.invariant_of-self
+invariant_of-self c =
+    let means : Means = record { moment = c.args.when.moment; announces = c.self.inside.announces; told = told_by c.args.happened.now; marks = c.as_slice.result.now } in
+    subst HaveData (sym c.carry_out.ensures) (behind_data means c.self.inside.groups.items c.args.plan.deed c.requires.fits.brought c.self.invariant)
+
+pub returns-clause-data : goal.returns-clause-data
+returns-clause-data c =
+    let means : Means = record { moment = c.args.when.moment; announces = c.self.inside.announces; told = told_by c.args.happened.now; marks = c.as_slice.result.now } in
+    subst HaveData (sym c.carry_out.ensures) (behind_data means c.self.inside.groups.items c.args.plan.deed c.requires.fits.brought c.self.invariant)

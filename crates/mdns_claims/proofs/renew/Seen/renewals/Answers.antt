@@ -4,6 +4,7 @@ use Rattle.mdns_claims.specs.declared.renewal.Renewal.{Renewal}
 use Rattle.mdns_claims.specs.Named.{with_renewal, IsNamed, AreNamed}
 use Rattle.mdns_claims.specs.Planned.{renewal_told}
 use Rattle.mdns_claims.specs.Seen.{occasion_in}
+use Rattle.mdns_claims.proofs.Typed.{typed_push}
 use Rattle.mdns_claims.proofs.Loops.{named_more, mapped_more}
 use Rattle.mdns_claims.proofs.renew.Seen.renewals.Goals as goal
 
@@ -22,4 +23,5 @@ loop-one-preserved c =
       named =
           subst (λ (rs : List (Option Renewal)). AreNamed rs (take (c.loop-one.one-index + 1) c.args.groups.now)) (sym value)
           (named_more told c.args.groups.now c.loop-one.one-index c.one-item.result c.loop-one-test.true c.one-item.is before new);
+      typed = typed_push c.loop-one.renewals.items c.push.new.self.items c.in_ok-renewal.field-0 c.in_ok-push.ensures.items c.loop-one.invariant.typed c.in_ok-renewal.ensures.typed;
     }

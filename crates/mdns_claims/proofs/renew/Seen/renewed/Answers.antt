@@ -3,7 +3,9 @@ use Rattle.mdns_history.specs.Groups.{Group, numbered_name}
 use Rattle.mdns_probe.specs.Naming.{unique_named, shared_named}
 use Rattle.mdns_claims.specs.Behind.{number_after, txt_behind, claim_told}
 use Rattle.mdns_claims.specs.Seen.{occasion_in}
+use Rattle.mdns_claims.specs.Typed.{are_plain}
 use Rattle.mdns_claims.proofs.Named.{is_named}
+use Rattle.mdns_claims.proofs.Typed.{unique_plain, shared_plain}
 use Rattle.mdns_claims.proofs.renew.Seen.renewed.Goals as goal
 
 pub returns-clause-value : goal.returns-clause-value
@@ -27,3 +29,11 @@ returns-clause-named c =
     c.args.self.now.config.now c.args.self.now.host c.name_under-name.result c.in_ok-txt_behind.field-0
     (c.claim_with-claim.ensures.unique ∙ c.in_ok-unique.ensures ∙ ap (λ (g : Group). unique_named c.args.self.now.config.now c.args.self.now.host g c.name_under-name.result c.in_ok-txt_behind.field-0) group)
     (c.name_under-name.ensures ∙ ap (λ (g : Group). numbered_name g c.number_after-number.result) group)
+
+pub look_at-requires : goal.look_at-requires
+look_at-requires c =
+    ap are_plain (c.as_slice.ensures ∙ c.in_ok-unique.ensures)
+    ∙ unique_plain c.args.self.now.config.now c.args.self.now.host c.naming-naming.result.now c.name_under-name.result c.in_ok-txt_behind.field-0
+
+pub look_at-requires-2 : goal.look_at-requires-2
+look_at-requires-2 c = ap are_plain (c.as_slice-2.ensures ∙ c.in_ok-shared.ensures) ∙ shared_plain c.naming-naming.result.now c.name_under-name.result
