@@ -15,7 +15,7 @@ use Rattle.sd_index.specs.declared.asker.Asker.{Asker}
 use Rattle.sd_index.specs.Asked.{asker_eq, asker_of, askers_of}
 use Rattle.sd_index.proofs.Lists.{asker_same}
 
-abbrev Entry : Type 0
+abbrev pub Entry : Type 0
 Entry = At × Asker
 
 -- ---- each entry is found at its place
@@ -26,13 +26,13 @@ behind e [] ys apart there = tt
 behind e (x ∷ xs) ys apart there =
     (ap (λ (b : Bool). cond b (Some e.1) (lookup (at_eq x.0) ys)) (at_eq-laws.symm x.0 e.0 ∙ apart.0) ∙ there.0, behind e xs ys apart.1 there.1)
 
-found_there : (es : List Entry) → IsDistinct at_eq (keys_of es) → AllByRecursion (λ (e : Entry). lookup (at_eq e.0) es ≡ Some e.1) es
+pub found_there : (es : List Entry) → IsDistinct at_eq (keys_of es) → AllByRecursion (λ (e : Entry). lookup (at_eq e.0) es ≡ Some e.1) es
 unfolding IsDistinct
 found_there [] distinct = tt
 found_there (e ∷ es) distinct =
     (ap (λ (b : Bool). cond b (Some e.1) (lookup (at_eq e.0) es)) (at_eq-laws.refl e.0), behind e es es distinct.0 (found_there es distinct.1))
 
-no : (o : Option Asker) → o ≡ None → IsSome o → ⊥
+pub no : (o : Option Asker) → o ≡ None → IsSome o → ⊥
 no None e h = false≢true h
 no (Some x) e h = cc
 

@@ -82,11 +82,9 @@ impl Askers {
         }
     }
 
-    /// Puts the operations behind others that ask for a name, case aside. Refused only for want of memory.
+    /// Puts the operations behind others that ask for a name, case aside, each once, and nothing else. Refused only for want of memory.
     pub fn put_askers(&self, askers: &mut Vec<Asker>, name: &Name) -> Result<(), AllocError>
-        ensures kept { OnOk result ((asker : AskerValue) → list_any (asker_eq asker) askers.old.items ≡ true → list_any (asker_eq asker) askers.new.items ≡ true) }
-        ensures put { OnOk result ((asker : AskerValue) → list_any (asker_eq asker) (askers_of (owner_of name.now) self.now.entries) ≡ true
-            → list_any (asker_eq asker) askers.new.items ≡ true) }
+        ensures { OnOk result (IsPermutation askers.new.items (askers.old.items ++ askers_of (owner_of name.now) self.now.entries)) }
     {
         put_all(askers, &self.filed, name)
     }

@@ -38,9 +38,7 @@ pub fn put_all(
     filed: &ByName<Asker>,
     name: &Name,
 ) -> Result<(), AllocError>
-    ensures kept { OnOk result ((asker : AskerValue) → list_any (asker_eq asker) askers.old.items ≡ true → list_any (asker_eq asker) askers.new.items ≡ true) }
-    ensures put { OnOk result ((asker : AskerValue) → list_any (asker_eq asker) (askers_of (owner_of name.now) filed.now.entries) ≡ true
-        → list_any (asker_eq asker) askers.new.items ≡ true) }
+    ensures { OnOk result (IsPermutation askers.new.items (askers.old.items ++ askers_of (owner_of name.now) filed.now.entries)) }
 {
     let _len = filed.len();
     let mut number = 0;

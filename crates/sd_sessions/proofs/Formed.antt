@@ -87,8 +87,8 @@ formed-found test (session ∷ sessions) formed = of (test session) (formed-foun
 -- the operations of the sessions that are left ask for something well formed
 pub formed-left : (told : Told) (earlier later : Answering) (sessions : List Session) → IsWellFormedCall told.call → HaveWellFormed sessions
     → HaveWellFormed (sessions_told told.taking (shifted_told told sessions (map (change_told told earlier later) sessions)))
-formed-left told earlier later sessions call all = have-left AreWellFormed told earlier later tt sessions (each sessions all)
+formed-left told earlier later sessions call all = have-left (λ n. AreWellFormed) told earlier later (λ n. tt) sessions (each sessions all)
   where
-    each : (ss : List Session) → HaveWellFormed ss → AllByRecursion (HoldsCalled AreWellFormed told earlier later) ss
+    each : (ss : List Session) → HaveWellFormed ss → AllByRecursion (HoldsCalled (λ n. AreWellFormed) told earlier later) ss
     each [] all = tt
     each (session ∷ ss) all = (formed-called told.call session.number session.operations call all.0, each ss all.1)

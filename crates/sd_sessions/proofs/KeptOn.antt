@@ -6,15 +6,20 @@ use Rattle.std.specs.Option.{unwrap_or}
 use Rattle.std.proofs.lemmas.Bool.{and_from}
 use Rattle.std.proofs.lemmas.List.{map-append}
 use Rattle.std.proofs.lemmas.List.Folds.{list_all-append}
-use Rattle.mdns_history.specs.Sessions.{Accepted, is_number, after_request}
+use Rattle.sd_call.specs.declared.request.Request.{Request}
+use Rattle.sd_call.specs.declared.request.Request.TheVariants as request
+use Rattle.mdns_history.specs.declared.operation.Operation.{Operation}
+use Rattle.mdns_history.specs.Sessions.{Accepted, is_number, after_request, has_op, updated}
+use Rattle.mdns_cache.proofs.ListLemmas.{each-filter}
 use Rattle.mdns_happened.specs.Told.{Told, Taking}
 use Rattle.sd_sessions.specs.Answered.{Answering}
 use Rattle.sd_sessions.specs.Sessions.{Session}
 use Rattle.sd_sessions.specs.Settling.{called, change_told, all_settled, remaining_but, with_opened, shifted_told, taken_from, sessions_told}
-use Rattle.sd_sessions.specs.Kept.{numbers_of, AreKept, AreRising, HaveRising, IsNewIn, IsFresh, IsRising, IsWellFormedCall}
+use Rattle.sd_sessions.specs.Kept.{numbers_of, AreKept, AreOwn, AreRising, HaveOwn, HaveRising, IsNewIn, IsFresh, IsRising, IsWellFormedCall}
 use Rattle.sd_sessions.proofs.Left.{HoldsCalled, have-left}
 use Rattle.sd_sessions.proofs.Formed.{formed-left}
 use Rattle.sd_sessions.proofs.Nexts.{filter_map_swap}
+use Rattle.sd_sessions.proofs.Seen.{all-insert, all-map}
 use Rattle.sd_sessions.proofs.Operations.{rising_request}
 use Rattle.sd_sessions.proofs.NumberLists.{all-filter, all-more, IsRising-filter, IsRising-last}
 
@@ -29,9 +34,31 @@ rising-called (Some call) session rising new = of (call.session == session.numbe
     of true e = rising_request session.number call.op call.request session.operations rising (new e)
     of false e = rising
 
-all_called : (told : Told) (earlier later : Answering) (ss : List Session) → HaveRising ss → AllByRecursion (IsNewIn told.call) ss → AllByRecursion (HoldsCalled AreRising told earlier later) ss
+all_called : (told : Told) (earlier later : Answering) (ss : List Session) → HaveRising ss → AllByRecursion (IsNewIn told.call) ss → AllByRecursion (HoldsCalled (λ n. AreRising) told earlier later) ss
 all_called told earlier later [] rising new = tt
 all_called told earlier later (session ∷ ss) rising new = (rising-called told.call session rising.0 new.0, all_called told earlier later ss rising.1 new.1)
+
+-- a session's own operations stay its own
+own-request : (number op : ℕ) (r : Request) (os : List Operation) → AreOwn number os → AreOwn number (after_request number op r os)
+own-request number op (request.Query kind name) os own = all-insert (λ (o : Operation). o.session ≡ number) _ os refl own
+own-request number op (request.Browse regtype) os own = all-insert (λ (o : Operation). o.session ≡ number) _ os refl own
+own-request number op (request.Resolve label regtype) os own = all-insert (λ (o : Operation). o.session ≡ number) _ os refl own
+own-request number op (request.Address families name) os own = all-insert (λ (o : Operation). o.session ≡ number) _ os refl own
+own-request number op (request.Register label regtype port norename txt) os own = all-insert (λ (o : Operation). o.session ≡ number) _ os refl own
+own-request number op (request.Update txt) os own = all-map (λ (o : Operation). o.session ≡ number) (updated op txt) (λ o h. h) os own
+own-request number op request.Stop os own = each-filter (λ (o : Operation). o.session ≡ number) (λ o. not (has_op op o)) os own
+
+own-called : (call : Option Accepted) (number : ℕ) (os : List Operation) → AreOwn number os → AreOwn number (unwrap_or (called call number os) os)
+own-called None number os own = own
+own-called (Some call) number os own = of (call.session == number)
+  where
+    of : (b : Bool) → AreOwn number (unwrap_or (cond b (Some (after_request number call.op call.request os)) None) os)
+    of true = own-request number call.op call.request os own
+    of false = own
+
+all-own : (told : Told) (earlier later : Answering) (ss : List Session) → HaveOwn ss → AllByRecursion (HoldsCalled AreOwn told earlier later) ss
+all-own told earlier later [] own = tt
+all-own told earlier later (session ∷ ss) own = (own-called told.call session.number session.operations own.0, all-own told earlier later ss own.1)
 
 -- the numbers of the sessions that are left
 abbrev with_number : Option ℕ → List ℕ → List ℕ
@@ -90,7 +117,8 @@ pub kept-left : (told : Told) (earlier later : Answering) (count : ℕ) (ss : Li
 kept-left told earlier later count ss call new are =
     record {
       formed = formed-left told earlier later ss call are.formed;
-      rising = have-left AreRising told earlier later tt ss (all_called told earlier later ss are.rising new.operation);
+      rising = have-left (λ n. AreRising) told earlier later (λ n. tt) ss (all_called told earlier later ss are.rising new.operation);
+      own = have-left AreOwn told earlier later (λ n. tt) ss (all-own told earlier later ss are.own);
       numbers = subst IsRising (sym (numbers-left told earlier later ss)) (rising-with told.opened (λ n. not (is_number n told.detached)) (numbers_of ss) are.numbers new.session);
       within = subst (λ (ns : List ℕ). list_all (λ m. nat_le m (unwrap_or told.opened count)) ns ≡ true) (sym (numbers-left told earlier later ss))
           (within-with count told.opened (λ n. not (is_number n told.detached)) (numbers_of ss) are.within new.session);

@@ -9,9 +9,9 @@ use Rattle.sd_sessions.specs.Answered.{Answering}
 use Rattle.sd_sessions.specs.Sessions.{Session}
 use Rattle.sd_sessions.specs.Settling.{called, change_told, all_settled, remaining_but, opened_session, with_opened, shifted_told, taken_from, sessions_told}
 
-module _ (P : List Operation → Type 0) where
+module _ (P : ℕ → List Operation → Type 0) where
   abbrev Have : List Session → Type 0
-  Have sessions = AllByRecursion (λ (session : Session). P session.operations) sessions
+  Have sessions = AllByRecursion (λ (session : Session). P session.number session.operations) sessions
 
   kept : (test : Session → Bool) (sessions : List Session) → Have sessions → Have (filter test sessions)
   kept test [] all = tt
@@ -21,12 +21,12 @@ module _ (P : List Operation → Type 0) where
       at true rest = (all.0, rest)
       at false rest = rest
 
-  opened : P [] → (o : Option ℕ) (sessions : List Session) → Have sessions → Have (with_opened o sessions)
+  opened : ((n : ℕ) → P n []) → (o : Option ℕ) (sessions : List Session) → Have sessions → Have (with_opened o sessions)
   opened none None sessions all = all
   opened none (Some n) sessions all = behind sessions all
     where
       behind : (ss : List Session) → Have ss → Have (ss ++ opened_session n ∷ [])
-      behind [] h = (none, tt)
+      behind [] h = (none n, tt)
       behind (s ∷ ss) h = (h.0, behind ss h.1)
 
   taken : (number max : ℕ) (sessions : List Session) → Have sessions → Have (taken_from number max sessions)
@@ -44,13 +44,13 @@ module _ (P : List Operation → Type 0) where
   module _ (told : Told) (earlier later : Answering) where
     -- it holds of the operations that the event's call leaves to a session
     abbrev pub HoldsCalled : Session → Type 0
-    HoldsCalled session = P (unwrap_or (called told.call session.number session.operations) session.operations)
+    HoldsCalled session = P session.number (unwrap_or (called told.call session.number session.operations) session.operations)
 
     settled : (sessions : List Session) → AllByRecursion HoldsCalled sessions → Have (all_settled sessions (map (change_told told earlier later) sessions))
     settled [] all = tt
     settled (session ∷ sessions) all = (all.0, settled sessions all.1)
 
-    pub have-left : P [] → (sessions : List Session) → AllByRecursion HoldsCalled sessions →
+    pub have-left : ((n : ℕ) → P n []) → (sessions : List Session) → AllByRecursion HoldsCalled sessions →
         Have (sessions_told told.taking (shifted_told told sessions (map (change_told told earlier later) sessions)))
     have-left none sessions all =
         handed told.taking (shifted_told told sessions (map (change_told told earlier later) sessions))

@@ -32,3 +32,7 @@ pub mod KeptOn
 pub mod Seen
 pub mod WalkAnswers
 pub mod Named
+pub mod Asking
+pub mod IndexLeft
+pub mod IndexNamed
+pub mod Covered

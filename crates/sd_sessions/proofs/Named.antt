@@ -31,7 +31,7 @@ among-pushed names name =
     last true = refl
     last false = refl
 
-each-weaker : {X : Type 0} (P Q : X → Type 0) → ((x : X) → P x → Q x) → (xs : List X) → AllByRecursion P xs → AllByRecursion Q xs
+pub each-weaker : {X : Type 0} (P Q : X → Type 0) → ((x : X) → P x → Q x) → (xs : List X) → AllByRecursion P xs → AllByRecursion Q xs
 each-weaker P Q gives [] h = tt
 each-weaker P Q gives (x ∷ xs) h = (gives x h.0, each-weaker P Q gives xs h.1)
 

@@ -2,7 +2,6 @@
 use Rattle.std.proofs.Common.{◌≡◌, true, cond, List, ◌++◌, map}
 use Rattle.std.specs.List.Sorted.{IsPermutation}
 use Rattle.std.proofs.lemmas.List.Sorted.{IsPermutation-map, IsPermutation-append_left}
-use Rattle.dns_record.specs.declared.record.Rr.{Rr}
 use Rattle.sd_call.specs.Requests.{is_register}
 use Rattle.sd_answer.specs.Known.{rrs_of}
 use Rattle.sd_answer.specs.Laws.{have_data}

@@ -52,7 +52,7 @@ each P Q R gives [] h k = tt
 each P Q R gives (x ∷ xs) h k = (gives x h.0 k.0, each P Q R gives xs h.1 k.1)
 
 module _ (P : Operation → Type 0) where
-  all-insert : (o : Operation) (os : List Operation) → P o → AllByRecursion P os → AllByRecursion P (insert_by by_op o os)
+  pub all-insert : (o : Operation) (os : List Operation) → P o → AllByRecursion P os → AllByRecursion P (insert_by by_op o os)
   all-insert o [] one all = (one, tt)
   all-insert o (p ∷ os) one all = at (is_lt (by_op p o)) (all-insert o os one all.1)
     where
@@ -60,7 +60,7 @@ module _ (P : Operation → Type 0) where
       at true rest = (all.0, rest)
       at false rest = (one, all)
 
-  all-map : (f : Operation → Operation) → ((o : Operation) → P o → P (f o)) → (os : List Operation) → AllByRecursion P os → AllByRecursion P (map f os)
+  pub all-map : (f : Operation → Operation) → ((o : Operation) → P o → P (f o)) → (os : List Operation) → AllByRecursion P os → AllByRecursion P (map f os)
   all-map f keeps [] all = tt
   all-map f keeps (o ∷ os) all = (keeps o all.0, all-map f keeps os all.1)
 
@@ -94,14 +94,14 @@ txt_answers txt (request.Register label regtype port norename before) rrs = refl
 txt_answers txt (request.Update other) rrs = refl
 txt_answers txt request.Stop rrs = refl
 
-updated_asks : (op : ℕ) (txt : List ℕ) (o : Operation) → keys_of (updated op txt o).request ≡ keys_of o.request
+pub updated_asks : (op : ℕ) (txt : List ℕ) (o : Operation) → keys_of (updated op txt o).request ≡ keys_of o.request
 updated_asks op txt o = of (has_op op o)
   where
     of : (b : Bool) → keys_of (cond b (with_txt txt o.request) o.request) ≡ keys_of o.request
     of true = txt_asks txt o.request
     of false = refl
 
-updated_registers : (op : ℕ) (txt : List ℕ) (o : Operation) → is_register (updated op txt o).request ≡ is_register o.request
+pub updated_registers : (op : ℕ) (txt : List ℕ) (o : Operation) → is_register (updated op txt o).request ≡ is_register o.request
 updated_registers op txt o = of (has_op op o)
   where
     of : (b : Bool) → is_register (cond b (with_txt txt o.request) o.request) ≡ is_register o.request

@@ -1,5 +1,5 @@
 -- The answers of an operation before and after, by the walk of its name, or by what is told of it as a registration.
-use Rattle.std.proofs.Common.{◌≡◌, ℕ, ◌==◌, Bool, true, false, cond, not, ◌&&◌, ◌||◌, List, [], ◌∷◌, ◌++◌, map, filter, take, Option, Some, None, refl, ap, subst, ◌∙◌, sym, arith, true≢false}
+use Rattle.std.proofs.Common.{◌≡◌, ℕ, ◌==◌, Bool, true, false, cond, not, ◌||◌, List, [], ◌∷◌, ◌++◌, map, filter, take, Option, Some, None, refl, ap, subst, ◌∙◌, sym, arith, true≢false}
 use Rattle.std.specs.List.{find, list_any, flat_map, AllByRecursion}
 use Rattle.std.specs.Option.{is_some, option_map_or, option_to_list, unwrap_or}
 use Rattle.std.proofs.lemmas.Bool.{or_left, or_right, and_parts}
@@ -30,13 +30,15 @@ use Rattle.mdns_happened.specs.declared.around.Registered.{Registered}
 use Rattle.mdns_happened.specs.declared.walk.Walk.{Walk}
 use Rattle.mdns_happened.specs.Registrations.{is_of, is_told, registered_in, IsRegistered}
 use Rattle.mdns_happened.specs.Told.{Told}
-use Rattle.mdns_happened.specs.Walks.{is_for, walk_of, is_walked, own_of, IsWalk, IsOwnWalk, AreWalks}
+use Rattle.mdns_happened.specs.Walks.{is_for, walk_of, is_walked, own_of, IsWalk, IsOwnWalk}
 use Rattle.sd_sessions.specs.Answered.{Answering, View, known, answered}
 use Rattle.sd_sessions.specs.Changes.{had, lost, gained, items_between}
 use Rattle.sd_sessions.specs.Codes.{is_running}
 use Rattle.sd_sessions.specs.Settling.{called, brought_told}
 use Rattle.sd_sessions.specs.Sessions.{Session}
-use Rattle.sd_sessions.specs.Walked.{concerned, walk_for, IsBeside, IsCarried, IsSeenOf}
+use Rattle.sd_sessions.specs.Walked.{walk_for, IsBeside, IsCarried, IsSeenOf}
+use Rattle.sd_sessions.specs.Concerned.{concerned, IsApart, IsCovered}
+use Rattle.sd_sessions.proofs.Covered.{all-concerned}
 use Rattle.sd_sessions.proofs.Nexts.{filter_map_swap}
 
 owner_alike : (one other owner : List (List ℕ)) → folded_eq one other ≡ true → folded_eq owner one ≡ folded_eq owner other
@@ -253,70 +255,56 @@ none-lost before earlier later o same = ap (map (λ answer. Remove o.op answer))
 none-gained : (before : List Operation) (earlier later : Answering) (o : Operation) → had earlier before o.op ≡ later o → gained earlier later before o ≡ []
 none-gained before earlier later o same = ap (map (λ answer. Add o.op answer)) (without-same (later o) (had earlier before o.op) (sym same))
 
--- Where nothing was walked and nothing is told nothing is lost and gained.
-no_walk : (keys : List Key) → walk_for keys [] ≡ None
-no_walk [] = refl
-no_walk (key ∷ keys) = refl
-
 module _ (before after : View) (around : Around) (operations : List Operation) where
-  module _ (unwalked_all : around.walks.now ≡ []) (untold_all : around.registered.now ≡ []) where
-    same_all : (o : Operation) → IsSeenOf before after around operations o → had (answered before) operations o.op ≡ answered after o
-    same_all o seen = of (is_register o.request) refl
-      where
-        of : (b : Bool) → is_register o.request ≡ b → had (answered before) operations o.op ≡ answered after o
-        of true e = same-untold before after around operations o seen e (ap (λ (told : List Registered). registered_in told o.session o.op) untold_all)
-        of false e = same-apart before after around operations o seen e (ap (walk_for (keys_of o.request)) unwalked_all ∙ no_walk (keys_of o.request))
+  -- An operation of which nothing was walked or told has the answers that it had.
+  pub same-met : (o : Operation) → IsSeenOf before after around operations o → IsApart around o → had (answered before) operations o.op ≡ answered after o
+  same-met o seen apart = of (is_register o.request) refl
+    where
+      of : (b : Bool) → is_register o.request ≡ b → had (answered before) operations o.op ≡ answered after o
+      of true e = same-untold before after around operations o seen e (apart.told e)
+      of false e = same-apart before after around operations o seen e (apart.walked e)
 
-    none_lost : (os : List Operation) → AllByRecursion (IsSeenOf before after around operations) os → [] ≡ flat_map (lost (answered before) (answered after) operations) os
-    none_lost [] seen = refl
-    none_lost (o ∷ os) seen =
-        none_lost os seen.1
-        ∙ ap (λ (l : List Item). l ++ flat_map (lost (answered before) (answered after) operations) os) (sym (none-lost operations (answered before) (answered after) o (same_all o seen.0)))
+  -- Where no operation is concerned nothing is lost and gained.
+  none_lost : (os : List Operation) → AllByRecursion (IsSeenOf before after around operations) os → AllByRecursion (IsCovered [] around) os →
+      [] ≡ flat_map (lost (answered before) (answered after) operations) os
+  none_lost [] seen covered = refl
+  none_lost (o ∷ os) seen covered =
+      none_lost os seen.1 covered.1
+      ∙ ap (λ (l : List Item). l ++ flat_map (lost (answered before) (answered after) operations) os) (sym (none-lost operations (answered before) (answered after) o (same-met o seen.0 (covered.0 refl))))
 
-    none_gained : (os : List Operation) → AllByRecursion (IsSeenOf before after around operations) os → [] ≡ flat_map (gained (answered before) (answered after) operations) os
-    none_gained [] seen = refl
-    none_gained (o ∷ os) seen =
-        none_gained os seen.1
-        ∙ ap (λ (l : List Item). l ++ flat_map (gained (answered before) (answered after) operations) os) (sym (none-gained operations (answered before) (answered after) o (same_all o seen.0)))
+  none_gained : (os : List Operation) → AllByRecursion (IsSeenOf before after around operations) os → AllByRecursion (IsCovered [] around) os →
+      [] ≡ flat_map (gained (answered before) (answered after) operations) os
+  none_gained [] seen covered = refl
+  none_gained (o ∷ os) seen covered =
+      none_gained os seen.1 covered.1
+      ∙ ap (λ (l : List Item). l ++ flat_map (gained (answered before) (answered after) operations) os) (sym (none-gained operations (answered before) (answered after) o (same-met o seen.0 (covered.0 refl))))
 
   module _ (os : List Operation) (seen : AllByRecursion (IsSeenOf before after around operations) os) where
-    lost-concerned : flat_map (lost (answered before) (answered after) operations) (concerned around.walks.now around.registered.now os) ≡ flat_map (lost (answered before) (answered after) operations) os
-    lost-concerned = of around.walks.now around.registered.now refl refl
-      where
-        of : (walks : List Walk) (told : List Registered) → around.walks.now ≡ walks → around.registered.now ≡ told →
-            flat_map (lost (answered before) (answered after) operations) (concerned walks told os) ≡ flat_map (lost (answered before) (answered after) operations) os
-        of [] [] e f = none_lost e f os seen
-        of [] (one ∷ told) e f = refl
-        of (walk ∷ walks) told e f = refl
+    lost-concerned : (numbers : List ℕ) → AllByRecursion (IsCovered numbers around) os →
+        flat_map (lost (answered before) (answered after) operations) (concerned numbers os) ≡ flat_map (lost (answered before) (answered after) operations) os
+    lost-concerned [] covered = none_lost os seen covered
+    lost-concerned (n ∷ numbers) covered = refl
 
-    gained-concerned : flat_map (gained (answered before) (answered after) operations) (concerned around.walks.now around.registered.now os) ≡ flat_map (gained (answered before) (answered after) operations) os
-    gained-concerned = of around.walks.now around.registered.now refl refl
-      where
-        of : (walks : List Walk) (told : List Registered) → around.walks.now ≡ walks → around.registered.now ≡ told →
-            flat_map (gained (answered before) (answered after) operations) (concerned walks told os) ≡ flat_map (gained (answered before) (answered after) operations) os
-        of [] [] e f = none_gained e f os seen
-        of [] (one ∷ told) e f = refl
-        of (walk ∷ walks) told e f = refl
-
-pub all-concerned : (P : Operation → Type 0) (walks : List Walk) (told : List Registered) (os : List Operation) → AllByRecursion P os → AllByRecursion P (concerned walks told os)
-all-concerned P [] [] os all = tt
-all-concerned P [] (one ∷ told) os all = all
-all-concerned P (walk ∷ walks) told os all = all
+    gained-concerned : (numbers : List ℕ) → AllByRecursion (IsCovered numbers around) os →
+        flat_map (gained (answered before) (answered after) operations) (concerned numbers os) ≡ flat_map (gained (answered before) (answered after) operations) os
+    gained-concerned [] covered = none_gained os seen covered
+    gained-concerned (n ∷ numbers) covered = refl
 
 -- What is put for the operations that are concerned is what a session is brought.
-pub items-assembled : (before after : View) (around : Around) (operations os ops : List Operation) (n : ℕ) (reply : Option Item) (start brought adds items : List Item) →
-    ops ≡ concerned around.walks.now around.registered.now os → start ≡ option_to_list reply → take n ops ≡ ops → items ≡ brought ++ adds → AllByRecursion (IsSeenOf before after around operations) os →
+pub items-assembled : (before after : View) (around : Around) (numbers : List ℕ) (operations os ops : List Operation) (n : ℕ) (reply : Option Item) (start brought adds items : List Item) →
+    ops ≡ concerned numbers os → start ≡ option_to_list reply → take n ops ≡ ops → items ≡ brought ++ adds → AllByRecursion (IsCovered numbers around) os →
+    AllByRecursion (IsSeenOf before after around operations) os →
     (AllByRecursion (IsSeenOf before after around operations) ops → brought ≡ start ++ flat_map (lost (answered before) (answered after) operations) (take n ops)) →
     (AllByRecursion (IsSeenOf before after around operations) ops → adds ≡ flat_map (gained (answered before) (answered after) operations) (take n ops)) →
     items ≡ items_between (answered before) (answered after) reply operations os
 unfolding items_between
-items-assembled before after around operations os ops n reply start brought adds items are begins whole joined seen removes gains =
+items-assembled before after around numbers operations os ops n reply start brought adds items are begins whole joined covered seen removes gains =
     joined ∙ (λ i. removes concerned_seen i ++ gains concerned_seen i)
     ∙ (λ i. (begins i ++ flat_map (lost (answered before) (answered after) operations) ((whole ∙ are) i)) ++ flat_map (gained (answered before) (answered after) operations) ((whole ∙ are) i))
-    ∙ (λ i. (option_to_list reply ++ lost-concerned before after around operations os seen i) ++ gained-concerned before after around operations os seen i)
+    ∙ (λ i. (option_to_list reply ++ lost-concerned before after around operations os seen numbers covered i) ++ gained-concerned before after around operations os seen numbers covered i)
   where
     concerned_seen : AllByRecursion (IsSeenOf before after around operations) ops
-    concerned_seen = subst (AllByRecursion (IsSeenOf before after around operations)) (sym are) (all-concerned (IsSeenOf before after around operations) around.walks.now around.registered.now os seen)
+    concerned_seen = subst (AllByRecursion (IsSeenOf before after around operations)) (sym are) (all-concerned (IsSeenOf before after around operations) numbers os seen)
 
 -- a session that isn't cut or ended is brought what its operations change
 pub brought-uncut : (told : Told) (earlier later : Answering) (session : Session) (items : List Item) → (session.cut || is_number session.number told.detached) ≡ false →

@@ -34,15 +34,24 @@ abbrev pub IsRising : List ℕ → Type 0
 IsRising [] = Unit {0}
 IsRising (n ∷ ns) = (list_all (nat_lt n) ns ≡ true) × IsRising ns
 
+-- each operation is of the session of this number
+abbrev pub AreOwn : ℕ → List Operation → Type 0
+AreOwn number operations = AllByRecursion (λ (operation : Operation). operation.session ≡ number) operations
+
+-- each session has its own operations
+abbrev pub HaveOwn : List Session → Type 0
+HaveOwn sessions = AllByRecursion (λ (session : Session). AreOwn session.number session.operations) sessions
+
 -- the numbers of sessions
 abbrev pub numbers_of : List Session → List ℕ
 numbers_of sessions = map (λ session. session.number) sessions
 
--- What holds of the sessions that are kept: their operations are well formed and each has a number of its own, and so has each session, of those
--- that were opened.
+-- What holds of the sessions that are kept: their operations are their own and well formed and each has a number of its own, and so has each
+-- session, of those that were opened.
 pub record AreKept (opened : ℕ) (sessions : List Session) : Type 0 where
   pub formed : HaveWellFormed sessions
   pub rising : HaveRising sessions
+  pub own : HaveOwn sessions
   pub numbers : IsRising (numbers_of sessions)
   pub within : list_all (λ n. nat_le n opened) (numbers_of sessions) ≡ true
 

@@ -7,3 +7,5 @@ pub mod Planned
 pub mod Answered
 pub mod Laws
 pub mod Walked
+pub mod Indexed
+pub mod Concerned

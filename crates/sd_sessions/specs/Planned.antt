@@ -19,10 +19,11 @@ pub record IsPlan (told : Told) (earlier later : Answering) (sessions : List Ses
   pub empty : plan.taken.items ≡ []
   pub room : most_taken told.taking ≤ vec_capacity plan.taken
 
--- There is room for a plan: in each queue, and for a session that is opened.
+-- There is room for a plan: in each queue, for a session that is opened, and for an operation that is started.
 pub record IsReady (told : Told) (plan : Plan) (state : State) : Type 0 where
   pub queues : HasRoom state.room plan.changes.items
   pub place : is_some told.opened ≡ true → 0 < state.places
+  pub filing : is_some told.call ≡ true → 0 < state.filing
 
 -- What is told is what an event amounts to for these sessions, whatever is known of registrations.
 abbrev pub IsTold : Told → State → Type 0

@@ -13,13 +13,14 @@ pub record Session : Type 0 where
   pub cut : Bool
   pub queue : List Item
 
--- What contracts see of the sessions: how many were opened, those that are attached, for how many more items the queue of each has room, and
--- for how many more sessions there is room.
+-- What contracts see of the sessions: how many were opened, those that are attached, for how many more items the queue of each has room, for
+-- how many more sessions there is room, and for how many more operations the index of who asks for a name has room.
 pub record State : Type 0 where
   pub opened : ℕ
   pub sessions : List Session
   pub room : List ℕ
   pub places : ℕ
+  pub filing : ℕ
 
 -- a session as a history has it
 abbrev pub session_in : List Entry → ℕ → Session

@@ -13,7 +13,6 @@ use Rattle.mdns_history.specs.Questions.{keys_of}
 use Rattle.mdns_history.specs.Sessions.{Accepted, has_op}
 use Rattle.mdns_cache.specs.Ended.{is_among}
 use Rattle.mdns_happened.specs.declared.around.Around.{Around}
-use Rattle.mdns_happened.specs.declared.around.Registered.{Registered}
 use Rattle.mdns_happened.specs.declared.walk.Walk.{Walk}
 use Rattle.mdns_happened.specs.Registrations.{is_told, AreRegistered}
 use Rattle.mdns_happened.specs.Told.{Told}
@@ -119,12 +118,6 @@ pub record IsInOrder (compared : Compared) : Type 0 where
 abbrev pub walk_for : List Key → List Walk → Option Walk
 walk_for [] walks = None
 walk_for (question ∷ more) walks = walk_of question.name walks
-
--- the operations that walks and registrations may concern
-abbrev pub concerned : List Walk → List Registered → List Operation → List Operation
-concerned [] [] operations = []
-concerned [] (one ∷ told) operations = operations
-concerned (walk ∷ walks) told operations = operations
 
 -- the names that are among some are among more
 abbrev pub AreWithin : List (List (List ℕ)) → List (List (List ℕ)) → Type 0

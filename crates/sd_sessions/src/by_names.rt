@@ -18,10 +18,12 @@ ghost use Rattle.sd_sessions.specs.Changes.{had, items_between};
 ghost use Rattle.sd_sessions.specs.Codes.{is_running};
 ghost use Rattle.sd_sessions.specs.Settling.{called, brought_told, change_told};
 ghost use Rattle.sd_sessions.specs.Kept.{session_of, sessions_of, AreWellFormed, HaveWellFormed, IsWellFormedCall};
-ghost use Rattle.sd_sessions.specs.Walked.{concerned, walk_for, IsSeen, IsSeenOf, IsCompared, IsInOrder};
+ghost use Rattle.sd_sessions.specs.Walked.{walk_for, IsSeen, IsSeenOf, IsCompared, IsInOrder};
+ghost use Rattle.sd_sessions.specs.Concerned.{concerned, has_one, IsCallCovered, IsCallMet, IsCovered, IsMet};
 
 use crate::change::{SessionChange, called, or_own};
 use crate::codes::{is_running, registers};
+use crate::concerned::numbers_of;
 use crate::items::{put_adds, put_removes};
 use crate::session::SessionState;
 use dns_record::Key;
@@ -29,6 +31,7 @@ use mdns_happened::{Around, Happened, Registered, Walk, registered_in, walk_of};
 use mdns_history::{Items, Operation};
 use sd_answer::{Answers, KnownRecords, answers_of, questions_of};
 use sd_call::{Answer, Item};
+use sd_index::Asker;
 use std::alloc::{AllocError, Global};
 
 /// The answers of an operation before an event and after it.
@@ -38,21 +41,36 @@ pub struct Compared {
     pub has: Answers,
 }
 
-/// The changes of all sessions, in their order. Refused only for want of memory.
+/// What is looked up around an event, and the numbers of the operations of a session that it concerns.
+#[derive(Drop)]
+struct Looked<'a> {
+    around: &'a Around<'a>,
+    numbers: &'a [u32],
+}
+
+/// The changes of all sessions, in their order, where an event concerns no operations but these. Refused only for want of memory.
 pub fn changes_by_names(
     alloc: Global,
     sessions: &[SessionState],
+    concerned: &[Asker],
     happened: &Happened<'_>,
     around: &Around<'_>,
 ) -> Result<Vec<SessionChange>, AllocError>
     requires operations { HaveWellFormed (sessions_of sessions.now) }
     requires call { IsWellFormedCall (told_by happened.now).call }
+    requires met { AllByRecursion (IsMet concerned.now around.now) (sessions_of sessions.now) }
+    requires called { IsCallMet concerned.now (told_by happened.now).call }
     ensures { IfOk result (λ changes. (earlier later : View) → AllByRecursion (IsSeen (told_by happened.now) earlier later around.now) (sessions_of sessions.now)
         → changes.items ≡ map (change_told (told_by happened.now) (answered earlier) (answered later)) (sessions_of sessions.now)) }
 {
     let mut changes = Vec::new(alloc);
     for session in sessions {
-        changes.push(change_by_names(alloc, session, happened, around)?)?;
+        let numbers = numbers_of(alloc, concerned, session.number)?;
+        let looked = Looked {
+            around,
+            numbers: &numbers,
+        };
+        changes.push(change_by_names(alloc, session, happened, &looked)?)?;
     }
     Ok(changes)
 }
@@ -61,16 +79,18 @@ fn change_by_names(
     alloc: Global,
     session: &SessionState,
     happened: &Happened<'_>,
-    around: &Around<'_>,
+    looked: &Looked<'_>,
 ) -> Result<SessionChange, AllocError>
     requires operations { AreWellFormed session.now.operations }
     requires call { IsWellFormedCall (told_by happened.now).call }
-    ensures { IfOk result (λ change. (earlier later : View) → IsSeen (told_by happened.now) earlier later around.now (session_of session.now)
+    requires covered { AllByRecursion (IsCovered looked.now.numbers.now looked.now.around.now) session.now.operations }
+    requires called { IsCallCovered looked.now.numbers.now session.now.number (told_by happened.now).call }
+    ensures { IfOk result (λ change. (earlier later : View) → IsSeen (told_by happened.now) earlier later looked.now.around.now (session_of session.now)
         → change ≡ change_told (told_by happened.now) (answered earlier) (answered later) (session_of session.now)) }
 {
     let operations = called(alloc, session, happened)?;
     let after = or_own(&operations, &session.operations);
-    let brought = bring_by_names(alloc, session, after, happened, around)?;
+    let brought = bring_by_names(alloc, session, after, happened, looked)?;
     let cuts = session.outbox.passes(brought.as_slice());
     Ok(SessionChange {
         session: session.number,
@@ -86,10 +106,11 @@ fn bring_by_names(
     session: &SessionState,
     after: &[Operation],
     happened: &Happened<'_>,
-    around: &Around<'_>,
+    looked: &Looked<'_>,
 ) -> Result<Items, AllocError>
-    requires { AreWellFormed after.now }
-    ensures { IfOk result (λ items. (earlier later : View) → IsSeen (told_by happened.now) earlier later around.now (session_of session.now)
+    requires formed { AreWellFormed after.now }
+    requires covered { AllByRecursion (IsCovered looked.now.numbers.now looked.now.around.now) after.now }
+    ensures { IfOk result (λ items. (earlier later : View) → IsSeen (told_by happened.now) earlier later looked.now.around.now (session_of session.now)
         → after.now ≡ unwrap_or (called (told_by happened.now).call session.now.number session.now.operations) session.now.operations
         → items ≡ brought_told (told_by happened.now) (answered earlier) (answered later) (session_of session.now)) }
 {
@@ -98,7 +119,7 @@ fn bring_by_names(
     }
     let reply = happened.reply_to(session.number);
     let before = session.operations.as_slice();
-    let items = items_by_names(alloc, reply, before, after, around)?;
+    let items = items_by_names(alloc, reply, before, after, looked)?;
     Ok(items)
 }
 
@@ -115,17 +136,18 @@ fn items_by_names(
     reply: Option<Item>,
     before: &[Operation],
     after: &[Operation],
-    around: &Around<'_>,
+    looked: &Looked<'_>,
 ) -> Result<Items, AllocError>
-    requires { AreWellFormed after.now }
-    ensures { IfOk result (λ items. (earlier later : View) → AllByRecursion (IsSeenOf earlier later around.now before.now) after.now
+    requires formed { AreWellFormed after.now }
+    requires covered { AllByRecursion (IsCovered looked.now.numbers.now looked.now.around.now) after.now }
+    ensures { IfOk result (λ items. (earlier later : View) → AllByRecursion (IsSeenOf earlier later looked.now.around.now before.now) after.now
         → items ≡ items_between (answered earlier) (answered later) reply before.now after.now) }
 {
     let mut brought = replied(alloc, reply)?;
     let mut adds = Items::new(alloc);
-    let operations = concerned(after, around);
+    let operations = concerned(after, looked.numbers);
     for operation in operations {
-        let found = compare_answers(alloc, before, operation, around)?;
+        let found = compare_answers(alloc, before, operation, looked)?;
         put_compared(&mut brought, &mut adds, operation.op, found)?;
     }
     brought.append(adds)?;
@@ -167,34 +189,40 @@ fn put_compared(
 }
 
 // The operations that walks and registrations may concern: none where there are neither.
-fn concerned<'a>(operations: &'a [Operation], around: &Around<'_>) -> &'a [Operation]
-    ensures { result.now ≡ concerned around.now.walks.now around.now.registered.now operations.now }
+fn concerned<'a>(operations: &'a [Operation], numbers: &[u32]) -> &'a [Operation]
+    ensures { result.now ≡ concerned numbers.now operations.now }
 {
-    if around.walks.is_empty() && around.registered.is_empty() {
-        &[]
-    } else {
-        operations
-    }
+    if numbers.is_empty() { &[] } else { operations }
 }
 
-// The answers of an operation before and after; `None` where they are the same: its name was not walked, or nothing is told of it as a
-// registration.
+// The answers of an operation before and after; `None` where they are the same: the event doesn't concern it, its name was not walked, or
+// nothing is told of it as a registration.
 fn compare_answers(
     alloc: Global,
     before: &[Operation],
     operation: &Operation,
-    around: &Around<'_>,
+    looked: &Looked<'_>,
 ) -> Result<Option<Compared>, AllocError>
-    requires { IsTrue (well_formed operation.now.request) }
-    ensures value { IfOk result (λ found. (earlier later : View) → IsSeenOf earlier later around.now before.now operation.now
+    requires formed { IsTrue (well_formed operation.now.request) }
+    requires covered { IsCovered looked.now.numbers.now looked.now.around.now operation.now }
+    ensures value { IfOk result (λ found. (earlier later : View) → IsSeenOf earlier later looked.now.around.now before.now operation.now
         → IsCompared found (had (answered earlier) before.now operation.now.op) (answered later operation.now)) }
     ensures sorted { IfOk result (λ found. IfSome found (λ compared. IsInOrder compared)) }
 {
-    if registers(&operation.request) {
-        compare_registered(alloc, before, operation, around)
+    if !has_one(looked.numbers, operation.op) {
+        Ok(None)
+    } else if registers(&operation.request) {
+        compare_registered(alloc, before, operation, looked.around)
     } else {
-        compare_walked(alloc, before, operation, around)
+        compare_walked(alloc, before, operation, looked.around)
     }
+}
+
+// Whether a number is one of several.
+fn has_one(numbers: &[u32], op: u32) -> bool
+    ensures { result ≡ has_one numbers.now op }
+{
+    numbers.iter().any(|number| *number == op)
 }
 
 // The answers of a registration before and after; `None` where nothing is told of it.

@@ -3,7 +3,7 @@ ghost use Rattle.std.specs.Prelude.{◌≡◌, ◌^◌, ◌<◌, length};
 ghost use Rattle.std.specs.List.{find};
 ghost use Rattle.std.specs.Option.{option_copied};
 ghost use Rattle.sd_call.specs.Requests.{is_register, is_start};
-ghost use Rattle.mdns_history.specs.Sessions.{has_op};
+ghost use Rattle.mdns_history.specs.Sessions.{has_op, is_stop};
 ghost use Rattle.sd_sessions.specs.Codes.{kept_code, is_running, is_too_many, refers_to_none, is_foreign, updates_none};
 
 use mdns_history::Operation;
@@ -63,8 +63,8 @@ pub fn call_code(known: Registering, operations: &[Operation], op: u32, request:
     }
 }
 
-// Whether a request begins an operation.
-fn is_start(request: &Request) -> bool
+/// Whether a request begins an operation.
+pub fn is_start(request: &Request) -> bool
     ensures { result ≡ is_start request.now }
 {
     !matches!(request, Request::Update { .. } | Request::Stop)
@@ -89,8 +89,15 @@ pub fn registers(request: &Request) -> bool
     matches!(request, Request::Register { .. })
 }
 
-// The operation of a number.
-fn operation_of(operations: &[Operation], op: u32) -> Option<&Operation>
+/// Whether a request stops an operation.
+pub fn is_stop(request: &Request) -> bool
+    ensures { result ≡ is_stop request.now }
+{
+    matches!(request, Request::Stop)
+}
+
+/// The operation of a number.
+pub fn operation_of(operations: &[Operation], op: u32) -> Option<&Operation>
     ensures { option_copied result ≡ find (has_op op) operations.now }
 {
     operations.iter().find(|operation| operation.op == op)

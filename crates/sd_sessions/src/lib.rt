@@ -4,6 +4,8 @@
 mod by_names;
 mod change;
 mod codes;
+mod concerned;
+mod index;
 mod items;
 mod law;
 mod names;

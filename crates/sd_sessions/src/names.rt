@@ -5,33 +5,40 @@ ghost use Rattle.sd_call.specs.Requests.{well_formed};
 ghost use Rattle.mdns_history.specs.Questions.{keys_of};
 ghost use Rattle.mdns_cache.specs.Ended.{is_among};
 ghost use Rattle.mdns_happened.specs.Told.{told_by};
-ghost use Rattle.sd_sessions.specs.Kept.{sessions_of, AreWellFormed, HaveWellFormed, IsWellFormedCall};
-ghost use Rattle.sd_sessions.specs.Walked.{AreNamed, AreWithin, IsCallNamed, IsNamed};
+ghost use Rattle.sd_sessions.specs.Kept.{IsWellFormedCall};
+ghost use Rattle.sd_sessions.specs.Walked.{AreWithin, IsCallNamed};
+ghost use Rattle.sd_sessions.specs.Indexed.{is_asked, ArePut};
 
-use crate::session::SessionState;
 use dns_name::Name;
 use dns_record::Key;
 use mdns_happened::Happened;
-use mdns_history::Operation;
 use sd_answer::questions_of;
 use sd_call::Request;
+use sd_index::Askers;
 use std::alloc::AllocError;
 
-/// Puts the touched names that operations of the sessions ask for. Refused only for want of memory.
+/// Puts the touched names that operations ask for. Refused only for want of memory.
 pub fn put_touched(
     names: &mut Vec<Name>,
-    sessions: &[SessionState],
+    askers: &Askers,
     touched: &[Name],
 ) -> Result<(), AllocError>
-    requires { HaveWellFormed (sessions_of sessions.now) }
     ensures kept { OnOk result (AreWithin names.old.items names.new.items) }
-    ensures asked { OnOk result (AreNamed touched.now names.new.items (sessions_of sessions.now)) }
+    ensures put { OnOk result (ArePut touched.now askers.now.entries names.new.items) }
 {
-    if touched.is_empty() {
-        return Ok(());
+    for name in touched {
+        put_if_asked(names, askers, name)?;
     }
-    for session in sessions {
-        put_touched_by_all(names, session.operations.as_slice(), touched)?;
+    Ok(())
+}
+
+// Puts a name that operations ask for.
+fn put_if_asked(names: &mut Vec<Name>, askers: &Askers, name: &Name) -> Result<(), AllocError>
+    ensures kept { OnOk result (AreWithin names.old.items names.new.items) }
+    ensures put { OnOk result (is_asked askers.now.entries name.now ≡ true → is_among names.new.items name.now ≡ true) }
+{
+    if askers.has(name) {
+        put_once(names, name)?;
     }
     Ok(())
 }
@@ -52,52 +59,6 @@ pub fn put_called(names: &mut Vec<Name>, happened: &Happened<'_>) -> Result<(), 
     }
 }
 
-// Puts the touched names that operations ask for.
-fn put_touched_by_all(
-    names: &mut Vec<Name>,
-    operations: &[Operation],
-    touched: &[Name],
-) -> Result<(), AllocError>
-    requires { AreWellFormed operations.now }
-    ensures kept { OnOk result (AreWithin names.old.items names.new.items) }
-    ensures asked { OnOk result (AllByRecursion (λ operation. IsNamed touched.now names.new.items operation.request) operations.now) }
-{
-    for operation in operations {
-        put_touched_by(names, &operation.request, touched)?;
-    }
-    Ok(())
-}
-
-// Puts the names that a request asks for and that are touched.
-fn put_touched_by(
-    names: &mut Vec<Name>,
-    request: &Request,
-    touched: &[Name],
-) -> Result<(), AllocError>
-    requires { IsTrue (well_formed request.now) }
-    ensures kept { OnOk result (AreWithin names.old.items names.new.items) }
-    ensures asked { OnOk result (IsNamed touched.now names.new.items request.now) }
-{
-    let questions = questions_of(request);
-    put_touched_names(names, questions.as_slice(), touched)?;
-    Ok(())
-}
-
-// Puts the names of questions that are touched.
-fn put_touched_names(
-    names: &mut Vec<Name>,
-    questions: &[Key],
-    touched: &[Name],
-) -> Result<(), AllocError>
-    ensures kept { OnOk result (AreWithin names.old.items names.new.items) }
-    ensures asked { OnOk result (AllByRecursion (λ key. is_among touched.now key.name ≡ true → is_among names.new.items key.name ≡ true) questions.now) }
-{
-    for question in questions {
-        put_if_touched(names, &question.name, touched)?;
-    }
-    Ok(())
-}
-
 // Puts the names that a request asks for.
 fn put_asked(names: &mut Vec<Name>, request: &Request) -> Result<(), AllocError>
     requires { IsTrue (well_formed request.now) }
@@ -116,17 +77,6 @@ fn put_names_of(names: &mut Vec<Name>, questions: &[Key]) -> Result<(), AllocErr
 {
     for question in questions {
         put_once(names, &question.name)?;
-    }
-    Ok(())
-}
-
-// Puts a name that is touched.
-fn put_if_touched(names: &mut Vec<Name>, name: &Name, touched: &[Name]) -> Result<(), AllocError>
-    ensures kept { OnOk result (AreWithin names.old.items names.new.items) }
-    ensures put { OnOk result (is_among touched.now name.now ≡ true → is_among names.new.items name.now ≡ true) }
-{
-    if is_among(touched, name) {
-        put_once(names, name)?;
     }
     Ok(())
 }

@@ -15,6 +15,8 @@ ghost use Rattle.sd_sessions.specs.Walked.{AreBeside, AreNamed, IsCallNamed, Are
 use crate::by_names::changes_by_names;
 use crate::change::{SessionChange, gifts, put_cuts};
 use crate::codes::{Registering, call_code};
+use crate::concerned::find_concerned;
+use crate::index::{make_entry, refile};
 use crate::names::{put_called, put_touched};
 use crate::session::{SessionState, find};
 use crate::settle::{finish, make_room, settle};
@@ -22,6 +24,7 @@ use dns_name::Name;
 use mdns_happened::{Around, Happened, Idle};
 use mdns_history::{Event, Gifts, Marks, Operation, Outcome};
 use sd_call::{Item, Request};
+use sd_index::Askers;
 use std::alloc::{AllocError, Global};
 use std::marker::Model;
 
@@ -37,6 +40,8 @@ pub struct Sessions {
     alloc: Global,
     opened: u64,
     attached: Vec<SessionState>,
+    // The operations of the attached sessions, by the name that they ask for.
+    askers: Askers,
 }
 
 /// What an event changes in the sessions, in their order, and room for what a take hands over.
@@ -50,6 +55,7 @@ impl Model for Sessions {
     ghost use Rattle.std.specs.Prelude.{◌-◌, map, vec_len, vec_capacity};
     ghost use Rattle.sd_sessions.specs.Sessions.{State};
     ghost use Rattle.sd_sessions.specs.Kept.{sessions_of, AreKept};
+    ghost use Rattle.sd_sessions.specs.Indexed.{AreIndexed};
 
     ghost Value = { State };
 
@@ -58,14 +64,23 @@ impl Model for Sessions {
       sessions = sessions_of s.attached.items;
       room = map (λ one. one.outbox.spare) s.attached.items;
       places = vec_capacity s.attached - vec_len s.attached;
+      filing = s.askers.spare;
     } };
 
-    ghost invariant = { λ s. AreKept s.opened (sessions_of s.attached.items) };
+    ghost invariant = { λ s. AreKept s.opened (sessions_of s.attached.items) × AreIndexed s.askers.entries (sessions_of s.attached.items) };
 }
 
 impl Sessions {
-    /// No sessions.
+    /// No sessions, whose index has no secret key.
     pub fn new(alloc: Global) -> Sessions
+        ensures opened { result.opened ≡ 0 }
+        ensures sessions { result.sessions ≡ [] }
+    {
+        Sessions::with_key(alloc, 0)
+    }
+
+    /// No sessions. Names that operations ask for can't be chosen to collide by who doesn't know the key.
+    pub fn with_key(alloc: Global, key: u64) -> Sessions
         ensures opened { result.opened ≡ 0 }
         ensures sessions { result.sessions ≡ [] }
     {
@@ -73,6 +88,7 @@ impl Sessions {
             alloc,
             opened: 0,
             attached: Vec::new(alloc),
+            askers: Askers::new(alloc, key),
         }
     }
 
@@ -150,7 +166,7 @@ impl Sessions {
         ensures asked { OnOk result (AreNamed touched.now names.new.items self.now.sessions) }
         ensures call { OnOk result (IsCallNamed names.new.items (told_by happened.now).call) }
     {
-        put_touched(names, &self.attached, touched)?;
+        put_touched(names, &self.askers, touched)?;
         put_called(names, happened)?;
         Ok(())
     }
@@ -166,7 +182,8 @@ impl Sessions {
             → AreBeside (told_by happened.now) earlier later around.now self.now.sessions
             → IsPlan (told_by happened.now) (answered earlier) (answered later) self.now.sessions plan) }
     {
-        let changes = changes_by_names(self.alloc, &self.attached, happened, around)?;
+        let concerned = find_concerned(self.alloc, &self.askers, happened, around)?;
+        let changes = changes_by_names(self.alloc, &self.attached, &concerned, happened, around)?;
         let taken = room_to_take(self.alloc, happened)?;
         Ok(Plan { changes, taken })
     }
@@ -179,6 +196,7 @@ impl Sessions {
         ensures ready { OnOk result (IsReady (told_by happened.now) plan.now self.new) }
     {
         prepare(&mut self.attached, &plan.changes, happened)?;
+        make_entry(&mut self.askers, happened)?;
         Ok(())
     }
 
@@ -192,6 +210,7 @@ impl Sessions {
         ensures sessions { self.new.sessions ≡ sessions_told (told_by happened.now).taking
             (shifted_told (told_by happened.now) self.old.sessions plan.changes.items) }
     {
+        refile(&mut self.askers, &self.attached, happened);
         let outcome = carry_out(
             self.alloc,
             &mut self.attached,

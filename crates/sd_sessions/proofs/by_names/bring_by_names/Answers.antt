@@ -15,8 +15,8 @@ returns c = λ earlier later seen after.
     let told : Told = told_by c.args.happened.now in
     let operations : List Operation = c.args.session.now.operations in
     let before : c.as_slice-before.result.now ≡ operations = c.as_slice-before.ensures in
-    let all : AllByRecursion (IsSeenOf earlier later c.args.around.now c.as_slice-before.result.now) c.args.after.now =
-    subst (λ (os : List Operation). AllByRecursion (IsSeenOf earlier later c.args.around.now os) c.args.after.now) (sym before)
-    (subst (AllByRecursion (IsSeenOf earlier later c.args.around.now operations)) (sym after) (seen-after told earlier later c.args.around.now (session_of c.args.session.now) seen)) in
+    let all : AllByRecursion (IsSeenOf earlier later c.args.looked.now.around.now c.as_slice-before.result.now) c.args.after.now =
+    subst (λ (os : List Operation). AllByRecursion (IsSeenOf earlier later c.args.looked.now.around.now os) c.args.after.now) (sym before)
+    (subst (AllByRecursion (IsSeenOf earlier later c.args.looked.now.around.now operations)) (sym after) (seen-after told earlier later c.args.looked.now.around.now (session_of c.args.session.now) seen)) in
     brought-uncut told (answered earlier) (answered later) (session_of c.args.session.now) c.in_ok-items.items (sym c.gets_nothing.ensures ∙ c.if-gets_nothing.false)
     (c.in_ok-items.ensures earlier later all ∙ (λ i. items_between (answered earlier) (answered later) (c.reply_to-reply.ensures i) (before i) (after i)))

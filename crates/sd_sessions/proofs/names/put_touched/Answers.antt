@@ -1,29 +1,17 @@
-use Rattle.std.proofs.Common.{◌≡◌, ℕ, List, length, rules, subst, sym}
-use Rattle.std.specs.List.{AllByRecursion}
-use Rattle.mdns_history.specs.declared.operation.Operation.{Operation}
-use Rattle.sd_sessions.specs.declared.session.SessionState.{SessionState}
-use Rattle.sd_sessions.specs.Sessions.{Session}
-use Rattle.sd_sessions.specs.Kept.{session_of, sessions_of, HaveWellFormed}
-use Rattle.sd_sessions.specs.Walked.{IsNamed, AreNamed}
-use Rattle.sd_sessions.proofs.Named.{each-map-next, operations-named-more, none-named}
-use Rattle.sd_sessions.proofs.Nexts.{drop-next}
-use Rattle.sd_sessions.proofs.Settled.{none-of}
+use Rattle.std.proofs.Common.{ℕ, List, subst}
+use Rattle.std.proofs.lemmas.List.{take_all}
+use Rattle.sd_sessions.specs.Indexed.{ArePut}
+use Rattle.sd_sessions.proofs.IndexNamed.{put-next}
 use Rattle.sd_sessions.proofs.names.put_touched.Goals as goal
 
-pub returns-then-is_empty-clause-asked : goal.returns-then-is_empty-clause-asked
-returns-then-is_empty-clause-asked c =
-    let none : length c.args.touched.now ≡ 0 = search rules in
-    subst (λ (names : List (List (List ℕ))). AreNamed names c.args.names.now.items (sessions_of c.args.sessions.now)) (sym (none-of c.args.touched.now none)) (none-named c.args.names.now.items (sessions_of c.args.sessions.now))
-
-pub loop-session-preserved : goal.loop-session-preserved
-loop-session-preserved c =
-    let before : Session → Type 0 = λ session. AllByRecursion (λ (o : Operation). IsNamed c.args.touched.now c.loop-session.names.items o.request) session.operations in
-    let now : Session → Type 0 = λ session. AllByRecursion (λ (o : Operation). IsNamed c.args.touched.now c.put_touched_by_all.new.names.items o.request) session.operations in
+pub loop-name-preserved : goal.loop-name-preserved
+loop-name-preserved c =
     record {
-      kept = λ name h. c.in_ok-put_touched_by_all.ensures.kept name (c.loop-session.invariant.kept name h);
-      asked = each-map-next session_of before now
-          (λ session k. operations-named-more c.args.touched.now c.loop-session.names.items c.put_touched_by_all.new.names.items c.in_ok-put_touched_by_all.ensures.kept session.operations k)
-          c.args.sessions.now c.loop-session.session-index c.session-item.result c.loop-session-test.true c.session-item.is c.loop-session.invariant.asked
-          (subst (AllByRecursion (λ (o : Operation). IsNamed c.args.touched.now c.put_touched_by_all.new.names.items o.request)) c.as_slice.ensures c.in_ok-put_touched_by_all.ensures.asked);
-      formed = (subst (λ (l : List SessionState). HaveWellFormed (sessions_of l)) (drop-next c.args.sessions.now c.loop-session.session-index c.session-item.result c.loop-session-test.true c.session-item.is) c.loop-session.invariant.formed).1;
+      kept = λ name h. c.in_ok-put_if_asked.ensures.kept name (c.loop-name.invariant.kept name h);
+      put = put-next c.args.touched.now c.loop-name.name-index c.name-item.result c.args.askers.now.entries c.loop-name.names.items c.put_if_asked.new.names.items c.loop-name-test.true c.name-item.is
+          c.in_ok-put_if_asked.ensures.kept c.loop-name.invariant.put c.in_ok-put_if_asked.ensures.put;
     }
+
+pub returns-clause-put : goal.returns-clause-put
+returns-clause-put c =
+    subst (λ (l : List (List (List ℕ))). ArePut l c.args.askers.now.entries c.loop-name.names.items) (take_all c.loop-name.name-index c.args.touched.now c.loop-name-test.false) c.loop-name.invariant.put

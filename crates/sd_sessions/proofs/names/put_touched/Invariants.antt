@@ -1,12 +1,11 @@
-use Rattle.std.proofs.Common.{take, drop}
-use Rattle.sd_sessions.specs.Kept.{sessions_of, HaveWellFormed}
-use Rattle.sd_sessions.specs.Walked.{AreNamed, AreWithin}
+use Rattle.std.proofs.Common.{take}
+use Rattle.sd_sessions.specs.Walked.{AreWithin}
+use Rattle.sd_sessions.specs.Indexed.{ArePut}
 use Rattle.sd_sessions.proofs.names.put_touched.Given as goal
 
-abbrev pub invariant-loop-session : goal.invariant-loop-session
-invariant-loop-session l =
+abbrev pub invariant-loop-name : goal.invariant-loop-name
+invariant-loop-name l =
     record {
       kept : AreWithin l.initial.names.items l.names.items;
-      asked : AreNamed l.touched l.names.items (sessions_of (take l.session-index l.sessions));
-      formed : HaveWellFormed (sessions_of (drop l.session-index l.sessions));
+      put : ArePut (take l.name-index l.touched) l.askers.entries l.names.items;
     }

@@ -10,4 +10,5 @@ returns-clause-ready c =
       queues = room-seen c.prepare.new.sessions.items c.args.plan.now.changes.items
           (subst (λ (changes : List SessionChange). HaveRoom c.prepare.new.sessions.items changes) c.deref.ensures.value c.in_ok-prepare.ensures.room);
       place = λ opens. let less = c.in_ok-prepare.ensures.place opens in omega (arith, less);
+      filing = c.in_ok-make_entry.ensures.room;
     }

@@ -1,0 +1,154 @@
+-- The operations that an event leaves, where it concerns none but of some numbers.
+use Rattle.std.proofs.Common.{◌≡◌, ℕ, ◌==◌, Bool, true, false, cond, not, ◌||◌, List, [], ◌∷◌, ◌++◌, Option, Some, None, IsPermutation, refl, ap, subst, ◌∙◌, sym, true≢false}
+use Rattle.std.specs.List.{list_any, AllByRecursion}
+use Rattle.std.specs.Option.{unwrap_or}
+use Rattle.std.specs.Str.{bytes_eq}
+use Rattle.std.proofs.lemmas.Bool.{and_parts, or_left, or_right, eqb-true}
+use Rattle.std.proofs.lemmas.List.Folds.{list_any-append}
+use Rattle.std.proofs.lemmas.List.Sorted.{list_any-IsPermutation}
+use Rattle.std.proofs.lemmas.Slice.Eq.{bytes_eq-Decides}
+use Rattle.dns_record.specs.declared.record.Key.{Key}
+use Rattle.sd_call.specs.declared.request.Request.{Request}
+use Rattle.sd_call.specs.declared.request.Request.TheVariants as request
+use Rattle.mdns_history.specs.declared.operation.Operation.{Operation}
+use Rattle.mdns_history.specs.Questions.{keys_of}
+use Rattle.mdns_history.specs.Sessions.{Accepted, after_request, has_op, updated}
+use Rattle.mdns_cache.proofs.ListLemmas.{each-filter}
+use Rattle.mdns_happened.specs.declared.around.Around.{Around}
+use Rattle.mdns_happened.specs.declared.around.Registered.{Registered}
+use Rattle.mdns_happened.specs.declared.walk.Walk.{Walk}
+use Rattle.mdns_happened.specs.Registrations.{is_of, registered_in}
+use Rattle.mdns_happened.specs.Walks.{is_for, walk_of}
+use Rattle.by_name.specs.At.{At, owner_of}
+use Rattle.sd_index.specs.declared.asker.Asker.{Asker}
+use Rattle.sd_index.specs.Asked.{asker_eq, askers_of, asks}
+use Rattle.sd_sessions.specs.Sessions.{Session}
+use Rattle.sd_sessions.specs.Settling.{called}
+use Rattle.sd_sessions.specs.Kept.{HaveOwn, AreOwn}
+use Rattle.sd_sessions.specs.Walked.{walk_for}
+use Rattle.sd_sessions.specs.Indexed.{asker_for, AreIndexed}
+use Rattle.sd_sessions.specs.Concerned.{asker_at, concerned, has_one, is_one_of, AreToldMet, IsApart, IsCallCovered, IsCallMet, IsCovered, IsMet, IsWalkMet}
+use Rattle.sd_sessions.proofs.Asking.{holds-found, passes-found}
+use Rattle.sd_sessions.proofs.IndexNamed.{IsFiled, all-filed, owner-alike}
+use Rattle.sd_sessions.proofs.Seen.{all-insert, all-map, updated_asks, updated_registers}
+
+-- ---- operations put behind others
+
+module _ (old now filed : List Asker) (put : IsPermutation now (old ++ filed)) (one : Asker) where
+  joined : is_one_of now one ≡ (is_one_of old one || is_one_of filed one)
+  joined = list_any-IsPermutation (asker_eq one) now (old ++ filed) put ∙ list_any-append (asker_eq one) old filed
+
+  pub stays-put : is_one_of old one ≡ true → is_one_of now one ≡ true
+  stays-put h = joined ∙ or_left (is_one_of old one) (is_one_of filed one) h
+
+  pub is-put : is_one_of filed one ≡ true → is_one_of now one ≡ true
+  is-put h = joined ∙ or_right (is_one_of old one) (is_one_of filed one) h
+
+-- ---- what an index has, and what is told, leaves the others apart
+
+module _ (entries : List (At × Asker)) (concerned : List Asker) (around : Around)
+    (walked : AllByRecursion (IsWalkMet entries concerned) around.walks.now) (told : AreToldMet concerned around.registered.now) where
+  module _ (o : Operation) (filed : IsFiled entries o) (none : is_one_of concerned (asker_for o) ≡ false) where
+    unwalked : (question : Key) (more : List Key) → keys_of o.request ≡ question ∷ more → (found : Option Walk) → walk_of question.name around.walks.now ≡ found → found ≡ None
+    unwalked question more asked None e = refl
+    unwalked question more asked (Some walk) e =
+        let met : IsWalkMet entries concerned walk = holds-found (IsWalkMet entries concerned) (is_for question.name) around.walks.now walk walked e in
+        let alike : owner_of walk.name ≡ owner_of question.name = owner-alike walk.name question.name (passes-found (is_for question.name) around.walks.now walk e) in
+        let first : list_any (λ (key : Key). bytes_eq (owner_of question.name) (owner_of key.name)) (question ∷ more) ≡ true =
+        or_left (bytes_eq (owner_of question.name) (owner_of question.name)) (list_any (λ (key : Key). bytes_eq (owner_of question.name) (owner_of key.name)) more)
+        ((bytes_eq-Decides (owner_of question.name) (owner_of question.name)).1 refl) in
+        let asks_it : asks (owner_of question.name) o.request ≡ true = ap (list_any (λ (key : Key). bytes_eq (owner_of question.name) (owner_of key.name))) asked ∙ first in
+        let there : is_one_of (askers_of (owner_of walk.name) entries) (asker_for o) ≡ true =
+        subst (λ (owner : List ℕ). is_one_of (askers_of owner entries) (asker_for o) ≡ true) (sym alike) (filed (owner_of question.name) asks_it) in
+        absurd (true≢false (sym (met (asker_for o) there) ∙ none))
+
+    unwalked-all : (keys : List Key) → keys_of o.request ≡ keys → walk_for keys around.walks.now ≡ None
+    unwalked-all [] e = refl
+    unwalked-all (question ∷ more) e = unwalked question more e (walk_of question.name around.walks.now) refl
+
+    untold : (found : Option Registered) → registered_in around.registered.now o.session o.op ≡ found → found ≡ None
+    untold None e = refl
+    untold (Some one) e =
+        let met : is_one_of concerned (asker_at one.session one.op) ≡ true =
+        holds-found (λ (r : Registered). is_one_of concerned (asker_at r.session r.op) ≡ true) (is_of o.session o.op) around.registered.now one told e in
+        let both = and_parts (one.session == o.session) (one.op == o.op) (passes-found (is_of o.session o.op) around.registered.now one e) in
+        let session : one.session ≡ o.session = eqb-true one.session o.session both.0 in
+        let op : one.op ≡ o.op = eqb-true one.op o.op both.1 in
+        let same : is_one_of concerned (asker_for o) ≡ true = (λ i. is_one_of concerned (asker_at (sym session i) (sym op i))) ∙ met in
+        absurd (true≢false (sym same ∙ none))
+
+    apart : IsApart around o
+    apart = record {
+      walked = λ other. unwalked-all (keys_of o.request) refl;
+      told = λ registers. untold (registered_in around.registered.now o.session o.op) refl;
+    }
+
+  operations-met : (number : ℕ) (os : List Operation) → AllByRecursion (IsFiled entries) os → AreOwn number os →
+      AllByRecursion (λ (o : Operation). is_one_of concerned (asker_at number o.op) ≡ false → IsApart around o) os
+  operations-met number [] filed own = tt
+  operations-met number (o ∷ os) filed own = (
+    λ none. apart o filed.0 (ap (λ (n : ℕ). is_one_of concerned (asker_at n o.op)) own.0 ∙ none),
+    operations-met number os filed.1 own.1,
+  )
+
+  -- Of the operations that aren't among those that are found nothing was walked or told.
+  pub all-met : (ss : List Session) → AreIndexed entries ss → HaveOwn ss → AllByRecursion (IsMet concerned around) ss
+  all-met ss are own = of ss (all-filed entries ss are) own
+    where
+      of : (xs : List Session) → AllByRecursion (λ (s : Session). AllByRecursion (IsFiled entries) s.operations) xs → HaveOwn xs → AllByRecursion (IsMet concerned around) xs
+      of [] filed k = tt
+      of (s ∷ xs) filed k = (operations-met s.number s.operations filed.0 k.0, of xs filed.1 k.1)
+
+-- ---- of one session
+
+module _ (askers : List Asker) (around : Around) (session : Session) (numbers : List ℕ) (are : (op : ℕ) → has_one numbers op ≡ is_one_of askers (asker_at session.number op)) where
+  pub session-covered : IsMet askers around session → AllByRecursion (IsCovered numbers around) session.operations
+  session-covered met = of session.operations met
+    where
+      of : (os : List Operation) → AllByRecursion (λ (o : Operation). is_one_of askers (asker_at session.number o.op) ≡ false → IsApart around o) os → AllByRecursion (IsCovered numbers around) os
+      of [] h = tt
+      of (o ∷ os) h = ((λ none. h.0 (sym (are o.op) ∙ none)), of os h.1)
+
+  pub call-covered : (call : Option Accepted) → IsCallMet askers call → IsCallCovered numbers session.number call
+  call-covered None met = tt
+  call-covered (Some call) met = λ e. are call.op ∙ ap (λ (n : ℕ). is_one_of askers (asker_at n call.op)) (sym (eqb-true call.session session.number e)) ∙ met
+
+-- ---- after a call
+
+module _ (numbers : List ℕ) (around : Around) where
+  abbrev Covered : Operation → Type 0
+  Covered operation = IsCovered numbers around operation
+
+  covered-updated : (op : ℕ) (txt : List ℕ) (o : Operation) → Covered o → Covered (updated op txt o)
+  covered-updated op txt o h none =
+      let before : IsApart around o = h none in
+      record {
+        walked = λ other. ap (λ (keys : List Key). walk_for keys around.walks.now) (updated_asks op txt o) ∙ before.walked (sym (updated_registers op txt o) ∙ other);
+        told = λ registers. before.told (sym (updated_registers op txt o) ∙ registers);
+      }
+
+  covered-insert : (o : Operation) (os : List Operation) → has_one numbers o.op ≡ true → AllByRecursion Covered os → AllByRecursion Covered (Rattle.dns_name.specs.Lists.insert_by Rattle.mdns_history.specs.Sessions.by_op o os)
+  covered-insert o os has all = all-insert Covered o os (λ none. absurd (true≢false (sym has ∙ none))) all
+
+  covered-request : (session op : ℕ) (r : Request) (os : List Operation) → has_one numbers op ≡ true → AllByRecursion Covered os → AllByRecursion Covered (after_request session op r os)
+  covered-request session op (request.Query kind name) os has all = covered-insert _ os has all
+  covered-request session op (request.Browse regtype) os has all = covered-insert _ os has all
+  covered-request session op (request.Resolve label regtype) os has all = covered-insert _ os has all
+  covered-request session op (request.Address families name) os has all = covered-insert _ os has all
+  covered-request session op (request.Register label regtype port norename txt) os has all = covered-insert _ os has all
+  covered-request session op (request.Update txt) os has all = all-map Covered (updated op txt) (covered-updated op txt) os all
+  covered-request session op request.Stop os has all = each-filter Covered (λ o. not (has_op op o)) os all
+
+  -- The operations that a call leaves are covered where it is.
+  pub covered-called : (call : Option Accepted) (number : ℕ) (os : List Operation) → IsCallCovered numbers number call → AllByRecursion Covered os →
+      AllByRecursion Covered (unwrap_or (called call number os) os)
+  covered-called None number os call all = all
+  covered-called (Some call) number os covered all = of (call.session == number) refl
+    where
+      of : (b : Bool) → (call.session == number) ≡ b → AllByRecursion Covered (unwrap_or (cond b (Some (after_request number call.op call.request os)) None) os)
+      of true e = covered-request number call.op call.request os (covered e) all
+      of false e = all
+
+pub all-concerned : (P : Operation → Type 0) (numbers : List ℕ) (os : List Operation) → AllByRecursion P os → AllByRecursion P (concerned numbers os)
+all-concerned P [] os all = tt
+all-concerned P (n ∷ numbers) os all = all

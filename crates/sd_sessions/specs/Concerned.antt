@@ -1,0 +1,69 @@
+-- Which operations an event concerns: of the others nothing was walked or told.
+use Rattle.std.specs.Prelude.{◌≡◌, ℕ, ◌==◌, Bool, true, false, List, [], ◌∷◌, Option, Some, None}
+use Rattle.std.specs.List.{list_any, AllByRecursion}
+use Rattle.sd_call.specs.Requests.{is_register}
+use Rattle.by_name.specs.At.{At, owner_of}
+use Rattle.mdns_history.specs.declared.operation.Operation.{Operation}
+use Rattle.mdns_history.specs.Questions.{keys_of}
+use Rattle.mdns_history.specs.Sessions.{Accepted}
+use Rattle.mdns_happened.specs.declared.around.Around.{Around}
+use Rattle.mdns_happened.specs.declared.around.Registered.{Registered}
+use Rattle.mdns_happened.specs.declared.walk.Walk.{Walk}
+use Rattle.mdns_happened.specs.Registrations.{registered_in}
+use Rattle.sd_index.specs.declared.asker.Asker.{Asker}
+use Rattle.sd_index.specs.Asked.{asker_eq, askers_of}
+use Rattle.sd_sessions.specs.Sessions.{Session}
+use Rattle.sd_sessions.specs.Walked.{walk_for}
+
+-- the operation of a session and a number
+abbrev pub asker_at : ℕ → ℕ → Asker
+asker_at session op = record { session = session; op = op }
+
+-- an operation is one of several
+abbrev pub is_one_of : List Asker → Asker → Bool
+is_one_of askers one = list_any (asker_eq one) askers
+
+-- a number is one of several
+abbrev pub has_one : List ℕ → ℕ → Bool
+has_one numbers op = list_any (λ (n : ℕ). n == op) numbers
+
+-- The name that an operation asks for was not walked, or nothing is told of it as a registration.
+pub record IsApart (around : Around) (operation : Operation) : Type 0 where
+  pub walked : is_register operation.request ≡ false → walk_for (keys_of operation.request) around.walks.now ≡ None
+  pub told : is_register operation.request ≡ true → registered_in around.registered.now operation.session operation.op ≡ None
+
+-- an event concerns no operation but of these numbers
+abbrev pub IsCovered : List ℕ → Around → Operation → Type 0
+IsCovered numbers around operation = has_one numbers operation.op ≡ false → IsApart around operation
+
+-- the operation of an accepted call of a session has one of these numbers
+abbrev pub IsCallCovered : List ℕ → ℕ → Option Accepted → Type 0
+IsCallCovered numbers number None = Unit {0}
+IsCallCovered numbers number (Some call) = (call.session == number) ≡ true → has_one numbers call.op ≡ true
+
+-- an event concerns no operation of a session but these
+abbrev pub IsMet : List Asker → Around → Session → Type 0
+IsMet concerned around session =
+    AllByRecursion (λ (operation : Operation). is_one_of concerned (asker_at session.number operation.op) ≡ false → IsApart around operation) session.operations
+
+-- the operation of an accepted call is one of these
+abbrev pub IsCallMet : List Asker → Option Accepted → Type 0
+IsCallMet concerned None = Unit {0}
+IsCallMet concerned (Some call) = is_one_of concerned (asker_at call.session call.op) ≡ true
+
+-- those that an index has under the name of a walk are among these
+abbrev pub IsWalkMet : List (At × Asker) → List Asker → Walk → Type 0
+IsWalkMet entries concerned walk = (one : Asker) → is_one_of (askers_of (owner_of walk.name) entries) one ≡ true → is_one_of concerned one ≡ true
+
+-- the registrations of which something is told are among these
+abbrev pub AreToldMet : List Asker → List Registered → Type 0
+AreToldMet concerned told = AllByRecursion (λ (one : Registered). is_one_of concerned (asker_at one.session one.op) ≡ true) told
+
+-- those that are among some are among more
+abbrev pub AreMore : List Asker → List Asker → Type 0
+AreMore some more = (one : Asker) → is_one_of some one ≡ true → is_one_of more one ≡ true
+
+-- the operations that an event may concern, where these are the numbers of those that it concerns
+abbrev pub concerned : List ℕ → List Operation → List Operation
+concerned [] operations = []
+concerned (number ∷ numbers) operations = operations
