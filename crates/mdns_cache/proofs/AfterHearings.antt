@@ -1,6 +1,5 @@
 -- Hearings of records in another order.
-use Rattle.std.proofs.Common.{◌≡◌, ℕ, Bool, true, false, cond, List, [], ◌∷◌, ◌++◌, map, filter, reverse, nat_lt, ◌+◌, ◌&&◌, count_by, length, sym, ap, subst, ◌∙◌, IsPermutation}
-use Rattle.std.proofs.lemmas.List.{reverse-append}
+use Rattle.std.proofs.Common.{◌≡◌, ℕ, Bool, true, false, cond, List, [], ◌∷◌, ◌++◌, map, filter, nat_lt, ◌+◌, ◌&&◌, count_by, length, sym, ap, subst, ◌∙◌, IsPermutation}
 use Rattle.std.proofs.lemmas.List.Sums.{length-filter}
 use Rattle.std.proofs.lemmas.List.Sorted.{length_permutation, IsPermutation-sym, IsPermutation-trans, IsPermutation-map, IsPermutation-append_left}
 use Rattle.std.specs.Map.{values_of}
@@ -27,13 +26,6 @@ after_hearing-permuted hearing one other moved = of (nat_lt 0 hearing.rr.ttl)
 pub after_hearings-permuted : (heard : List Hearing) (one other : List Held) → IsPermutation one other → IsPermutation (after_hearings one heard) (after_hearings other heard)
 after_hearings-permuted [] one other moved = moved
 after_hearings-permuted (hearing ∷ heard) one other moved = after_hearings-permuted heard (after_hearing one hearing) (after_hearing other hearing) (after_hearing-permuted hearing one other moved)
-
--- the last of those that are left is heard next
-pub next_heard : (moment word : ℕ) (rest : List Rr) (rr : Rr) (one other : List Held) → IsPermutation (after_hearing one (hearing_at moment word rr)) other →
-    IsPermutation (after_hearings one (map (hearing_at moment word) (reverse (rest ++ rr ∷ [])))) (after_hearings other (map (hearing_at moment word) (reverse rest)))
-next_heard moment word rest rr one other moved =
-    subst (λ (l : List Rr). IsPermutation (after_hearings one (map (hearing_at moment word) l)) (after_hearings other (map (hearing_at moment word) (reverse rest)))) (sym (reverse-append rest (rr ∷ [])))
-    (after_hearings-permuted (map (hearing_at moment word) (reverse rest)) (after_hearing one (hearing_at moment word rr)) other moved)
 
 -- counts don't depend on the order
 pub count_permuted : (p : Held → Bool) (one other : List Held) → IsPermutation one other → count_by p one ≡ count_by p other

@@ -13,6 +13,7 @@ pub mod Once
 pub mod Turns
 pub mod EndsFirst
 pub mod AfterHearings
+pub mod PuttingOff
 pub mod Kept
 pub mod Below
 pub mod NewOnes

@@ -70,14 +70,19 @@ shortened_apart : (hearing : Hearing) (rr : Rr) (held : List Held) → AllByRecu
 shortened_apart hearing rr [] h = tt
 shortened_apart hearing rr (one ∷ held) h = (h.0, shortened_apart hearing rr held h.1)
 
-pub AreOnce-after_hearing : (hearing : Hearing) (held : List Held) → AreOnce held → AreOnce (after_hearing held hearing)
-AreOnce-after_hearing hearing held once = of (nat_lt 0 hearing.rr.ttl)
+-- a hearing leaves no two that are the same, whatever it cuts
+pub AreOnce-after_cut : (cut hearing : Hearing) (held : List Held) → AreOnce held →
+    AreOnce (cond (nat_lt 0 hearing.rr.ttl) (map (shortened cut) (filter (is_other hearing.rr) held) ++ renewed hearing ∷ []) (map (shortened cut) held))
+AreOnce-after_cut cut hearing held once = of (nat_lt 0 hearing.rr.ttl)
   where
-    of : (b : Bool) → AreOnce (cond b (map (shortened hearing) (filter (is_other hearing.rr) held) ++ renewed hearing ∷ []) (map (shortened hearing) held))
+    of : (b : Bool) → AreOnce (cond b (map (shortened cut) (filter (is_other hearing.rr) held) ++ renewed hearing ∷ []) (map (shortened cut) held))
     of true =
-        AreOnce-push (map (shortened hearing) (filter (is_other hearing.rr) held)) (renewed hearing) (shortened_apart hearing hearing.rr (filter (is_other hearing.rr) held) (others_apart hearing.rr held))
-        (AreOnce-map hearing (filter (is_other hearing.rr) held) (AreOnce-filter (is_other hearing.rr) held once))
-    of false = AreOnce-map hearing held once
+        AreOnce-push (map (shortened cut) (filter (is_other hearing.rr) held)) (renewed hearing) (shortened_apart cut hearing.rr (filter (is_other hearing.rr) held) (others_apart hearing.rr held))
+        (AreOnce-map cut (filter (is_other hearing.rr) held) (AreOnce-filter (is_other hearing.rr) held once))
+    of false = AreOnce-map cut held once
+
+pub AreOnce-after_hearing : (hearing : Hearing) (held : List Held) → AreOnce held → AreOnce (after_hearing held hearing)
+AreOnce-after_hearing hearing held once = AreOnce-after_cut hearing hearing held once
 
 -- ---- what gives way
 

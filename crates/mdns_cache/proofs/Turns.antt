@@ -15,11 +15,11 @@ use Rattle.dns_record.specs.declared.record.Rr.{Rr}
 use Rattle.dns_record.specs.Records.{same, data_eq, kind_of}
 use Rattle.mdns_history.specs.declared.held.Held.{Held}
 use Rattle.mdns_history.specs.Hearings.{Hearing}
-use Rattle.mdns_history.specs.Lifetimes.{is_other, cuts}
+use Rattle.mdns_history.specs.Lifetimes.{cuts}
 use Rattle.by_name.specs.At.{At, at, at_eq, owner_of}
 use Rattle.by_name.specs.Filed.{found, HaveNoGap}
 use Rattle.by_name.proofs.Finding.{at_same, at_eq-laws, found_below}
-use Rattle.mdns_cache.specs.Lifetimes.{renewed, shortened, after_hearing}
+use Rattle.mdns_cache.specs.Lifetimes.{shortened}
 use Rattle.mdns_cache.specs.Named.{Entry, is_from, AreNamed, AreFiled}
 
 -- what a hearing leaves of an entry, where those of a name from a number on are still to be looked at
@@ -149,25 +149,6 @@ nothing_cut hearing positive still (one ∷ held) = λ i. uncut_is hearing one u
     uncut =
         (λ i. (same one.rr hearing.rr && zero_ttl i) || (still i && folded_eq one.rr.owner hearing.rr.owner && eqb (kind_of one.rr.rdata) (kind_of hearing.rr.rdata) && nat_lt (one.heard + 1000) hearing.moment))
         ∙ ap (λ (b : Bool). b || false) (back (same one.rr hearing.rr))
-
-filter_shortened : (hearing : Hearing) (held : List Held) → filter (is_other hearing.rr) (map (shortened hearing) held) ≡ map (shortened hearing) (filter (is_other hearing.rr) held)
-filter_shortened hearing [] = refl
-filter_shortened hearing (one ∷ held) = of (is_other hearing.rr one) (filter_shortened hearing held)
-  where
-    of : (b : Bool) → filter (is_other hearing.rr) (map (shortened hearing) held) ≡ map (shortened hearing) (filter (is_other hearing.rr) held) →
-        cond b (shortened hearing one ∷ filter (is_other hearing.rr) (map (shortened hearing) held)) (filter (is_other hearing.rr) (map (shortened hearing) held))
-        ≡ map (shortened hearing) (cond b (one ∷ filter (is_other hearing.rr) held) (filter (is_other hearing.rr) held))
-    of true ih = ap (λ (l : List Held). shortened hearing one ∷ l) ih
-    of false ih = ih
-
-pub heard_renewed : (hearing : Hearing) (held after : List Held) → nat_lt 0 hearing.rr.ttl ≡ true → IsPermutation (filter (is_other hearing.rr) (map (shortened hearing) held) ++ renewed hearing ∷ []) after →
-    IsPermutation (after_hearing held hearing) after
-heard_renewed hearing held after positive moved =
-    subst (λ (b : Bool). IsPermutation (cond b (map (shortened hearing) (filter (is_other hearing.rr) held) ++ renewed hearing ∷ []) (map (shortened hearing) held)) after) (sym positive)
-    (subst (λ (l : List Held). IsPermutation (l ++ renewed hearing ∷ []) after) (filter_shortened hearing held) moved)
-
-pub heard_goodbye : (hearing : Hearing) (held : List Held) → nat_lt 0 hearing.rr.ttl ≡ false → after_hearing held hearing ≡ map (shortened hearing) held
-heard_goodbye hearing held zero_ttl = ap (λ (b : Bool). cond b (map (shortened hearing) (filter (is_other hearing.rr) held) ++ renewed hearing ∷ []) (map (shortened hearing) held)) zero_ttl
 
 -- ---- no record is the same
 

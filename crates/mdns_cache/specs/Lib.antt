@@ -6,3 +6,4 @@ pub mod Ends
 pub mod Named
 pub mod Counted
 pub mod Printed
+pub mod Flushed

@@ -1,13 +1,15 @@
 // What hearings do to the records that are filed by name.
-ghost use Rattle.std.specs.Prelude.{◌≡◌, ℕ, suc, ◌+◌, ◌<◌, ◌≤◌, ◌^◌, [], ◌∷◌, ◌++◌, List, length, map, filter, min, slice_get, true, false, Some, None, IsSome};
+ghost use Rattle.std.specs.Prelude.{◌≡◌, ℕ, suc, ◌+◌, ◌<◌, ◌≤◌, ◌^◌, [], ◌∷◌, ◌++◌, List, length, map, filter, min, slice_get, not, ◌&&◌, ◌==◌, true, Some, None, IsSome};
 ghost use Rattle.std.specs.List.Sorted.{IsPermutation};
 ghost use Rattle.std.specs.Map.{keys_of, values_of};
 ghost use Rattle.indexmap.specs.Layout.{set_value_at};
 ghost use Rattle.mdns_history.specs.Lifetimes.{cuts, is_other};
-ghost use Rattle.dns_record.specs.Records.{same};
+ghost use Rattle.dns_name.specs.Names.{folded_eq};
+ghost use Rattle.dns_record.specs.Records.{same, kind_of};
 ghost use Rattle.by_name.specs.At.{at, owner_of};
 ghost use Rattle.by_name.specs.Filed.{found};
-ghost use Rattle.mdns_cache.specs.Lifetimes.{hearing_at, shortened, renewed, after_hearing, after_hearings};
+ghost use Rattle.mdns_cache.specs.Flushed.{is_flushed_by, without_flush, put_off, after_put_off};
+ghost use Rattle.mdns_cache.specs.Lifetimes.{hearing_at, shortened, renewed, after_hearings};
 ghost use Rattle.mdns_cache.specs.Ends.{IsPlayed};
 ghost use Rattle.mdns_cache.specs.Named.{AreFiled, AreOnce};
 
@@ -42,63 +44,85 @@ pub fn hear_all(
 {
     heard.reverse();
     while let Some(rr) = heard.pop() {
-        hear_one(records, nodes, now, word, rr);
+        hear_one(records, nodes, renewed(now, word, rr), heard.as_slice());
     }
 }
 
-// Hears one record: lives of its name are cut, what it is the same as gives way to it, and it is held itself.
-fn hear_one(records: &mut Holdings, nodes: &mut [usize], now: u64, word: u32, rr: Rr)
-    requires bound { now ≤ 2 ^ 53 }
+// Hears one record, which is as it is held then: lives of its name are cut, what it is the same as gives way to it, and it is held
+// itself. Its flush is put off where one of these flushes the same, which are heard behind it.
+fn hear_one(records: &mut Holdings, nodes: &mut [usize], one: Held, later: &[Rr])
+    requires bound { one.heard ≤ 2 ^ 53 }
+    requires renewed { one ≡ renewed (hearing_at one.heard one.word one.rr) }
     requires filed { AreFiled records.old.entries }
     requires once { AreOnce (values_of records.old.entries) }
     requires played { IsPlayed (values_of records.old.entries) [] nodes.old }
     requires room { length records.old.entries + records.old.spare ≤ length nodes.old }
     requires size { length nodes.old < 2 ^ 60 }
     requires spare { 0 < records.old.spare }
-    ensures held { IsPermutation (after_hearing (values_of records.old.entries) (hearing_at now word rr)) (values_of records.new.entries) }
+    ensures held { IsPermutation (after_put_off later.now (values_of records.old.entries) (hearing_at one.heard one.word one.rr)) (values_of records.new.entries) }
     ensures filed { AreFiled records.new.entries }
     ensures played { IsPlayed (values_of records.new.entries) [] nodes.new }
     ensures room { length records.new.entries + records.new.spare ≡ length records.old.entries + records.old.spare }
     ensures spare { records.old.spare ≤ records.new.spare + 1 }
 {
-    shorten(records, nodes, now, &rr);
-    if rr.ttl > 0 {
-        renew(records, nodes, renewed(now, word, rr));
+    shorten(records, nodes, one.heard, &one.rr, later);
+    if one.rr.ttl > 0 {
+        renew(records, nodes, one);
     }
 }
 
-// Cuts the lives of records to a second where a hearing does so: a goodbye or a flush alone does.
-fn shorten(records: &mut Holdings, nodes: &mut [usize], now: u64, rr: &Rr)
+// Cuts the lives of records to a second where a hearing does so: a goodbye does, and a flush that isn't put off.
+fn shorten(records: &mut Holdings, nodes: &mut [usize], now: u64, rr: &Rr, later: &[Rr])
     requires bound { now ≤ 2 ^ 53 }
     requires filed { AreFiled records.old.entries }
     requires once { AreOnce (values_of records.old.entries) }
     requires played { IsPlayed (values_of records.old.entries) [] nodes.old }
     requires room { length records.old.entries ≤ length nodes.old }
     requires size { length nodes.old < 2 ^ 60 }
-    ensures values { values_of records.new.entries ≡ map (shortened (hearing_at now 0 rr.now)) (values_of records.old.entries) }
+    ensures values { values_of records.new.entries ≡ map (shortened (hearing_at now 0 (put_off later.now rr.now))) (values_of records.old.entries) }
     ensures filed { AreFiled records.new.entries }
     ensures played { IsPlayed (values_of records.new.entries) [] nodes.new }
     ensures len { length records.new.entries ≡ length records.old.entries }
     ensures spare { records.new.spare ≡ records.old.spare }
 {
-    if rr.flush {
+    if is_flush_now(rr, later) {
         shorten_all(records, nodes, now, rr);
     } else if rr.ttl == 0 {
         take_back(records, nodes, now, rr);
     }
 }
 
-// The same of a goodbye alone: it cuts the life of the record that is the same, if one is held.
+// Whether a record has the flush bit, and none of those that are heard behind it flushes the same.
+fn is_flush_now(rr: &Rr, later: &[Rr]) -> bool
+    ensures { result ≡ (rr.now.flush && not (is_flushed_by rr.now later.now)) }
+{
+    rr.flush && !is_flushed_by(rr, later)
+}
+
+// Whether one of some records flushes the same as this one would.
+fn is_flushed_by(rr: &Rr, later: &[Rr]) -> bool
+    ensures { result ≡ is_flushed_by rr.now later.now }
+{
+    later.iter().any(|other| flushes_same(other, rr))
+}
+
+// Whether a record has the flush bit, and the owner and the type of another.
+fn flushes_same(other: &Rr, rr: &Rr) -> bool
+    ensures { result ≡ (other.now.flush && (kind_of rr.now.rdata == kind_of other.now.rdata) && folded_eq rr.now.owner other.now.owner) }
+{
+    other.flush && rr.rdata.kind() == other.rdata.kind() && rr.owner.folded_eq(&other.owner)
+}
+
+// The same of a goodbye, whatever it flushes: it cuts the life of the record that is the same, if one is held.
 fn take_back(records: &mut Holdings, nodes: &mut [usize], now: u64, rr: &Rr)
     requires bound { now ≤ 2 ^ 53 }
     requires goodbye { rr.now.ttl ≡ 0 }
-    requires still { rr.now.flush ≡ false }
     requires filed { AreFiled records.old.entries }
     requires once { AreOnce (values_of records.old.entries) }
     requires played { IsPlayed (values_of records.old.entries) [] nodes.old }
     requires room { length records.old.entries ≤ length nodes.old }
     requires size { length nodes.old < 2 ^ 60 }
-    ensures values { values_of records.new.entries ≡ map (shortened (hearing_at now 0 rr.now)) (values_of records.old.entries) }
+    ensures values { values_of records.new.entries ≡ map (shortened (hearing_at now 0 (without_flush rr.now))) (values_of records.old.entries) }
     ensures filed { AreFiled records.new.entries }
     ensures played { IsPlayed (values_of records.new.entries) [] nodes.new }
     ensures len { length records.new.entries ≡ length records.old.entries }
@@ -109,7 +133,7 @@ fn take_back(records: &mut Holdings, nodes: &mut [usize], now: u64, rr: &Rr)
     }
 }
 
-// The same, going over all records of the name.
+// Cuts the lives of records to a second where a hearing does so, going over all records of the name.
 fn shorten_all(records: &mut Holdings, nodes: &mut [usize], now: u64, rr: &Rr)
     requires bound { now ≤ 2 ^ 53 }
     requires filed { AreFiled records.old.entries }

@@ -1,4 +1,4 @@
-use Rattle.std.proofs.Common.{◌≡◌, ◌∙◌, ◌+◌, ◌-◌, ◌≤◌, ℕ, List, length, refl, ap, arith}
+use Rattle.std.proofs.Common.{◌≡◌, ◌∙◌, ◌-◌, ℕ, List, length, refl, ap, arith}
 use Rattle.indexmap.specs.Layout.{set_value_at}
 use Rattle.mdns_history.specs.declared.held.Held.{Held}
 use Rattle.by_name.specs.Filed.{Filing}

@@ -1,11 +1,11 @@
-use Rattle.std.proofs.Common.{◌≡◌, ◌≢◌, ◌∙◌, ◌⊎◌, ◌<◌, ⊎_elim, ℕ, length, get_or, Bool, true, false, List, [], Option, Some, None, slice_get, sym, ap, subst}
+use Rattle.std.proofs.Common.{◌≡◌, ◌∙◌, ◌<◌, ⊎_elim, ℕ, length, get_or, false, List, Option, Some, None, slice_get, sym, ap}
 use Rattle.std.specs.Prelude.{IfNone}
 use Rattle.std.proofs.lemmas.Option.{slice_get-get_or, slice_get_past}
 use Rattle.std.specs.List.{AllByRecursion}
 use Rattle.std.proofs.lemmas.Bool.{false≢true}
-use Rattle.dns_record.specs.Records.{same, identity_of}
+use Rattle.dns_record.specs.Records.{same}
 use Rattle.mdns_history.specs.declared.held.Held.{Held}
-use Rattle.mdns_cache.specs.Printed.{print_of, prints_of, noted, IsIndexed, AreIndexed}
+use Rattle.mdns_cache.specs.Printed.{noted}
 use Rattle.mdns_cache.proofs.Indexing.{found_at, none_at, none_noted}
 use Rattle.mdns_cache.proofs.prints.Prints.find.Goals as goal
 

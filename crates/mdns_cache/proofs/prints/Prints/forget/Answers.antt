@@ -1,8 +1,8 @@
-use Rattle.std.proofs.Common.{◌≡◌, ◌∙◌, ⊎_elim, inl, inr, ℕ, List, ◌∷◌, None, cond, eqb, sym, ap, subst, IsPermutation}
+use Rattle.std.proofs.Common.{◌≡◌, ◌∙◌, ⊎_elim, inl, inr, ℕ, ◌∷◌, sym, ap, subst, IsPermutation}
 use Rattle.std.proofs.lemmas.List.Sorted.{IsPermutation-map}
 use Rattle.dns_record.specs.Records.{identity_of}
 use Rattle.mdns_history.specs.declared.held.Held.{Held}
-use Rattle.mdns_cache.specs.Printed.{print_of, prints_of, noted}
+use Rattle.mdns_cache.specs.Printed.{print_of, prints_of}
 use Rattle.mdns_cache.proofs.Indexing.{indexed_forget, agree-prints}
 use Rattle.mdns_cache.proofs.prints.Prints.forget.Goals as goal
 

@@ -1,9 +1,7 @@
-use Rattle.std.proofs.Common.{◌≡◌, ◌∙◌, ⊎_elim, inl, inr, ℕ, List, ◌∷◌, Some, cond, eqb, slice_get, sym, ap, subst}
-use Rattle.std.specs.Prelude.{IsSome}
+use Rattle.std.proofs.Common.{◌≡◌, ◌∙◌, ⊎_elim, inl, inr, ℕ, List, ◌∷◌, Some, slice_get, sym, ap, subst}
 use Rattle.std.proofs.lemmas.Option.{slice_get-get_or, slice_get_past}
-use Rattle.dns_record.specs.Records.{identity_of}
 use Rattle.mdns_history.specs.declared.held.Held.{Held}
-use Rattle.mdns_cache.specs.Printed.{print_of, prints_of, noted, IsIndexed}
+use Rattle.mdns_cache.specs.Printed.{prints_of, IsIndexed}
 use Rattle.mdns_cache.proofs.Indexing.{indexed_mend, indexed_past, slice_get-prints, slice_get-no_print, there_at}
 use Rattle.mdns_cache.proofs.prints.Prints.mend.Goals as goal
 

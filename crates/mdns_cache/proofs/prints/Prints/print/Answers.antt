@@ -1,8 +1,8 @@
-use Rattle.std.proofs.Common.{◌≡◌, ◌∙◌, ap}
+use Rattle.std.proofs.Common.{◌∙◌, ap}
 use Rattle.std.specs.List.{fold}
 use Rattle.std.specs.Hash as fed
 use Rattle.std.specs.Hash.DefaultHasher as sip
-use Rattle.dns_record.specs.Records.{data_of, identity_of}
+use Rattle.dns_record.specs.Records.{data_of}
 use Rattle.by_name.specs.At.{At}
 use Rattle.mdns_cache.specs.Printed.{written, print_of}
 use Rattle.mdns_cache.proofs.prints.Prints.print.Goals as goal

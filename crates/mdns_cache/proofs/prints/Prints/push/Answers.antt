@@ -1,6 +1,5 @@
 use Rattle.std.proofs.Common.{◌≡◌, ◌∙◌, ⊎_elim, inl, inr, ℕ, List, [], ◌∷◌, ◌++◌, Option, Some, None, false, cond, eqb, length, is_some, refl, sym, ap, subst}
 use Rattle.dns_record.specs.Records.{identity_of}
-use Rattle.mdns_history.specs.declared.held.Held.{Held}
 use Rattle.by_name.proofs.Pushing.{on_ok}
 use Rattle.std.proofs.lemmas.Bool.{false≢true}
 use Rattle.mdns_cache.specs.Printed.{print_of, prints_of, noted, IsIndexed}
