@@ -4,3 +4,5 @@ pub mod Fakes
 pub mod Plugs
 pub mod Plugged
 pub mod Places
+pub mod Noting
+pub mod Played

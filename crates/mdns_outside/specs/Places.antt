@@ -32,9 +32,9 @@ MakesSpawner old new result = (n : ℕ) × (new ≡ record old { spawner_faults 
 abbrev pub counting : ℕ → ℕ → ℕ
 counting count faults = if faults == 0 then count else risen count
 
--- what a door gave, where both tell it
+-- what is told now is what was told before and what a door tells, together
 pub record Adds (old new : Option ℕ) (door : Option ℕ) : Type 0 where
-  pub sum : (before given : ℕ) → old ≡ Some before → door ≡ Some given → new ≡ Some (before + given)
+  pub told : (now : ℕ) → new ≡ Some now → (before : ℕ) × (given : ℕ) × (old ≡ Some before) × (door ≡ Some given) × (now ≡ before + given)
 
 -- a door was taken back
 abbrev pub TakesDoor : Counted → Counted → ℕ → Bool → Option ℕ → Type 0

@@ -36,6 +36,27 @@ impl<I: Drop, O: Drop> MemDoor<I, O> {
             faults: 0,
         }
     }
+
+    /// How many connections it gave.
+    pub fn given(&self) -> usize
+        ensures { result ≡ door_given self.now }
+    {
+        self.total - self.callers.len()
+    }
+
+    /// Whether it has answered that no more come.
+    pub fn is_over(&self) -> bool
+        ensures { result ≡ door_over self.now }
+    {
+        self.over
+    }
+
+    /// How often it failed. The count stays at 2^64 - 1 once there.
+    pub fn faults(&self) -> u64
+        ensures { result ≡ door_faults self.now }
+    {
+        self.faults
+    }
 }
 
 impl<I: Source + Send + Drop + 'static, O: Sink + Send + Drop + 'static> Door for MemDoor<I, O> {

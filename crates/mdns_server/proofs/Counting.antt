@@ -1,7 +1,7 @@
 -- Counts of a place that rise.
-use Rattle.std.proofs.Common.{arith, ◌≡◌, ◌∙◌, ◌≤◌, ◌<◌, ◌-◌, ◌+◌, ◌^◌, min, ℕ, zero, suc, refl, sym, ap, subst, Result, Ok, Err}
+use Rattle.std.proofs.Common.{arith, ◌≡◌, ◌∙◌, ℕ, refl, sym, ap, subst, Result, Ok, Err}
 use Rattle.mdns_base.specs.Outside.{Rose}
-use Rattle.mdns_outside.specs.Places.{Counted, counting, MakesLink}
+use Rattle.mdns_outside.specs.Places.{Counted, MakesLink}
 use Rattle.mdns_server.specs.Endings.{Stays, MayFault, Ends}
 
 -- a count that has risen stays so

@@ -1,9 +1,10 @@
 -- Turns that open sessions, one after the other.
-use Rattle.std.proofs.Common.{arith, zero, suc, subst, ◌≡◌, ◌∙◌, ℕ, ◌+◌, Bool, true, false, List, [], ◌∷◌, ◌++◌, length, refl, ap, sym, Option, Some, None}
+use Rattle.std.proofs.Common.{arith, zero, suc, subst, ◌≡◌, ◌∙◌, ℕ, ◌+◌, Bool, true, false, List, [], ◌∷◌, ◌++◌, length, refl, ap, sym, Option, Some}
 use Rattle.std.proofs.lemmas.List.{append-nil, append_assoc, length-append}
 use Rattle.mdns_turn.specs.Models.{SeatModel, TurnModel, IsSeatOf, IsSameSeat}
 use Rattle.mdns_serve.specs.declared.shared.Shared.{Shared}
 use Rattle.mdns_serve.specs.declared.happening.Happening.{Happening}
+use Rattle.mdns_outside.specs.Doors.{GivesNone, GivesOne}
 use Rattle.mdns_outside.specs.Places.{Adds}
 use Rattle.mdns_server.specs.Endings.{is_done}
 use Rattle.mdns_server.specs.Openings.{AreOpenings, Opens, OpensOne}
@@ -16,7 +17,7 @@ are_append [] more are next = next
 are_append (turn ∷ turns) more are next = (are.0, are_append turns more are.1 next)
 
 -- no turn was taken, and no connection was given where all were let in
-pub opens_none : (a : Seated) (g h : Option ℕ) (whole : Bool) → (whole ≡ true → h ≡ g) → Opens a a g h whole
+pub opens_none : (a : Seated) (g h : Option ℕ) (whole : Bool) → (whole ≡ true → GivesNone g h) → Opens a a g h whole
 opens_none a g h whole kept = record {
   same = (refl, refl, refl);
   joined = refl;
@@ -24,11 +25,11 @@ opens_none a g h whole kept = record {
   opened = [];
   are = tt;
   mine = sym (append-nil a.mine);
-  given = λ is n e. kept is ∙ e ∙ ap (λ m. Some m) (omega arith);
+  given = λ is n e. (n, kept is n e, omega arith);
 }
 
 -- one turn was taken, and one connection given
-pub opens_one : (a b : Seated) (g h : Option ℕ) (whole : Bool) → (whole ≡ true → (n : ℕ) → g ≡ Some n → h ≡ Some (n + 1)) → OpensOne a b → Opens a b g h whole
+pub opens_one : (a b : Seated) (g h : Option ℕ) (whole : Bool) → (whole ≡ true → GivesOne g h) → OpensOne a b → Opens a b g h whole
 opens_one a b g h whole more one = record {
   same = one.same;
   joined = one.joined;
@@ -48,7 +49,11 @@ opens_after a b c g h i whole first next = record {
   opened = first.opened ++ next.opened;
   are = are_append first.opened next.opened first.are next.are;
   mine = next.mine ∙ ap (λ l. l ++ next.opened) first.mine ∙ append_assoc a.mine first.opened next.opened;
-  given = λ is n e. let long = length-append first.opened next.opened in next.given is (n + length first.opened) (first.given refl n e) ∙ ap (λ m. Some m) (omega arith);
+  given = λ is n e.
+      let later = next.given is n e in
+      let sooner = first.given refl later.0 later.1 in
+      let long = length-append first.opened next.opened in
+      let sum : n ≡ (sooner.0 + length first.opened) + length next.opened = later.2 ∙ ap (λ m. m + length next.opened) sooner.2 in (sooner.0, sooner.1, omega (arith, sum, long));
 }
 
 -- a seat stays one of the turn
@@ -67,6 +72,10 @@ pub done_zero : (status : ℕ) → is_done status ≡ true → status ≡ 0
 done_zero zero is = refl
 done_zero (suc status) is = absurd (never is)
 
+-- what a count is, where it is told twice
+told_once : (m n : ℕ) → Some m ≡ Some n → m ≡ n
+told_once m n e = cc
+
 -- the door gave what the place counts
 pub opens_closed : (a b : Seated) (g h i d e : Option ℕ) (whole done : Bool) → Opens a b d e whole → (done ≡ true → whole ≡ true) → ((n : ℕ) → g ≡ Some n → d ≡ Some 0) → h ≡ g → Adds h i e → Opens a b g i done
 opens_closed a b g h i d e whole done first up none kept adds = record {
@@ -76,7 +85,12 @@ opens_closed a b g h i d e whole done first up none kept adds = record {
   opened = first.opened;
   are = first.are;
   mine = first.mine;
-  given = λ is n told. adds.sum n (length first.opened) (kept ∙ told) (first.given (up is) 0 (none n told) ∙ ap (λ (m : ℕ). Some m) (let z : 0 + length first.opened ≡ length first.opened = omega arith in z));
+  given = λ is n told.
+      let sum = adds.told n told in
+      let had : g ≡ Some sum.0 = sym kept ∙ sum.2 in
+      let gave = first.given (up is) sum.1 sum.3 in
+      let fresh : gave.0 ≡ 0 = told_once gave.0 0 (sym gave.1 ∙ none sum.0 had) in
+      let more : n ≡ sum.0 + (gave.0 + length first.opened) = sum.4 ∙ ap (λ m. sum.0 + m) gave.2 in (sum.0, had, omega (arith, fresh, more));
 }
 
 -- no turn was taken, and the status isn't that of all done

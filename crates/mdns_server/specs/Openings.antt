@@ -20,7 +20,7 @@ pub record Opens (old new : SeatModel Shared Happening) (given_old given_new : O
   pub opened : List Happening
   pub are : AreOpenings opened
   pub mine : new.mine ≡ old.mine ++ opened
-  pub given : whole ≡ true → (n : ℕ) → given_old ≡ Some n → given_new ≡ Some (n + length opened)
+  pub given : whole ≡ true → (now : ℕ) → given_new ≡ Some now → (was : ℕ) × (given_old ≡ Some was) × (now ≡ was + length opened)
 
 -- A seat took one turn that was to open a session.
 pub record OpensOne (old new : SeatModel Shared Happening) : Type 0 where

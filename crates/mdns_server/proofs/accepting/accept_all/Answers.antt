@@ -1,10 +1,10 @@
-use Rattle.std.proofs.Common.{rules, ◌∙◌, refl, sym, ap, subst, Some, true}
-use Rattle.mdns_server.proofs.Counting.{faults_none, faults_then, stays_rose}
+use Rattle.std.proofs.Common.{rules, ◌∙◌, refl, true}
+use Rattle.mdns_server.proofs.Counting.{faults_none, faults_then}
 use Rattle.mdns_server.proofs.Opened.{opens_none, opens_after}
 use Rattle.mdns_server.proofs.accepting.accept_all.Goals as goal
 
 pub loop-init : goal.loop-init
-loop-init g c = (tt, tt, refl, opens_none _ _ _ true (λ _. refl), faults_none _)
+loop-init g c = (tt, tt, refl, opens_none _ _ _ true (λ _ n e. e), faults_none _)
 
 pub returns-in-Some-next-clause-opens : goal.returns-in-Some-next-clause-opens
 returns-in-Some-next-clause-opens g c = opens_after _ c.loop.seat _ _ (g.P.Door.Door.given c.loop.door) _ _ c.loop.invariant.3 c.in-Some-next.ensures.opens

@@ -1,4 +1,4 @@
-use Rattle.std.proofs.Common.{rules, ◌∙◌, ap, Some}
+use Rattle.std.proofs.Common.{ap, Some}
 use Rattle.mdns_outside.specs.Places.{Counted}
 use Rattle.mdns_server.specs.Endings.{is_whole}
 use Rattle.mdns_server.proofs.Opened.{opens_closed, done_zero}

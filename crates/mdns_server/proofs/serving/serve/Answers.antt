@@ -1,4 +1,4 @@
-use Rattle.std.proofs.Common.{rules, refl, arith, sym, ⊎_elim}
+use Rattle.std.proofs.Common.{rules, refl}
 use Rattle.mdns_server.proofs.Opened.{opens_failed}
 use Rattle.mdns_server.proofs.serving.serve.Goals as goal
 
