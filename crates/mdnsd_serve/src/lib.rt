@@ -3,7 +3,9 @@
 
 mod booting;
 mod serving;
+mod status;
 mod wrong;
 
+pub use booting::boot_plan;
 pub use serving::serve_by_words;
 pub use wrong::say_wrong;

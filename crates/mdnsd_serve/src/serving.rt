@@ -3,11 +3,12 @@ ghost use Rattle.std.specs.Io.KnownBytes.{Appends};
 ghost use Rattle.std.specs.Prelude.{◌≡◌, ◌≢◌, ◌⊎◌, ℕ, None, Some, IfOk, take};
 ghost use Rattle.mdns_base.specs.Outside.{Rose};
 ghost use Rattle.mdns_outside.specs.declared.plan.ServePlan.{ServePlan};
-ghost use Rattle.mdns_server.specs.Endings.{Ends, IsServeStatus, serving_line};
+ghost use Rattle.mdns_server.specs.Endings.{IsServeStatus, serving_line};
 ghost use Rattle.mdns_words.specs.Options.{texts};
 ghost use Rattle.mdnsd_serve.specs.Serving.{plan_of, plan_asked, Serves};
 
-use crate::booting::{Boot, boot_of, booted};
+use crate::booting::boot_plan;
+use crate::status::{NO_MEMORY, USAGE};
 use mdns_base::Sink;
 use mdns_outside::{Place, ServePlan};
 use mdns_server::serve;
@@ -15,17 +16,8 @@ use mdns_words::{Asked, serve_words};
 use std::alloc::{AllocError, Global};
 use std::sync::Wait;
 
-/// The words aren't as the command wants them.
-const USAGE: u8 = 2;
-
-/// Memory was refused.
-const NO_MEMORY: u8 = 6;
-
-/// The link failed.
-const LINK_FAULT: u8 = 11;
-
-/// Serves what the words behind `serve` ask for: hands the plan to the place, boots a daemon without a host at the moment
-/// that the place's clock tells, and serves it. The status:
+/// Serves what the words behind `serve` ask for: hands the plan to the place, boots its daemon (`boot_plan`), and serves it.
+/// The status:
 /// - 0: the door gave its last connection, and all sessions ended.
 /// - 2: the words aren't as the command wants them, or name a host, which isn't built yet. Nothing is done.
 /// - 5: the output failed. Nothing was accepted.
@@ -80,7 +72,7 @@ fn hostless(asked: Asked) -> Option<ServePlan>
     }
 }
 
-// Serves a plan.
+// Boots the daemon of a plan and serves it.
 fn serve_plan<R: Wait + Copy + Send + 'static, P: Place, K: Sink>(
     rt: R,
     alloc: Global,
@@ -95,31 +87,8 @@ fn serve_plan<R: Wait + Copy + Send + 'static, P: Place, K: Sink>(
     ensures write { result ≡ 5 → Rose (K.faults output.old) (K.faults output.new) }
     ensures quiet { result ≢ 5 → K.faults output.new ≡ K.faults output.old }
 {
-    let address = plan.address;
-    place.prepare(plan);
-    match boot_of(place, address) {
-        Ok(boot) => serve_booted(rt, alloc, boot, place, output),
-        Err(_) => LINK_FAULT,
-    }
-}
-
-// Boots a daemon and serves it.
-fn serve_booted<R: Wait + Copy + Send + 'static, P: Place, K: Sink>(
-    rt: R,
-    alloc: Global,
-    boot: Boot,
-    place: &mut P,
-    output: &mut K,
-) -> u8
-    ensures ends { Ends (P.counted place.old) (P.counted place.new) result }
-    ensures status { IsServeStatus result }
-    ensures put { (n : ℕ) × Appends (K.held output.old) (K.held output.new) (take n serving_line) }
-    ensures whole { result ≡ 0 → Appends (K.held output.old) (K.held output.new) serving_line }
-    ensures write { result ≡ 5 → Rose (K.faults output.old) (K.faults output.new) }
-    ensures quiet { result ≢ 5 → K.faults output.new ≡ K.faults output.old }
-{
-    match booted(alloc, boot) {
+    match boot_plan(alloc, plan, place) {
         Ok((turn, mut seat)) => serve(rt, alloc, &turn, &mut seat, place, output),
-        Err(_) => NO_MEMORY,
+        Err(status) => status,
     }
 }
