@@ -1,43 +1,20 @@
 ghost use Rattle.std.specs.Prelude.{IfOk};
 ghost use Rattle.mdns_turn.specs.Models.{IsSeatOf, IsSameSeat};
 
-use crate::{Board, Left, run_session};
+mod serving;
+
 use bytes::Bytes;
 use dns_name::Name;
-use mdns_base::{Host, MemSink, MemSource};
+use mdns_base::Host;
 use mdns_core::Daemon;
 use mdns_history::{Config, Event};
 use mdns_outside::{Clock, Incoming, MemAir, MemClock, MemEar, MemWords};
-use mdns_serve::{Bell, Happening, HearEnd, ReadEnd, Shared, Step, WriteEnd, hear_loop, tick_loop};
+use mdns_serve::{Bell, Happening, HearEnd, Shared, Step, hear_loop, tick_loop};
 use mdns_turn::{Seat, Turn};
 use sd_call::Request;
 use std::alloc::{AllocError, Global};
-use std::process::Abort;
 use std::sync::Wait;
-use std::sync::atomic::Ordering;
 use std::test::Fail;
-use std::thread::join;
-
-// A query for the address of `a.local`, as operation `op`.
-const QUERY_1: &[u8] = b"\x00\x00\x00\x10\x01\x00\x00\x00\x01\x00\x01\x01a\x05local\x00";
-
-const QUERY_2: &[u8] = b"\x00\x00\x00\x10\x01\x00\x00\x00\x02\x00\x01\x01a\x05local\x00";
-
-const REPLY_1: &[u8] = b"\x00\x00\x00\x0a\x40\x00\x00\x00\x01\x01\x00\x00\x00\x00";
-
-const REPLY_2: &[u8] = b"\x00\x00\x00\x0a\x40\x00\x00\x00\x02\x01\x00\x00\x00\x00";
-
-fn source(alloc: Global, first: &[u8], second: &[u8]) -> Result<MemSource, AllocError> {
-    let mut bytes = Vec::from_slice(alloc, first)?;
-    bytes.extend_from_slice(second)?;
-    Ok(MemSource::new(bytes, Vec::new(alloc)))
-}
-
-fn expect(rt: &impl Abort, left: &Left, bytes: &[u8]) {
-    assert_eq!(rt; left.read, ReadEnd::Ended);
-    assert_eq!(rt; left.write, WriteEnd::Closed);
-    assert_eq!(rt; left.sink.bytes(), bytes);
-}
 
 // A daemon without a host that threads share, and the first seat.
 fn shared_daemon(alloc: Global) -> Result<(Turn<Shared>, Seat<Shared>), AllocError>
@@ -49,39 +26,6 @@ fn shared_daemon(alloc: Global) -> Result<(Turn<Shared>, Seat<Shared>), AllocErr
     };
     let (daemon, _) = Daemon::new(alloc, config, 0, 0)?;
     Turn::new(alloc, Shared::new(alloc, daemon)?)
-}
-
-#[test]
-fn two_sessions_run_beside_each_other(rt: HostRuntime) -> Result<(), Fail> {
-    let alloc = rt.alloc();
-    let (turn, mut seat) = shared_daemon(alloc)?;
-    let bell = Bell::new(alloc)?;
-    turn.turn(&rt, &mut seat, Step::new(0, 0, Event::Attach, &bell));
-    turn.turn(&rt, &mut seat, Step::new(0, 0, Event::Attach, &bell));
-    let a = turn.split(&rt, &mut seat)?;
-    let b = turn.split(&rt, &mut seat)?;
-    let c = turn.split(&rt, &mut seat)?;
-    let d = turn.split(&rt, &mut seat)?;
-    let board = Board::new();
-    let source_1 = source(alloc, QUERY_1, QUERY_2)?;
-    let source_2 = source(alloc, QUERY_1, b"")?;
-    let sink_1 = MemSink::new(alloc, Vec::new(alloc));
-    let sink_2 = MemSink::new(alloc, Vec::new(alloc));
-    let (one, two) = join(
-        &rt,
-        || -> Left
-            requires { IsSeatOf turn a × IsSeatOf turn b }
-        { run_session(&rt, alloc, &turn, a, b, 1, source_1, sink_1, &board, &bell) },
-        || -> Left
-            requires { IsSeatOf turn c × IsSeatOf turn d }
-        { run_session(&rt, alloc, &turn, c, d, 2, source_2, sink_2, &board, &bell) },
-    );
-    let mut both = Vec::from_slice(alloc, REPLY_1)?;
-    both.extend_from_slice(REPLY_2)?;
-    expect(&rt, &one, both.as_slice());
-    expect(&rt, &two, REPLY_1);
-    assert_eq!(rt; board.let_go.load(Ordering::SeqCst), 0);
-    Ok(())
 }
 
 // The moment of a turn's entry.
