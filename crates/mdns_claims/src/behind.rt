@@ -1,5 +1,5 @@
 // What a plan of claims leads to, read before it is carried out.
-ghost use Rattle.std.specs.Prelude.{IfOk, List, OnOk, [], false, ℕ, ◌++◌, ◌≡◌};
+ghost use Rattle.std.specs.Prelude.{IfOk, List, OnOk, [], false, ℕ, ◌++◌, ◌≡◌, Some, true};
 ghost use Rattle.std.specs.Option.{option_map, option_map_or, option_to_list};
 ghost use Rattle.mdns_claims.specs.Later.{begun_by, groups_behind, later_from, later_of, shown_of, shown_own};
 ghost use Rattle.mdns_claims.specs.Owned.{AreWithin, is_among, of_name, own_in, registered_answers};
@@ -58,6 +58,7 @@ impl Behind<'_> {
     pub fn registered(&self, alloc: Global) -> Result<Vec<Registered>, AllocError>
         ensures are { IfOk result (λ lines. AreRegistered (λ session op. registered_answers session op self.now.groups.now) (λ session op. registered_answers session op (groups_behind self.now)) lines.items) }
         ensures rest { IfOk result (λ lines. (session op : ℕ) → is_told lines.items session op ≡ false → registered_answers session op (groups_behind self.now) ≡ registered_answers session op self.now.groups.now) }
+        ensures begun { IfOk result (λ lines. (one : Kept) → begun_by self.now.deed.now ≡ Some one → is_told lines.items one.group.session one.group.op ≡ true) }
     {
         let mut lines = self.touched_lines(alloc)?;
         if let Some(one) = begun(self.deed) {

@@ -190,6 +190,7 @@ impl Claims {
         plan: &'a Plan,
     ) -> Behind<'a>
         ensures before { result.groups.now ≡ self.now.contents.kept }
+        ensures deed { result.deed.now ≡ plan.now.deed }
         ensures behind { groups_behind result ≡ kept_by (record { moment = when.moment; announces = self.now.contents.announces; told = told_by happened.now; marks = plan.now.marks }) self.now.contents.kept plan.now.deed }
         ensures data { IsFor self.now.contents.registered self.now.contents.kept plan.now.deed → HaveData (groups_behind result) }
         ensures told { (word : ℕ) → let at = occasion_of self.now.contents (told_by happened.now) when.moment word in IsPlan self.now.contents at plan.now → groups_behind result ≡ kept_told self.now.contents at }
