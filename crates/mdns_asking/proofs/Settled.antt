@@ -1,6 +1,7 @@
 -- After a tick no question is due by then: each that was due has been asked.
 use Rattle.std.proofs.Common.{◌≡◌, ℕ, ◌+◌, ◌*◌, ◌<◌, ◌==◌, min, max, Bool, true, false, cond, not, ◌&&◌, ◌||◌, ◌⊎◌, inl, inr, List, [], ◌∷◌, ◌++◌, map, nat_le, Some, None, IfSome, refl, ap, ◌∙◌, sym, arith}
 use Rattle.std.specs.Prelude.{nat_lt}
+use Rattle.std.proofs.lemmas.List.Folds.{list_all-append}
 use Rattle.std.specs.List.{list_any, list_all, flat_map, filter_map, cons_option, AllByRecursion}
 use Rattle.std.specs.Option.{option_map}
 use Rattle.std.proofs.lemmas.Slice.Eq.{bytes_eq-Decides}
@@ -174,9 +175,16 @@ live_all : (t : ℕ) (held : List Held) → AllLive t held → list_all (is_live
 live_all t [] live = refl
 live_all t (one ∷ held) live = let here : t < one.end = live.0 in let lives : nat_lt t one.end ≡ true = grind arith in ap (λ b. b && list_all (is_live_at t) held) lives ∙ live_all t held live.1
 
--- Where each held record is live and no question is due, the next due moment is later.
-pub due-later : (questions : List Tracked) (held : List Held) (t : ℕ) → AllLive t held → due_at (asker_of questions held) t ≡ [] →
-    IfSome (option_map (max t) (least (map (λ one. one.end) held ++ map (next_of held) questions))) (λ due. t < due)
-due-later questions held t live none =
-    above_all t (map (λ one. one.end) held ++ map (next_of held) questions)
-    (sym (quiet_before questions held t) ∙ ap (λ b. b && is_nothing (due_at (asker_of questions held) t)) (live_all t held live) ∙ ap is_nothing none)
+-- Where each held record is live, no question is due and all else that is awaited is later, the next due moment is later.
+pub due-later : (questions : List Tracked) (held : List Held) (t : ℕ) (others : List ℕ) → AllLive t held → due_at (asker_of questions held) t ≡ [] → list_all (nat_lt t) others ≡ true →
+    IfSome (option_map (max t) (least (map (λ one. one.end) held ++ map (next_of held) questions ++ others))) (λ due. t < due)
+due-later questions held t others live none beyond =
+    above_all t (ends ++ nexts ++ others)
+    (list_all-append (nat_lt t) (ends ++ nexts) others
+    ∙ (λ i. (sym (quiet_before questions held t) ∙ ap (λ b. b && is_nothing (due_at (asker_of questions held) t)) (live_all t held live) ∙ ap is_nothing none) i && beyond i))
+  where
+    ends : List ℕ
+    ends = map (λ one. one.end) held
+
+    nexts : List ℕ
+    nexts = map (next_of held) questions

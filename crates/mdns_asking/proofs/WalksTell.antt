@@ -12,6 +12,7 @@ use Rattle.dns_record.specs.Records.{key_eq, matches, same, record_cmp}
 use Rattle.dns_message.specs.Packing.{pack_query}
 use Rattle.mdns_history.specs.declared.mark.Cause.{Cause}
 use Rattle.mdns_history.specs.declared.held.Held.{Held}
+use Rattle.mdns_history.specs.declared.entry.Sent.{Sent}
 use Rattle.mdns_history.specs.Hearings.{Heard}
 use Rattle.mdns_history.specs.Asking.{is_counted, asks_openly}
 use Rattle.mdns_history.specs.Sending.{to_all}
@@ -140,14 +141,14 @@ module _ (walks : List Walk) (moment : ℕ) where
   asked_walked false (Some heard) questions walked = heard_walked heard questions walked
 
 -- A plan that is made by walks is of what happened.
-pub is_plan : (told : Told) (moment : ℕ) (sessions : List Session) (questions : List Tracked) (held later : List Held) (walks : List Walk) (plan : Plan) →
-    plan.asked.items ≡ asked_by told.ticks told.heard questions walks moment → plan.sent ≡ sent_by told.ticks walks moment plan.asked.items →
+pub is_plan : (told : Told) (moment : ℕ) (sessions : List Session) (questions : List Tracked) (held later : List Held) (walks : List Walk) (before : List Sent) (plan : Plan) →
+    plan.asked.items ≡ asked_by told.ticks told.heard questions walks moment → plan.sent ≡ before ++ sent_by told.ticks walks moment plan.asked.items →
     plan.begun.items ≡ begun_keys told.call → plan.ended.items ≡ ended_told told.call told.detached sessions →
     AreTimed held questions → AreWalks held later walks → AllLive moment later → AreEnough told moment questions held later walks →
-    IsPlan told moment sessions questions later walks plan
-is_plan told moment sessions questions held later walks plan asked sent begins ends are_timed are live enough = record {
+    IsPlan told moment sessions questions later walks before plan
+is_plan told moment sessions questions held later walks before plan asked sent begins ends are_timed are live enough = record {
   asked = asked ∙ asked_later held later walks moment are told.ticks told.heard questions live are_timed enough.known enough.asked;
-  sent = sent ∙ sent_later held later walks moment are told.ticks plan.asked.items walked;
+  sent = sent ∙ ap (λ (queries : List Sent). before ++ queries) (sent_later held later walks moment are told.ticks plan.asked.items walked);
   begun = begins;
   ended = ends;
   walked = walked;

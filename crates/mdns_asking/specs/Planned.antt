@@ -1,5 +1,6 @@
 -- What a plan of asking says.
-use Rattle.std.specs.Prelude.{◌≡◌, ℕ, List, map}
+use Rattle.std.specs.Prelude.{◌≡◌, ◌++◌, ℕ, List, map}
+use Rattle.mdns_history.specs.declared.entry.Sent.{Sent}
 use Rattle.mdns_history.specs.declared.held.Held.{Held}
 use Rattle.mdns_happened.specs.declared.walk.Walk.{Walk}
 use Rattle.mdns_happened.specs.Told.{Told}
@@ -9,11 +10,11 @@ use Rattle.mdns_asking.specs.declared.plan.Plan.{Plan}
 use Rattle.mdns_asking.specs.Asked.{asked_told, sent_told, begun_keys, ended_told}
 use Rattle.mdns_asking.specs.Walked.{AreWalked}
 
--- A plan is of what happened to these questions of these sessions, where these records are held after it: what is asked and sent, and which questions get
--- and lose a user. The names of those that are asked were walked.
-pub record IsPlan (told : Told) (moment : ℕ) (sessions : List Session) (questions : List Tracked) (later : List Held) (walks : List Walk) (plan : Plan) : Type 0 where
+-- A plan is of what happened to these questions of these sessions, where these records are held after it: what is asked, what is sent behind what
+-- else is, and which questions get and lose a user. The names of those that are asked were walked.
+pub record IsPlan (told : Told) (moment : ℕ) (sessions : List Session) (questions : List Tracked) (later : List Held) (walks : List Walk) (before : List Sent) (plan : Plan) : Type 0 where
   pub asked : plan.asked.items ≡ asked_told told.ticks told.heard questions later moment
-  pub sent : plan.sent ≡ sent_told told.ticks later moment plan.asked.items
+  pub sent : plan.sent ≡ before ++ sent_told told.ticks later moment plan.asked.items
   pub begun : plan.begun.items ≡ begun_keys told.call
   pub ended : plan.ended.items ≡ ended_told told.call told.detached sessions
   pub walked : AreWalked walks (map (λ asking. asking.0) plan.asked.items)

@@ -18,11 +18,12 @@ ghost use Rattle.mdns_asking.specs.Planned.{IsPlan};
 use crate::due::asked_questions;
 use crate::names::{put_begun_names, put_question_names};
 use crate::plan::Plan;
-use crate::queries::queries;
+use crate::queries::{queries, send_to_all};
 use crate::timing::tell_points;
 use crate::users::{begin, begun_keys, end, ended_keys, note};
 use dns_name::Name;
 use mdns_happened::{Happened, Walk, When};
+use mdns_history::Sends;
 use mdns_question::Asker;
 use sd_sessions::Sessions;
 use std::alloc::{AllocError, Global};
@@ -86,27 +87,31 @@ impl Asking {
         Ok(())
     }
 
-    /// What an event asks, sends, begins and ends, where these are the walks of the names that `put_names` put. Nothing is
-    /// changed. Refused only for want of memory.
+    /// What an event asks, sends, begins and ends, where these are the walks of the names that `put_names` put. Its queries go
+    /// behind what else is sent. Nothing is changed. Refused only for want of memory.
     pub fn plan(
         &self,
         when: When,
         happened: &Happened<'_>,
         walks: &[Walk],
         sessions: &Sessions,
+        mut sent: Sends,
     ) -> Result<Plan, AllocError>
         requires call { IsWellFormedCall (told_by happened.now).call }
         requires heard { AreHeard when.moment walks.now }
         ensures plan { IfOk result (λ plan. (held later : List Held) → AreTimed held self.now.questions → AreWalks held later walks.now → AllLive when.moment later
             → AreEnough (told_by happened.now) when.moment self.now.questions held later walks.now
-            → IsPlan (told_by happened.now) when.moment sessions.now.sessions self.now.questions later walks.now plan) }
+            → IsPlan (told_by happened.now) when.moment sessions.now.sessions self.now.questions later walks.now sent plan) }
         ensures begun { IfOk result (λ plan. plan.begun.items ≡ begun_keys (told_by happened.now).call) }
         ensures ended { IfOk result (λ plan. plan.ended.items ≡ ended_told (told_by happened.now).call (told_by happened.now).detached sessions.now.sessions) }
         ensures gaps { HaveGaps self.now.questions }
     {
         let questions = self.asker.questions();
         let asked = asked_questions(self.alloc, questions, when, happened, walks)?;
-        let sent = queries(self.alloc, when, happened, walks, &asked)?;
+        send_to_all(
+            &mut sent,
+            queries(self.alloc, when, happened, walks, &asked)?,
+        )?;
         let begun = begun_keys(self.alloc, happened)?;
         let ended = ended_keys(self.alloc, sessions, happened)?;
         Ok(Plan {

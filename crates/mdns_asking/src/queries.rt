@@ -1,5 +1,5 @@
 // The queries that an event sends. (RFC 6762 5.2, 7.1 and 7.2)
-ghost use Rattle.std.specs.Prelude.{◌≡◌, map, IfOk};
+ghost use Rattle.std.specs.Prelude.{◌≡◌, ◌++◌, map, IfOk, OnOk};
 ghost use Rattle.mdns_history.specs.Sending.{to_all};
 ghost use Rattle.mdns_happened.specs.Told.{told_by};
 ghost use Rattle.mdns_asking.specs.Walked.{AreHeard};
@@ -15,24 +15,24 @@ use mdns_known::{in_order, known_answers};
 use mdns_pack::{Messages, pack_query};
 use std::alloc::{AllocError, Global};
 
-/// What is sent: once time has passed the queries of the questions that are asked, with the known answers of all of them.
-/// Refused only for want of memory.
+/// The queries: once time has passed those of the questions that are asked, with the known answers of all of them. Refused only for
+/// want of memory.
 pub fn queries(
     alloc: Global,
     when: When,
     happened: &Happened<'_>,
     walks: &[Walk],
     asked: &[(Key, Cause)],
-) -> Result<Sends, AllocError>
+) -> Result<Messages, AllocError>
     requires { AreHeard when.moment walks.now }
-    ensures { IfOk result (λ sent. sent ≡ sent_by (told_by happened.now).ticks walks.now when.moment asked.now) }
+    ensures { IfOk result (λ messages. map to_all messages ≡ sent_by (told_by happened.now).ticks walks.now when.moment asked.now) }
 {
     match happened {
         Happened::Ticked => {
             let keys = keys_in(alloc, asked)?;
             queries_for(alloc, when, walks, &keys)
         }
-        _ => Ok(Sends::new(alloc)),
+        _ => Ok(Messages::new(alloc)),
     }
 }
 
@@ -48,13 +48,17 @@ fn keys_in(alloc: Global, asked: &[(Key, Cause)]) -> Result<Vec<Key>, AllocError
 }
 
 // The queries of questions, with the known answers of all of them.
-fn queries_for(alloc: Global, when: When, walks: &[Walk], keys: &[Key]) -> Result<Sends, AllocError>
+fn queries_for(
+    alloc: Global,
+    when: When,
+    walks: &[Walk],
+    keys: &[Key],
+) -> Result<Messages, AllocError>
     requires { AreHeard when.moment walks.now }
-    ensures { IfOk result (λ sent. sent ≡ queries_by walks.now when.moment keys.now) }
+    ensures { IfOk result (λ messages. map to_all messages ≡ queries_by walks.now when.moment keys.now) }
 {
     let known = all_known(alloc, when, walks, keys)?;
-    let messages = pack_query(alloc, keys, &known)?;
-    to_all(alloc, messages)
+    pack_query(alloc, keys, &known)
 }
 
 // The known answers of questions, each once and in record order: those of each question are over the later records of its name.
@@ -72,16 +76,15 @@ fn all_known(alloc: Global, when: When, walks: &[Walk], keys: &[Key]) -> Result<
     in_order(all)
 }
 
-// Messages as they are sent to all.
-fn to_all(alloc: Global, messages: Messages) -> Result<Sends, AllocError>
-    ensures { IfOk result (λ sent. sent ≡ map to_all messages) }
+/// Puts messages behind others that are sent, each to all. Refused only for want of memory.
+pub fn send_to_all(sent: &mut Sends, messages: Messages) -> Result<(), AllocError>
+    ensures { OnOk result (sent.new ≡ sent.old ++ map to_all messages) }
 {
-    let mut sent = Sends::new(alloc);
     for message in messages.into_vec() {
         sent.push(Sent {
             to: Dest::All,
             message,
         })?;
     }
-    Ok(sent)
+    Ok(())
 }

@@ -8,7 +8,7 @@ use crate::{Asking, Plan};
 use dns_name::Name;
 use dns_record::Rr;
 use mdns_happened::{Happened, OwnWalk, Walk, When};
-use mdns_history::{Cause, Held, Marks};
+use mdns_history::{Cause, Held, Marks, Sends};
 use sd_call::{Request, well_formed};
 use sd_sessions::Sessions;
 use std::alloc::Global;
@@ -82,7 +82,13 @@ fn step(
     let mut names = Vec::new(alloc);
     asking.put_names(&mut names, when, happened, &touched)?;
     let walks = walks(alloc, when.moment, end)?;
-    let plan = asking.plan(when, happened, &walks, &Sessions::new(alloc))?;
+    let plan = asking.plan(
+        when,
+        happened,
+        &walks,
+        &Sessions::new(alloc),
+        Sends::new(alloc),
+    )?;
     asking.reserve(&plan)?;
     asking.apply(when, &plan, &walks);
     Ok((plan, names.len()))

@@ -4,3 +4,4 @@ pub mod HeardPackets
 pub mod QuietRecords
 pub mod HeldData
 pub mod Walked
+pub mod Begun

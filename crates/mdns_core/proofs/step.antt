@@ -1,7 +1,8 @@
 pub mod Stage
+pub mod ClaimMarks
 pub mod Duties
-pub mod Hostless
-pub mod WithoutHost
+pub mod Answered
+pub mod Claiming
 pub mod Standing
 pub mod Moved
 pub mod Stepped

@@ -1,3 +1,4 @@
 pub mod Ticks
+pub mod Quiet
 pub mod Due
 pub mod Ticked

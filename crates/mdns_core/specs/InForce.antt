@@ -2,6 +2,6 @@
 use Rattle.std.specs.Prelude.{true, false}
 use Rattle.mdns_history.specs.InForce.{Duties}
 
--- the duties that the daemon has so far: it asks the questions of its operations
+-- the duties that the daemon has so far: it asks the questions of its operations, and claims names
 unfoldable pub in_force : Duties
-in_force = record { asking = true; claiming = false; announcing = false; replying = false }
+in_force = record { asking = true; claiming = true; announcing = false; replying = false }

@@ -1,5 +1,5 @@
 pub mod InForce
-pub mod Alone
+pub mod Viewed
 pub mod State
 pub mod Next
 pub mod Planned

@@ -10,6 +10,7 @@ use Rattle.mdns_history.specs.declared.held.Held.{Held}
 use Rattle.mdns_history.specs.declared.mark.Mark.{Mark}
 use Rattle.mdns_history.specs.declared.mark.Mark.TheVariants as mark
 use Rattle.mdns_history.specs.declared.mark.Cause.{Cause}
+use Rattle.mdns_history.specs.declared.entry.Outcome.{Outcome}
 use Rattle.mdns_history.specs.declared.entry.Entry.{Entry}
 use Rattle.mdns_history.specs.Hearings.{Hearing, counted_records, brought}
 use Rattle.mdns_history.specs.Lifetimes.{is_too_full, live_of, room_for_records}
@@ -18,23 +19,38 @@ use Rattle.mdns_history.specs.Fitting.{bad_mark}
 use Rattle.mdns_cache.specs.Lifetimes.{hearings_at}
 use Rattle.mdns_question.specs.Standing.{mark_of}
 use Rattle.sd_sessions.specs.declared.change.SessionChange.{SessionChange}
-use Rattle.mdns_core.specs.Alone.{alone, kept_outcome}
+use Rattle.mdns_core.specs.Viewed.{viewed, kept_outcome}
 use Rattle.mdns_core.specs.State.{State}
+use Rattle.mdns_happened.specs.Told.{told_of, is_tick}
+use Rattle.mdns_claims.specs.State.{Contents}
+use Rattle.mdns_claims.specs.Behind.{Occasion, occasion_of, probes_told, contents_told}
 use Rattle.sd_sessions.specs.Sessions.{Session}
 use Rattle.sd_sessions.specs.Answered.{answered}
 use Rattle.mdns_asking.specs.Asked.{asked_for, sent_for, questions_after}
 use Rattle.mdns_asking.specs.Timed.{all_timed}
 use Rattle.sd_sessions.specs.Settling.{change_for, cuts_of, gifts_of, all_settled, remaining, with_opened, outcome_then, sessions_after}
 
--- the changes that an event brings to the sessions, where these records are live after it
-abbrev pub changes_for : State → Event → List Held → List SessionChange
-changes_for state event later =
-    map (change_for event (kept_outcome state.opened state.sessions event) (answered (alone state.held)) (answered (alone later))) state.sessions
+-- how an event goes behind what is kept, but a take, which is known last
+abbrev pub early_for : State → Event → Outcome
+early_for state event = kept_outcome state.claims state.opened state.sessions event
+
+-- the event as groups see it, where these marks refuse its packet
+abbrev pub occasion_for : State → ℕ → ℕ → Event → List Mark → Occasion
+occasion_for state moment word event refusal = occasion_of state.claims (told_of event (early_for state event) refusal) moment word
+
+-- what is kept of claims after an event, where these marks refuse its packet
+abbrev pub claims_then : State → ℕ → ℕ → Event → List Mark → Contents
+claims_then state moment word event refusal = contents_told state.claims (occasion_for state moment word event refusal)
+
+-- the changes that an event brings to the sessions, where these records are live after it and that is then kept of claims
+abbrev pub changes_for : State → Event → Contents → List Held → List SessionChange
+changes_for state event claims later =
+    map (change_for event (early_for state event) (answered (viewed state.claims state.held)) (answered (viewed claims later))) state.sessions
 
 -- the sessions after an event, but for what a take hands over
 abbrev pub sessions_then : State → Event → List SessionChange → List Session
 sessions_then state event changes =
-    let early = kept_outcome state.opened state.sessions event in
+    let early = early_for state event in
     with_opened (opened early) (remaining event early (all_settled state.sessions changes))
 
 -- the questions that an event asks, where these marks refuse its packet and these records are live after it
@@ -44,27 +60,29 @@ asked_then state moment event refusal later = asked_for state.questions later mo
 -- the entry of an event with the mark of a packet that was refused, where these records are live after it
 abbrev pub entry_for : State → ℕ → ℕ → Event → List Mark → List Held → Entry
 entry_for state moment word event refusal later =
-    let changes = changes_for state event later in
+    let changes = changes_for state event (claims_then state moment word event refusal) later in
     let asked = asked_then state moment event refusal later in
     record {
       moment = moment;
       word = word;
       event = event;
-      marks = refusal ++ map mark_of asked ++ cuts_of changes;
-      sent = sent_for later moment event asked;
+      marks = refusal ++ (occasion_for state moment word event refusal).marks ++ map mark_of asked ++ cuts_of changes;
+      sent = probes_told (is_tick event) state.claims.kept moment ++ sent_for later moment event asked;
       given = gifts_of changes;
-      outcome = outcome_then event (kept_outcome state.opened state.sessions event) (sessions_then state event changes);
+      outcome = outcome_then event (early_for state event) (sessions_then state event changes);
     }
 
 -- what is kept after an event, where these marks refuse its packet and these records are live after it
 abbrev pub state_after : State → ℕ → ℕ → Event → List Mark → List Held → State
 state_after state moment word event refusal later =
+    let claims = claims_then state moment word event refusal in
     record {
       last = moment;
-      opened = unwrap_or (opened (kept_outcome state.opened state.sessions event)) state.opened;
-      sessions = sessions_after event (sessions_then state event (changes_for state event later));
+      opened = unwrap_or (opened (early_for state event)) state.opened;
+      sessions = sessions_after event (sessions_then state event (changes_for state event claims later));
       held = later;
-      questions = all_timed later (questions_after state.sessions moment word event (kept_outcome state.opened state.sessions event) (asked_then state moment event refusal later) state.questions);
+      questions = all_timed later (questions_after state.sessions moment word event (early_for state event) (asked_then state moment event refusal later) state.questions);
+      claims = claims;
     }
 
 -- the mark of a packet that is refused: there would be too many records, or it spells no message

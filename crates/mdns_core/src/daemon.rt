@@ -1,16 +1,15 @@
 // The daemon: it keeps the records that are live and the sessions that are attached, and gives these what changes.
-ghost use Rattle.std.specs.Prelude.{◌≡◌, ◌<◌, ◌≤◌, ◌^◌, ◌∷◌, ◌++◌, [], ℕ, List, max, IfOk, IfSome, OnOk, OnErr, Option, Some, None, true, false};
+ghost use Rattle.std.specs.Prelude.{◌≡◌, ◌<◌, ◌≤◌, ◌^◌, ◌∷◌, ◌++◌, [], ℕ, List, max, IfOk, IfSome, OnOk, OnErr, Some, IsTrue, true, false};
 ghost use Rattle.std.specs.Option.{is_some, option_map};
 ghost use Rattle.std.specs.List.{find};
 ghost use Rattle.sd_call.specs.Replay.{replay};
-ghost use Rattle.mdns_history.specs.declared.config.HostConfig.{HostConfig};
 ghost use Rattle.mdns_history.specs.declared.entry.Entry.{Entry};
 ghost use Rattle.mdns_history.specs.Sessions.{is_attached, is_cut};
 ghost use Rattle.mdns_history.specs.Items.{session_items, taken_items, queue};
 ghost use Rattle.mdns_history.specs.Replays.{answer_sets};
 ghost use Rattle.mdns_asserts.specs.Earned.{IsEarned};
 ghost use Rattle.mdns_core.specs.InForce.{in_force};
-ghost use Rattle.mdns_history.specs.Fitting.{Fits, boot_entry, is_boot};
+ghost use Rattle.mdns_history.specs.Fitting.{Fits, boot_entry, is_boot, is_host_label};
 ghost use Rattle.mdns_history.specs.Due.{NextDue};
 ghost use Rattle.dns_name.specs.Lists.{least};
 ghost use Rattle.sd_sessions.specs.Codes.{has_number};
@@ -18,6 +17,7 @@ ghost use Rattle.sd_sessions.specs.Codes.{has_number};
 use crate::plan::{Kept, Plan, make_plan};
 use mdns_asking::Asking;
 use mdns_cache::Steps;
+use mdns_claims::Claims;
 use mdns_happened::When;
 use mdns_history::{Config, Entry, Event, Gifts, Marks, Outcome, Sends};
 use mdns_records::Records;
@@ -26,12 +26,16 @@ use std::alloc::{AllocError, Global};
 use std::marker::Model;
 use std::sync::ledger::Ledger;
 
-/// A daemon without a host.
+/// Whether the daemon announces what it claims: not yet.
+const ANNOUNCES: bool = false;
+
+/// A daemon: the records that it holds, the names that it claims, the questions that it asks, and its sessions.
 #[derive(Drop)]
 pub struct Daemon {
     alloc: Global,
     last: u64,
     records: Records,
+    claims: Claims,
     asking: Asking,
     sessions: Sessions,
 }
@@ -45,7 +49,7 @@ impl Model for Daemon {
 
     ghost Value = { State };
 
-    ghost view = { λ d. record { last = d.last; opened = d.sessions.opened; sessions = d.sessions.sessions; held = d.records.held; questions = d.asking.questions } };
+    ghost view = { λ d. record { last = d.last; opened = d.sessions.opened; sessions = d.sessions.sessions; held = d.records.held; questions = d.asking.questions; claims = d.claims.contents } };
 
     ghost invariant = { λ d. (length d.records.held ≤ room_for_records) × AllLive d.last d.records.held × AllHeard d.last d.records.held
         × AreTimed d.records.held d.asking.questions };
@@ -54,8 +58,8 @@ impl Model for Daemon {
 impl Daemon {
     ghost use Rattle.mdns_core.specs.State.{Stands, due_of};
 
-    /// A daemon at its first moment `now`, in milliseconds, with an IPv4 address and no host, and the entry of its boot.
-    /// Refused only for want of memory.
+    /// A daemon at its first moment `now`, in milliseconds, with an IPv4 address and maybe a host whose name it claims, and the
+    /// entry of its boot. `word` is a random number. Refused only for want of memory. (RFC 6762 section 8)
     pub fn new(
         alloc: Global,
         config: Config,
@@ -63,15 +67,17 @@ impl Daemon {
         word: u32,
     ) -> Result<(Daemon, Entry), AllocError>
         requires bound { now ≤ 2 ^ 53 }
-        requires hostless { ◌≡◌ {A = Option HostConfig} config.host None }
+        requires host { IsTrue (is_host_label config.host) }
         ensures entry { IfOk result (λ made. made.1 ≡ boot_entry now word config) }
         ensures stands { IfOk result (λ made. Stands made.0 (made.1 ∷ [])) }
         ensures last { IfOk result (λ made. made.0.last ≡ now) }
     {
+        let when = When { moment: now, word };
         let daemon = Daemon {
             alloc,
             last: now,
             records: Records::new(alloc, word)?,
+            claims: Claims::new(alloc, &config, when, ANNOUNCES)?,
             asking: Asking::new(alloc),
             sessions: Sessions::new(alloc),
         };
@@ -102,14 +108,15 @@ impl Daemon {
         self.sessions.attached(session)
     }
 
-    /// The next moment at which something is due, in milliseconds, and no earlier than the last entry: when a live record ends,
-    /// or a question is to be asked. `None` where nothing ever is. (RFC 6762 sections 5.2 and 10)
+    /// The next moment at which something is due, in milliseconds, and no earlier than the last entry: when a live record ends, a
+    /// question is to be asked, or a group is to be probed or is sure of its name. `None` where nothing ever is. (RFC 6762 sections
+    /// 5.2, 8.1 and 10)
     pub fn next_due(&self) -> Option<u64>
         ensures value { result ≡ due_of self.now }
         ensures due { (history : List Entry) → Stands self.now history → NextDue in_force history result }
     {
         let due = earlier(self.records.next_end(), self.asking.first_due());
-        not_before(self.last, due)
+        not_before(self.last, earlier(due, self.claims.next_due()))
     }
 
     /// Does one event at `now`, in milliseconds, and answers its entry: for every history that the daemon stands for it is
@@ -146,17 +153,21 @@ impl Daemon {
     {
         let when = When { moment: now, word };
         let kept = Kept {
+            alloc: self.alloc,
             records: &self.records,
+            claims: &self.claims,
             asking: &self.asking,
             sessions: &self.sessions,
         };
-        let plan = make_plan(self.alloc, &kept, when, &event, steps)?;
+        let plan = make_plan(&kept, when, &event, steps)?;
         self.records.reserve(plan.heard.as_slice().len())?;
+        self.claims.reserve(&plan.claims)?;
         self.asking.reserve(&plan.asking)?;
         self.sessions.reserve(&plan.happened, &plan.sessions)?;
         let Plan {
             happened,
             heard,
+            claims,
             walks,
             asking,
             sessions,
@@ -165,6 +176,7 @@ impl Daemon {
         } = plan;
         self.last = now;
         self.records.apply(when, heard, steps);
+        self.claims.apply(when, &happened, claims);
         self.asking.apply(when, &asking, &walks);
         let outcome = self.sessions.apply(&happened, sessions);
         drop(happened);

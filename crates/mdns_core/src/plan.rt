@@ -2,19 +2,26 @@
 ghost use Rattle.std.specs.Prelude.{◌≡◌, ◌≤◌, ◌++◌, map, length, IfOk, OnOk};
 ghost use Rattle.mdns_history.specs.Lifetimes.{room_for_records};
 ghost use Rattle.mdns_happened.specs.Told.{told_by};
+ghost use Rattle.mdns_happened.specs.Walks.{own_of};
 ghost use Rattle.mdns_cache.specs.Lifetimes.{AllHeard};
 ghost use Rattle.mdns_records.specs.After.{held_after};
 ghost use Rattle.mdns_question.specs.Refreshing.{AreTimed};
 ghost use Rattle.mdns_question.specs.Standing.{mark_of};
 ghost use Rattle.sd_sessions.specs.Settling.{cuts_of};
 ghost use Rattle.sd_sessions.specs.Kept.{IsWellFormedCall};
-ghost use Rattle.mdns_core.specs.Planned.{AreEnough, IsPlan};
+ghost use Rattle.mdns_claims.specs.Behind.{occasion_of};
+ghost use Rattle.mdns_claims.specs.Later.{groups_behind};
+ghost use Rattle.mdns_claims.specs.Owned.{own_in};
+ghost use Rattle.mdns_claims.specs.Planned as claiming;
+ghost use Rattle.mdns_core.specs.Planned.{AreEnough, IsPlan, claims_told, with_own};
 
 use crate::reading::{Reading, read_event};
 use dns_message::Rrs;
+use dns_name::Name;
 use mdns_asking::{Asking, Plan as AskingPlan};
 use mdns_cache::Steps;
-use mdns_happened::{Around, Happened, Walk, When};
+use mdns_claims::{Behind, Claims, Plan as ClaimsPlan};
+use mdns_happened::{Around, Happened, OwnWalk, Walk, When};
 use mdns_history::{Event, Gifts, Marks};
 use mdns_records::Records;
 use sd_sessions::{Plan as SessionsPlan, Sessions};
@@ -22,11 +29,12 @@ use std::alloc::{AllocError, Global};
 use std::sync::ledger::Ledger;
 
 /// What an event leads to: what happened, the records that are heard, those of the names that it concerns, before it and after
-/// it, the plans of the questions and of the sessions, and the marks and the gifts of the entry.
+/// it, the plans of claims, of questions (with all that is sent) and of sessions, and the marks and the gifts of the entry.
 #[derive(Drop)]
 pub struct Plan<'a> {
     pub happened: Happened<'a>,
     pub heard: Rrs,
+    pub claims: ClaimsPlan,
     pub walks: Vec<Walk>,
     pub asking: AskingPlan,
     pub sessions: SessionsPlan,
@@ -34,17 +42,19 @@ pub struct Plan<'a> {
     pub given: Gifts,
 }
 
-/// What a daemon keeps before an event: the records that it holds, the questions that have users, and its sessions.
+/// What a daemon keeps before an event: the records that it holds, the names that it claims, the questions that have users, and its
+/// sessions.
 #[derive(Drop)]
 pub struct Kept<'a> {
+    pub alloc: Global,
     pub records: &'a Records,
+    pub claims: &'a Claims,
     pub asking: &'a Asking,
     pub sessions: &'a Sessions,
 }
 
 /// What an event leads to. Nothing is changed. Refused only for want of memory.
 pub fn make_plan<'a, L: Ledger>(
-    alloc: Global,
     kept: &Kept<'_>,
     when: When,
     event: &'a Event,
@@ -53,22 +63,32 @@ pub fn make_plan<'a, L: Ledger>(
     requires within { length kept.now.records.now.held ≤ room_for_records }
     requires past { AllHeard when.moment kept.now.records.now.held }
     requires timed { AreTimed kept.now.records.now.held kept.now.asking.now.questions }
-    ensures { IfOk result (λ plan. IsPlan kept.now.sessions.now.opened kept.now.sessions.now.sessions kept.now.records.now.held kept.now.asking.now.questions when.moment when.word event.now plan) }
+    ensures { IfOk result (λ plan. IsPlan kept.now.sessions.now.opened kept.now.sessions.now.sessions kept.now.records.now.held kept.now.asking.now.questions
+        kept.now.claims.now.contents when.moment when.word event.now plan) }
 {
-    let reading = read_event(alloc, kept, when, event)?;
-    let walks = walk(alloc, kept, when, &reading, steps)?;
+    let reading = read_event(kept, when, event)?;
+    let claims = kept.claims.plan(when, &reading.happened)?;
+    let walks = walk(kept, when, &reading, &claims, steps)?;
     let Reading { happened, heard } = reading;
-    let asking = kept.asking.plan(when, &happened, &walks, kept.sessions)?;
+    let probes = kept.claims.probes(when, &happened)?;
+    let asking = kept
+        .asking
+        .plan(when, &happened, &walks, kept.sessions, probes)?;
+    let registered = kept
+        .claims
+        .behind(when, &happened, &claims)
+        .registered(kept.alloc)?;
     let around = Around {
         walks: &walks,
-        registered: &[],
+        registered: &registered,
     };
     let sessions = kept.sessions.plan(&happened, &around)?;
-    let marks = make_marks(alloc, &happened, &asking, &sessions)?;
-    let given = sessions.gifts(alloc)?;
+    let marks = make_marks(kept.alloc, &happened, &claims, &asking, &sessions)?;
+    let given = sessions.gifts(kept.alloc)?;
     Ok(Plan {
         happened,
         heard,
+        claims,
         walks,
         asking,
         sessions,
@@ -77,41 +97,82 @@ pub fn make_plan<'a, L: Ledger>(
     })
 }
 
-// The records of the names that an event concerns, before it and after it: of those of which records end or are heard, those that
-// an operation or a question asks for, and those that asking by itself needs. No other record is looked at. Refused only for want
-// of memory.
+// The records of the names that an event concerns, before it and after it: of those of which records end, are heard, come to be own or
+// cease to be, those that an operation or a question asks for, and those that asking by itself needs. No other record is looked at.
+// Refused only for want of memory.
 fn walk<L: Ledger>(
-    alloc: Global,
     kept: &Kept<'_>,
     when: When,
     reading: &Reading<'_>,
+    claims: &ClaimsPlan,
     steps: &mut Steps<L>,
 ) -> Result<Vec<Walk>, AllocError>
     requires call { IsWellFormedCall (told_by reading.now.happened).call }
+    requires planned { claiming.IsPlan kept.now.claims.now.contents (occasion_of kept.now.claims.now.contents (told_by reading.now.happened) when.moment when.word) claims.now }
     ensures { IfOk result (λ walks. AreEnough (told_by reading.now.happened) when.moment kept.now.records.now.held
-        (held_after when.moment when.word reading.now.heard kept.now.records.now.held) kept.now.asking.now.questions kept.now.sessions.now.sessions walks.items) }
+        (held_after when.moment when.word reading.now.heard kept.now.records.now.held)
+        (own_in kept.now.claims.now.contents.kept) (own_in (claims_told kept.now.claims.now.contents (told_by reading.now.happened) when.moment when.word).kept)
+        kept.now.asking.now.questions kept.now.sessions.now.sessions walks.items) }
 {
     let happened = &reading.happened;
     let heard = reading.heard.as_slice();
-    let touched = kept.records.touched(when.moment, heard)?;
-    let mut names = Vec::new(alloc);
+    let behind = kept.claims.behind(when, happened, claims);
+    let mut touched = kept.records.touched(when.moment, heard)?;
+    behind.put_names(&mut touched)?;
+    let mut names = Vec::new(kept.alloc);
     kept.sessions.put_names(&mut names, happened, &touched)?;
     kept.asking.put_names(&mut names, when, happened, &touched)?;
-    kept.records.walk(when, heard, names, steps)
+    let walks = kept.records.walk(when, heard, names, steps)?;
+    with_own(kept.alloc, walks, kept.claims, &behind)
 }
 
-// The marks of an entry: that of a packet that was refused, those of the questions that are asked, and those of the sessions that
-// are cut. Refused only for want of memory.
+// Walks with the own records of their names, before an event and behind it. Refused only for want of memory.
+fn with_own(
+    alloc: Global,
+    walks: Vec<Walk>,
+    claims: &Claims,
+    behind: &Behind<'_>,
+) -> Result<Vec<Walk>, AllocError>
+    ensures { IfOk result (λ owned. owned.items ≡ map (with_own (own_in claims.now.contents.kept) (own_in (groups_behind behind.now))) walks.items) }
+{
+    let mut owned = Vec::with_capacity(alloc, walks.len())?;
+    for walk in walks {
+        let own = own_walk(alloc, &walk.name, claims, behind)?;
+        owned.push(Walk { own, ..walk })?;
+    }
+    Ok(owned)
+}
+
+// The own records of a name, before an event and behind it.
+fn own_walk(
+    alloc: Global,
+    name: &Name,
+    claims: &Claims,
+    behind: &Behind<'_>,
+) -> Result<OwnWalk, AllocError>
+    ensures earlier { IfOk result (λ own. own.earlier ≡ own_of name.now (own_in claims.now.contents.kept)) }
+    ensures later { IfOk result (λ own. own.later ≡ own_of name.now (own_in (groups_behind behind.now))) }
+{
+    let mut own = OwnWalk::none(alloc);
+    claims.put_own(&mut own.earlier, name)?;
+    behind.put_own(&mut own.later, name)?;
+    Ok(own)
+}
+
+// The marks of an entry: that of a packet that was refused, those of claims, those of the questions that are asked, and those of the
+// sessions that are cut. Refused only for want of memory.
 fn make_marks(
     alloc: Global,
     happened: &Happened<'_>,
+    claims: &ClaimsPlan,
     asking: &AskingPlan,
     sessions: &SessionsPlan,
 ) -> Result<Marks, AllocError>
-    ensures { IfOk result (λ marks. marks ≡ (told_by happened.now).refusal ++ map mark_of asking.now.asked.items ++ cuts_of sessions.now.changes.items) }
+    ensures { IfOk result (λ marks. marks ≡ (told_by happened.now).refusal ++ claims.now.marks ++ map mark_of asking.now.asked.items ++ cuts_of sessions.now.changes.items) }
 {
     let mut marks = Marks::new(alloc);
     put_refusal(&mut marks, happened)?;
+    claims.put_marks(&mut marks)?;
     asking.put_askings(&mut marks)?;
     sessions.put_cuts(&mut marks)?;
     Ok(marks)

@@ -7,7 +7,8 @@ ghost use Rattle.mdns_history.specs.Lifetimes.{room_for_records};
 ghost use Rattle.mdns_happened.specs.Told.{told_of, told_by, packet_told};
 ghost use Rattle.mdns_cache.specs.Lifetimes.{Holds};
 ghost use Rattle.mdns_records.specs.After.{held_after};
-ghost use Rattle.mdns_core.specs.Alone.{kept_outcome};
+ghost use Rattle.mdns_claims.specs.Planned.{IsAcceptable};
+ghost use Rattle.mdns_core.specs.Viewed.{kept_outcome, registering};
 ghost use Rattle.mdns_core.specs.Next.{refusal_of, is_full, are_too_many};
 ghost use Rattle.sd_sessions.specs.Kept.{IsWellFormedCall};
 
@@ -16,21 +17,15 @@ use crate::plan::Kept;
 use dns_message::{Message, MessageError, Rrs, read};
 use dns_record::Rr;
 use mdns_base::Host;
+use mdns_claims::Claims;
 use mdns_happened::{Happened, Heard, Idle, Refusal, When};
 use mdns_history::{Event, Mark};
 use mdns_records::Records;
+use sd_call::{Request, well_formed};
 use sd_sessions::Registering;
 use std::alloc::{AllocError, Global};
 
 const MDNS_PORT: u16 = 5353;
-
-// Without a host nothing is registered.
-const UNREGISTERED: Registering = Registering {
-    hosted: false,
-    spent: false,
-    live: false,
-    taken: false,
-};
 
 /// An event, read once: what happened, and the records that are heard with it.
 #[derive(Drop)]
@@ -42,21 +37,22 @@ pub struct Reading<'a> {
 /// Reads an event, told of what is kept before it. Nothing else reads it. Refused only for want of memory.
 #[tactic(auto, unfolding(sd_sessions::specs::Codes::kept_outcome))]
 pub fn read_event<'a>(
-    alloc: Global,
     kept: &Kept<'_>,
     when: When,
     event: &'a Event,
 ) -> Result<Reading<'a>, AllocError>
     requires within { length kept.now.records.now.held ≤ room_for_records }
     ensures told { IfOk result (λ reading. told_by reading.happened
-        ≡ told_of event.now (kept_outcome kept.now.sessions.now.opened kept.now.sessions.now.sessions event.now) (told_by reading.happened).refusal) }
+        ≡ told_of event.now (kept_outcome kept.now.claims.now.contents kept.now.sessions.now.opened kept.now.sessions.now.sessions event.now) (told_by reading.happened).refusal) }
     ensures refused { IfOk result (λ reading. (past : List Hearing) (before : ℕ) → before ≤ when.moment → Holds kept.now.records.now.held past before
         → (told_by reading.happened).refusal ≡ refusal_of (is_full when.moment when.word event.now past) event.now) }
     ensures records { IfOk result (λ reading. reading.heard ≡ counted_records (told_by reading.happened).heard) }
     ensures room { IfOk result (λ reading. length (held_after when.moment when.word reading.heard kept.now.records.now.held) ≤ room_for_records) }
     ensures parts { IfOk result (λ _. have_data (counted_records (brought event.now)) ≡ true) }
     ensures well_formed { IfOk result (λ reading. IsWellFormedCall (told_by reading.happened).call) }
+    ensures acceptable { IfOk result (λ reading. IsAcceptable kept.now.claims.now.contents.registered (told_by reading.happened).call) }
 {
+    let alloc = kept.alloc;
     match event {
         Event::Hear { from, bytes } => {
             read_packet(alloc, kept.records, when, from, bytes.as_slice())
@@ -67,13 +63,25 @@ pub fn read_event<'a>(
             session,
             op,
             request,
-        } => brings_nothing(
-            alloc,
-            kept.sessions.call(*session, *op, request, UNREGISTERED),
-        ),
+        } => {
+            let known = registering(kept.claims, *session, *op, request);
+            brings_nothing(alloc, kept.sessions.call(*session, *op, request, known))
+        }
         Event::Take { session, max } => brings_nothing(alloc, take(*session, *max)),
         Event::Tick => brings_nothing(alloc, tick()),
         Event::Boot { config } => brings_nothing(alloc, boot(config)),
+    }
+}
+
+// What is known of registrations where a call comes.
+fn registering(claims: &Claims, session: u64, op: u32, request: &Request) -> Registering
+    ensures { result ≡ registering claims.now.contents session op request.now }
+{
+    Registering {
+        hosted: claims.hosted(),
+        spent: claims.spent(),
+        live: claims.is_live(session, op),
+        taken: well_formed(request) && claims.is_held_name(request),
     }
 }
 

@@ -30,7 +30,9 @@ use Rattle.sd_sessions.specs.Sessions.{sessions_in}
 use Rattle.mdns_asking.specs.Asked.{is_asked_by, heard_for, asked_told, asked_for, questions_after}
 use Rattle.mdns_happened.specs.Told.{unless}
 use Rattle.mdns_core.specs.Next.{IsHeard}
-use Rattle.mdns_core.proofs.step.Stage.{bare, duty_marks, noted_marks, entry_after, entry_is, marks_are}
+use Rattle.mdns_claims.proofs.Marks.{is_claimed}
+use Rattle.mdns_core.proofs.step.Stage.{bare, claim_marks, asking_marks, noted_marks, entry_after, entry_is, marks_are}
+use Rattle.mdns_core.proofs.step.ClaimMarks.{claims_pass_none}
 use Rattle.sd_sessions.proofs.Shape.{attached, passes_now, marks-next}
 use Rattle.mdns_core.proofs.asking.AskedFor.{marks-asked}
 use Rattle.mdns_asking.proofs.ActiveKeys.{move-next}
@@ -60,32 +62,58 @@ any_of_marks : (test : Mark → Bool) (asked : List (Key × Cause)) → list_any
 any_of_marks test [] = refl
 any_of_marks test (due ∷ asked) = ap (λ b. test (mark_of due) || b) (any_of_marks test asked)
 
--- the marks of the entry that follows which a test of duties passes are those of the duties
+-- marks of claims ask nothing
+claims_ask_not : (key : Key) (m : Mark) → is_claimed m ≡ true → is_asking key m ≡ false
+claims_ask_not key (mark.Renamed group number) h = refl
+claims_ask_not key (mark.Contested group) h = refl
+claims_ask_not key (mark.TieLost group) h = refl
+claims_ask_not key (mark.Failed group) h = refl
+claims_ask_not key (mark.Bad number) h = cc
+claims_ask_not key mark.Full h = cc
+claims_ask_not key (mark.Asked other why) h = cc
+claims_ask_not key (mark.Announced group) h = cc
+claims_ask_not key (mark.Cut session) h = cc
+
+claims_ask_no_series : (key : Key) (m : Mark) → is_claimed m ≡ true → is_series_asking key m ≡ false
+claims_ask_no_series key (mark.Renamed group number) h = refl
+claims_ask_no_series key (mark.Contested group) h = refl
+claims_ask_no_series key (mark.TieLost group) h = refl
+claims_ask_no_series key (mark.Failed group) h = refl
+claims_ask_no_series key (mark.Bad number) h = cc
+claims_ask_no_series key mark.Full h = cc
+claims_ask_no_series key (mark.Asked other why) h = cc
+claims_ask_no_series key (mark.Announced group) h = cc
+claims_ask_no_series key (mark.Cut session) h = cc
+
+-- the marks of the entry that follows which a test of questions passes are those of the questions that are asked
 module _ (past : List Entry) (moment word : ℕ) (ev : Event) where
-  pub duty_passes : (test : Mark → Bool) → test mark.Full ≡ false → ((number : ℕ) → test (mark.Bad number) ≡ false) → ((n : ℕ) → test (mark.Cut n) ≡ false) →
-      has_mark test (entry_after past moment word ev) ≡ list_any test (duty_marks past moment word ev)
-  duty_passes test full bad cut =
+  asking_passes : (test : Mark → Bool) → test mark.Full ≡ false → ((number : ℕ) → test (mark.Bad number) ≡ false) → ((n : ℕ) → test (mark.Cut n) ≡ false) → ((m : Mark) → is_claimed m ≡ true → test m ≡ false) →
+      has_mark test (entry_after past moment word ev) ≡ list_any test (asking_marks past moment word ev)
+  asking_passes test full bad cut claimed =
       let cut_now : List ℕ = filter (λ n. not (is_cut n past) && passes_now in_force past moment word ev n) (attached in_force past moment word ev) in
       let refusal : List Mark = refusal_marks (bare past moment word ev) past ev in
-      let duties : List Mark = duty_marks past moment word ev in
+      let claims : List Mark = claim_marks past moment word ev in
+      let asked : List Mark = asking_marks past moment word ev in
       ap (list_any test) (marks-next in_force past moment word ev ∙ ap (λ ms. ms ++ map (λ n. mark.Cut n) cut_now) (marks_are past moment word ev))
       ∙ list_any-append test (noted_marks past moment word ev) (map (λ n. mark.Cut n) cut_now)
       ∙ ap (λ b. list_any test (noted_marks past moment word ev) || b) (cuts_pass_none test cut cut_now)
       ∙ or_false (list_any test (noted_marks past moment word ev))
-      ∙ list_any-append test refusal duties
-      ∙ ap (λ b. b || list_any test duties) (refusal_passes_none test full bad (bare past moment word ev) past ev)
+      ∙ list_any-append test refusal (claims ++ asked)
+      ∙ ap (λ b. b || list_any test (claims ++ asked)) (refusal_passes_none test full bad (bare past moment word ev) past ev)
+      ∙ list_any-append test claims asked
+      ∙ ap (λ b. b || list_any test asked) (claims_pass_none test claimed past moment word ev)
     where
       or_false : (b : Bool) → (b || false) ≡ b
       or_false true = refl
       or_false false = refl
 
-  pub asks-next : (asked : List (Key × Cause)) → map mark_of asked ≡ duty_marks past moment word ev → Asks past moment word ev asked (entry_after past moment word ev)
+  pub asks-next : (asked : List (Key × Cause)) → map mark_of asked ≡ asking_marks past moment word ev → Asks past moment word ev asked (entry_after past moment word ev)
   asks-next asked same = record {
     move = move-next in_force past moment word ev;
     time = ap (λ e. e.moment) (entry_is past moment word ev);
     drawn = ap (λ e. e.word) (entry_is past moment word ev);
-    marks = λ key. duty_passes (is_asking key) refl (λ number. refl) (λ n. refl) ∙ ap (list_any (is_asking key)) (sym same) ∙ any_of_marks (is_asking key) asked;
-    series = λ key. duty_passes (is_series_asking key) refl (λ number. refl) (λ n. refl) ∙ ap (list_any (is_series_asking key)) (sym same) ∙ any_of_marks (is_series_asking key) asked;
+    marks = λ key. asking_passes (is_asking key) refl (λ number. refl) (λ n. refl) (claims_ask_not key) ∙ ap (list_any (is_asking key)) (sym same) ∙ any_of_marks (is_asking key) asked;
+    series = λ key. asking_passes (is_series_asking key) refl (λ number. refl) (λ n. refl) (claims_ask_no_series key) ∙ ap (list_any (is_series_asking key)) (sym same) ∙ any_of_marks (is_series_asking key) asked;
   }
 
 -- the questions that an event asks are chosen among those that are kept

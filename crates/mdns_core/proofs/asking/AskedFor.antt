@@ -40,7 +40,7 @@ use Rattle.mdns_question.proofs.Following.{due_follows}
 use Rattle.mdns_asking.specs.State.{asker_of}
 use Rattle.mdns_asking.specs.Asked.{is_asked_by, heard_for, asked_told, asked_for, sent_for}
 use Rattle.mdns_core.specs.Next.{refusal_of, heard_with, IsHeard}
-use Rattle.mdns_core.proofs.step.Stage.{sent_by, bare, duty_marks}
+use Rattle.mdns_core.proofs.step.Stage.{queries_by, bare, asking_marks}
 use Rattle.mdns_core.proofs.records.Hears.{unheard, full-is}
 
 keeps_all : (test : Held → Bool) (held : List Held) → list_any (λ one. not (test one)) held ≡ false → filter test held ≡ held
@@ -134,7 +134,7 @@ module _ (past : List Entry) (moment word : ℕ) (questions : List Tracked) (bef
 
   -- the marks of questions that a packet asks
   packet_marks : (from : Host) (bytes : List ℕ) → IsHeard moment word (event.Hear from bytes) (hearings past) after refusal →
-      map mark_of (heard_for questions after moment (unless refusal (brought (event.Hear from bytes)))) ≡ duty_marks past moment word (event.Hear from bytes)
+      map mark_of (heard_for questions after moment (unless refusal (brought (event.Hear from bytes)))) ≡ asking_marks past moment word (event.Hear from bytes)
   unfolding heard_askings
   packet_marks from bytes heard = of (brought ev) refl
     where
@@ -158,7 +158,7 @@ module _ (past : List Entry) (moment word : ℕ) (questions : List Tracked) (bef
               ∙ ap (λ actives. map (λ active. mark.Asked active.key cause.Heard) (filter (history_asking.is_asked_by past moment message) actives)) asking.questions
 
   -- The marks of the questions that are asked are those of the history.
-  pub marks-asked : (ev : Event) → IsHeard moment word ev (hearings past) after refusal → map mark_of (asked_for questions after moment refusal ev) ≡ duty_marks past moment word ev
+  pub marks-asked : (ev : Event) → IsHeard moment word ev (hearings past) after refusal → map mark_of (asked_for questions after moment refusal ev) ≡ asking_marks past moment word ev
   unfolding asked_told heard_askings
   marks-asked event.Tick heard = due_marks heard
   marks-asked (event.Hear from bytes) heard = packet_marks from bytes heard
@@ -168,7 +168,7 @@ module _ (past : List Entry) (moment word : ℕ) (questions : List Tracked) (bef
   marks-asked (event.Call session op request) heard = refl
   marks-asked (event.Take session max) heard = refl
 
-  tick_sent : (heard : IsHeard moment word event.Tick (hearings past) after refusal) → sent_for after moment event.Tick (due_at (asker_of questions after) moment) ≡ sent_by past moment event.Tick
+  tick_sent : (heard : IsHeard moment word event.Tick (hearings past) after refusal) → sent_for after moment event.Tick (due_at (asker_of questions after) moment) ≡ queries_by past moment event.Tick
   tick_sent heard =
       let asked : List (Key × Cause) = due_at (asker_of questions after) moment in
       let keys : List Key = map (λ due. due.0) asked in
@@ -176,7 +176,7 @@ module _ (past : List Entry) (moment word : ℕ) (questions : List Tracked) (bef
       ∙ ap (λ ks. map to_all (pack_query ks (ordered record_cmp (flat_map (λ key. known_answers key past moment) ks)))) (sym (keys_are asked) ∙ ap (filter_map key_in_mark) (due_marks heard))
 
   -- What is sent is what the history says.
-  pub sends-asked : (ev : Event) → IsHeard moment word ev (hearings past) after refusal → sent_for after moment ev (asked_for questions after moment refusal ev) ≡ sent_by past moment ev
+  pub sends-asked : (ev : Event) → IsHeard moment word ev (hearings past) after refusal → sent_for after moment ev (asked_for questions after moment refusal ev) ≡ queries_by past moment ev
   unfolding asked_told
   sends-asked event.Tick heard = tick_sent heard
   sends-asked (event.Hear from bytes) heard = refl

@@ -1,5 +1,5 @@
 -- What is kept stands for the same histories whatever the order of the held records; and the next due moment doesn't look at that order.
-use Rattle.std.proofs.Common.{◌≡◌, ℕ, ◌+◌, ◌≤◌, min, max, List, [], ◌∷◌, ◌++◌, map, Some, refl, ap, subst, ◌∙◌, sym, arith}
+use Rattle.std.proofs.Common.{◌≡◌, ℕ, ◌+◌, ◌≤◌, min, max, List, [], ◌∷◌, ◌++◌, map, Some, refl, ap, subst, ◌∙◌, sym, arith, append_assoc}
 use Rattle.std.specs.List.{flat_map, list_all}
 use Rattle.std.specs.List.Sorted.{IsPermutation}
 use Rattle.std.specs.Option.{option_map}
@@ -97,14 +97,17 @@ module _ (held later : List Held) (moved : IsPermutation held later) where
       ∙ least_of-moved (λ (one : Held). one.end ∷ []) held later moved n
       ∙ ap (least_of n) (one_each (λ (one : Held). one.end) later)
 
-  -- So is the next due moment.
-  pub due-moved : (last : ℕ) (questions : List Tracked) →
-      option_map (max last) (least (map (λ (one : Held). one.end) held ++ map (next_of held) questions)) ≡ option_map (max last) (least (map (λ (one : Held). one.end) later ++ map (next_of later) questions))
-  due-moved last questions =
-      ap (λ ns. option_map (max last) (least (map (λ (one : Held). one.end) held ++ ns))) (nexts-moved questions)
+  -- So is the next due moment, whatever else is due.
+  pub due-moved : (last : ℕ) (questions : List Tracked) (others : List ℕ) →
+      option_map (max last) (least (map (λ (one : Held). one.end) held ++ map (next_of held) questions ++ others))
+      ≡ option_map (max last) (least (map (λ (one : Held). one.end) later ++ map (next_of later) questions ++ others))
+  due-moved last questions others =
+      ap (λ ns. option_map (max last) (least (map (λ (one : Held). one.end) held ++ ns ++ others))) (nexts-moved questions)
+      ∙ ap (λ ns. option_map (max last) (least ns)) (append_assoc (map (λ (one : Held). one.end) held) nexts others)
       ∙ ap (option_map (max last))
-      (least-same (map (λ (one : Held). one.end) held ++ nexts) (map (λ (one : Held). one.end) later ++ nexts)
-      (λ n. least_of-append n (map (λ (one : Held). one.end) held) nexts ∙ ap (λ k. least_of k nexts) (ends-moved n) ∙ sym (least_of-append n (map (λ (one : Held). one.end) later) nexts)))
+      (least-same (map (λ (one : Held). one.end) held ++ (nexts ++ others)) (map (λ (one : Held). one.end) later ++ (nexts ++ others))
+      (λ n. least_of-append n (map (λ (one : Held). one.end) held) (nexts ++ others) ∙ ap (λ k. least_of k (nexts ++ others)) (ends-moved n) ∙ sym (least_of-append n (map (λ (one : Held). one.end) later) (nexts ++ others))))
+      ∙ ap (λ ns. option_map (max last) (least ns)) (sym (append_assoc (map (λ (one : Held). one.end) later) nexts others))
     where
       nexts : List ℕ
       nexts = map (next_of later) questions
@@ -113,11 +116,12 @@ module _ (held later : List Held) (moved : IsPermutation held later) where
   pub stands-moved : (state : State) → state.held ≡ later → (history : List Entry) → Stands state history → Stands (record state { held = held }) history
   stands-moved state is history stands = record {
     legal = stands.legal;
-    hostless = stands.hostless;
     last = stands.last;
     opened = stands.opened;
     sessions = stands.sessions;
     asking = record { questions = stands.asking.questions; each = stands.asking.each };
+    claims = stands.claims;
+    announces = stands.announces;
     records = IsPermutation-trans held later (live_records history (now history)) moved (subst (λ (l : List Held). IsPermutation l (live_records history (now history))) is stands.records);
     typed = list_all-IsPermutation (λ (rr : Rr). is_spellable_data rr.rdata) (map (λ (one : Held). one.rr) held) (map (λ (one : Held). one.rr) later) (IsPermutation-map (λ (one : Held). one.rr) held later moved)
         ∙ ap (λ (l : List Held). list_all (λ (rr : Rr). is_spellable_data rr.rdata) (map (λ (one : Held). one.rr) l)) (sym is) ∙ stands.typed;

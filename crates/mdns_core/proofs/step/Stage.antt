@@ -1,6 +1,6 @@
--- The entry that follows a history, by its stages: the marks of a refusal and those of questions that are asked, and what is sent; then the marks of cut
--- sessions, then what is given. Of the duties asking alone is in force.
-use Rattle.std.proofs.Common.{◌≡◌, ℕ, ◌≤◌, false, List, [], ◌∷◌, ◌++◌, refl, ap, ◌∙◌, append-nil}
+-- The entry that follows a history, by its stages: the marks of a refusal, of claims and of questions that are asked, and what is sent; then the marks of
+-- cut sessions, then what is given. Of the duties claiming and asking are in force.
+use Rattle.std.proofs.Common.{◌≡◌, ℕ, ◌≤◌, false, cond, List, [], ◌∷◌, ◌++◌, refl, ap, ◌∙◌, append-nil}
 use Rattle.dns_message.specs.Packing.{pack_reply}
 use Rattle.mdns_history.specs.declared.event.Event.{Event}
 use Rattle.mdns_history.specs.declared.event.Event.TheVariants as event
@@ -8,16 +8,25 @@ use Rattle.mdns_history.specs.declared.mark.Mark.{Mark}
 use Rattle.mdns_history.specs.declared.entry.Sent.{Sent}
 use Rattle.mdns_history.specs.declared.entry.Entry.{Entry}
 use Rattle.mdns_history.specs.History.{now}
+use Rattle.mdns_happened.specs.Told.{is_tick}
 use Rattle.mdns_core.specs.InForce.{in_force}
 use Rattle.mdns_history.specs.Asking.{tick_askings}
-use Rattle.mdns_history.specs.Sending.{sent_queries, tick_sends}
-use Rattle.mdns_history.specs.Fitting.{bare_entry, refusal_marks, asked_marks, event_marks, event_sends, noted, with_cuts, with_items, with_outcome, next_entry, last_moment, is_boot, Fits, IsLegal}
+use Rattle.mdns_history.specs.Sending.{sent_probes, sent_queries, tick_sends}
+use Rattle.mdns_history.specs.Fitting.{bare_entry, refusal_marks, disturbed_marks, asked_marks, event_marks, event_sends, noted, with_cuts, with_items, with_outcome, next_entry, last_moment, is_boot, Fits, IsLegal}
 use Rattle.mdns_history.proofs.Determined.{next_entry-fits}
 
--- what an event sends: a tick the queries of the questions that it asks
+-- the queries that an event sends: those of the questions that a tick asks
+abbrev pub queries_by : List Entry → ℕ → Event → List Sent
+queries_by past moment event.Tick = sent_queries (tick_askings past moment) past moment
+queries_by past moment _ = []
+
+-- the probes that an event sends: those of the groups that are due in a tick
+abbrev pub probes_by : List Entry → ℕ → Event → List Sent
+probes_by past moment ev = cond (is_tick ev) (sent_probes past moment) []
+
+-- what an event sends: probes, then queries
 abbrev pub sent_by : List Entry → ℕ → Event → List Sent
-sent_by past moment event.Tick = sent_queries (tick_askings past moment) past moment
-sent_by past moment _ = []
+sent_by past moment ev = probes_by past moment ev ++ queries_by past moment ev
 
 sends_are : (entry : Entry) (past : List Entry) (ev : Event) → event_sends in_force entry past ev ≡ sent_by past entry.moment ev
 unfolding in_force tick_sends pack_reply
@@ -26,16 +35,23 @@ sends_are entry past event.Attach = refl
 sends_are entry past (event.Detach session) = refl
 sends_are entry past (event.Call session op request) = refl
 sends_are entry past (event.Hear from bytes) = refl
-sends_are entry past event.Tick = append-nil (sent_queries (tick_askings past entry.moment) past entry.moment)
+sends_are entry past event.Tick = ap (λ (queries : List Sent). sent_probes past entry.moment ++ queries) (append-nil (sent_queries (tick_askings past entry.moment) past entry.moment))
 sends_are entry past (event.Take session max) = refl
 
 module _ (past : List Entry) (moment word : ℕ) (ev : Event) where
   abbrev pub bare : Entry
   bare = bare_entry moment word ev past
 
-  -- the marks of the daemon's duties: those of the questions that the event asks
+  -- the marks that the event gives to claims, and those of the questions that it asks
+  abbrev pub claim_marks : List Mark
+  claim_marks = disturbed_marks bare past
+
+  abbrev pub asking_marks : List Mark
+  asking_marks = asked_marks bare past ev
+
+  -- the marks of the daemon's duties
   abbrev pub duty_marks : List Mark
-  duty_marks = asked_marks bare past ev
+  duty_marks = claim_marks ++ asking_marks
 
   -- the marks of a refusal and of the duties
   abbrev pub noted_marks : List Mark
@@ -60,12 +76,12 @@ module _ (past : List Entry) (moment word : ℕ) (ev : Event) where
   -- the same marks, by the definition for any duties
   pub marks_are : event_marks in_force bare past ≡ noted_marks
   unfolding in_force
-  marks_are = ap (λ (m : List Mark). refusal_marks bare past ev ++ m) (append-nil duty_marks)
+  marks_are = ap (λ (m : List Mark). refusal_marks bare past ev ++ (claim_marks ++ m)) (append-nil asking_marks)
 
   noted_is : noted in_force bare past ≡ marked
   unfolding in_force
   noted_is =
-      ap (λ (m : List Mark). let e : Entry = record bare { marks = refusal_marks bare past ev ++ m; sent = event_sends in_force bare past ev } in e) (append-nil duty_marks)
+      ap (λ (m : List Mark). let e : Entry = record bare { marks = refusal_marks bare past ev ++ (claim_marks ++ m); sent = event_sends in_force bare past ev } in e) (append-nil asking_marks)
       ∙ ap (λ (s : List Sent). let e : Entry = record bare { marks = noted_marks; sent = s } in e) (sends_are bare past ev)
 
   -- the entry, by its stages

@@ -1,22 +1,21 @@
 -- What a daemon's state says of the histories that it stands for: at its boot, of its sessions, and when something is due.
-use Rattle.std.proofs.Common.{◌≡◌, ℕ, ◌≤◌, Bool, true, false, cond, ◌&&◌, max, List, [], ◌∷◌, ◌++◌, map, Option, Some, None, refl, ap, subst, ◌∙◌, sym, IsTrue}
+use Rattle.std.proofs.Common.{◌≡◌, ℕ, ◌≤◌, Bool, true, false, cond, max, List, [], ◌∷◌, ◌++◌, map, Option, Some, None, refl, ap, subst, ◌∙◌, sym, IsTrue}
 use Rattle.std.proofs.lemmas.List.Sorted.{IsPermutation-refl}
-use Rattle.std.specs.List.{find, list_all}
+use Rattle.std.specs.List.{find, flat_map}
 use Rattle.std.specs.List.Sorted.{IsPermutation}
 use Rattle.std.specs.Option.{is_some, option_map}
 use Rattle.sd_call.specs.Replay.{replay}
 use Rattle.mdns_history.specs.declared.config.Config.{Config}
-use Rattle.mdns_history.specs.declared.config.HostConfig.{HostConfig}
 use Rattle.mdns_history.specs.declared.entry.Entry.{Entry}
 use Rattle.mdns_core.specs.InForce.{in_force}
 use Rattle.mdns_history.specs.Hearings.{Hearing, hearings, heard_in}
-use Rattle.mdns_history.specs.Lifetimes.{is_live_at, live_of, live_records}
+use Rattle.mdns_history.specs.Lifetimes.{live_of, live_records}
 use Rattle.mdns_history.specs.Sessions.{is_attached, attached_sessions, is_cut, operations}
 use Rattle.mdns_history.specs.Questions.{Active, active_questions}
 use Rattle.mdns_history.specs.Items.{session_items, taken_items, queue}
 use Rattle.mdns_history.specs.Replays.{answer_sets}
 use Rattle.mdns_history.specs.Fitting.{boot_entry, last_moment, is_host_label}
-use Rattle.mdns_history.specs.Due.{is_nothing, is_idle, NextDue}
+use Rattle.mdns_history.specs.Due.{NextDue}
 use Rattle.mdns_history.proofs.LegalReplay.{is_replayed}
 use Rattle.mdns_history.proofs.LegalQueue.{is_queued}
 use Rattle.mdns_cache.specs.Lifetimes.{Holds}
@@ -25,19 +24,20 @@ use Rattle.mdns_history.specs.declared.held.Held.{Held}
 use Rattle.mdns_history.specs.declared.mark.Mark.{Mark}
 use Rattle.mdns_core.specs.Next.{IsHeard}
 use Rattle.mdns_core.specs.State.{State, Stands, due_of}
-use Rattle.mdns_asking.specs.State.{asker_of}
 use Rattle.sd_sessions.specs.Sessions.{Session, session_in}
 use Rattle.sd_sessions.specs.Codes.{has_number}
-use Rattle.mdns_question.specs.Tracking.{due_at}
 use Rattle.mdns_question.specs.Next.{next_of}
 use Rattle.dns_name.specs.Lists.{least}
-use Rattle.mdns_core.proofs.ticks.Due.{is_idle-held, due-held}
-use Rattle.mdns_core.proofs.step.WithoutHost.{is_idle-hostless}
+use Rattle.mdns_core.proofs.ticks.Due.{due-held}
+use Rattle.mdns_core.proofs.ticks.Quiet.{is_idle-kept}
+use Rattle.mdns_claims.specs.State.{Contents}
+use Rattle.mdns_claims.specs.State as claims
+use Rattle.mdns_claims.specs.Behind.{next_in}
 use Rattle.sd_sessions.proofs.KeptOutcome.{found-session}
 
 -- the state of a daemon that was just booted
-abbrev pub booted_state : ℕ → State
-booted_state moment = record { last = moment; opened = 0; sessions = []; held = []; questions = [] }
+abbrev pub booted_state : ℕ → Contents → State
+booted_state moment claims = record { last = moment; opened = 0; sessions = []; held = []; questions = []; claims = claims }
 
 none_live : (moment word : ℕ) (config : Config) → live_records (boot_entry moment word config ∷ []) moment ≡ []
 unfolding live_records live_of hearings heard_in
@@ -51,15 +51,17 @@ none_active : (moment word : ℕ) (config : Config) → ◌≡◌ {A = List Acti
 unfolding active_questions operations attached_sessions
 none_active moment word config = refl
 
--- A daemon that was just booted without a host stands for the history of its boot.
-pub stands-boot : (moment word : ℕ) (config : Config) → moment ≤ last_moment → ◌≡◌ {A = Option HostConfig} config.host None → Stands (booted_state moment) (boot_entry moment word config ∷ [])
-stands-boot moment word config in_time hostless = record {
-  legal = (config, in_time, subst (λ (host : Option HostConfig). IsTrue (is_host_label host)) (sym hostless) refl, refl);
-  hostless = hostless;
+-- A daemon that was just booted stands for the history of its boot, where its claims do.
+pub stands-boot : (moment word : ℕ) (config : Config) (contents : Contents) → moment ≤ last_moment → IsTrue (is_host_label config.host) → claims.Stands contents (boot_entry moment word config ∷ []) →
+    contents.announces ≡ in_force.announcing → Stands (booted_state moment contents) (boot_entry moment word config ∷ [])
+stands-boot moment word config contents in_time labelled claiming announces = record {
+  legal = (config, in_time, labelled, refl);
   last = refl;
   opened = refl;
   sessions = sym (ap (map (session_in (boot_entry moment word config ∷ []))) (none_attached moment word config));
   asking = record { questions = none_active moment word config; each = tt };
+  claims = claiming;
+  announces = announces;
   records = subst (λ live. IsPermutation [] live) (sym (none_live moment word config)) (IsPermutation-refl []);
   typed = refl;
 }
@@ -73,17 +75,12 @@ attached-stands state history stands n =
     of true = refl
     of false = refl
 
--- A tick is idle where no held record has ended and no question is due.
-pub is_idle-stands : (state : State) (history : List Entry) → Stands state history → (moment : ℕ) → state.last ≤ moment →
-    is_idle in_force history moment ≡ (list_all (is_live_at moment) state.held && is_nothing (due_at (asker_of state.questions state.held) moment))
-is_idle-stands state history stands moment later =
-    is_idle-held history (is_idle-hostless history stands.legal stands.hostless) state.questions state.held stands.asking stands.records moment (subst (λ k. k ≤ moment) stands.last later)
-
--- The next moment that is due is the first, from the last one on, at which a held record ends or a question is due.
+-- The next moment that is due is the first, from the last one on, at which a held record ends, or a question or a group is due.
 pub due-stands : (state : State) (history : List Entry) → Stands state history → NextDue in_force history (due_of state)
 due-stands state history stands =
-    subst (λ k. NextDue in_force history (option_map (max k) (least (map (λ one. one.end) state.held ++ map (next_of state.held) state.questions)))) (sym stands.last)
-    (due-held history (is_idle-hostless history stands.legal stands.hostless) state.questions state.held stands.asking stands.records)
+    subst (λ k. NextDue in_force history (option_map (max k) (least (map (λ one. one.end) state.held ++ map (next_of state.held) state.questions ++ flat_map (next_in state.claims.announces) state.claims.kept)))) (sym stands.last)
+    (due-held history (flat_map (next_in state.claims.announces) state.claims.kept) (λ t later. is_idle-kept history t stands.legal later state.claims stands.announces stands.claims)
+    state.questions state.held stands.asking stands.records)
 
 -- Replaying the items of a session that is attached and not cut gives the answers of its operations.
 pub replayed-stands : (state : State) (history : List Entry) → Stands state history → (n : ℕ) → is_attached n history ≡ true → is_cut n history ≡ false →

@@ -1,7 +1,10 @@
 -- What is kept makes the entry that fits, and stands for the history with it.
-use Rattle.std.proofs.Common.{◌≡◌, ℕ, ◌≤◌, true, false, List, ◌∷◌, ◌++◌, map, None, ap, subst, ◌∙◌, sym, append-nil}
+use Rattle.std.proofs.Common.{◌≡◌, ℕ, ◌≤◌, true, false, List, ◌∷◌, ◌++◌, map, ap, subst, ◌∙◌, sym, ◌&&◌, append_assoc}
 use Rattle.std.specs.List.Sorted.{IsPermutation}
 use Rattle.std.specs.Option.{unwrap_or}
+use Rattle.std.proofs.lemmas.List.Folds.{list_all-append}
+use Rattle.dns_record.specs.declared.record.Rr.{Rr}
+use Rattle.dns_message.specs.Writing.{is_spellable_data}
 use Rattle.sd_answer.specs.Known.{rrs_of}
 use Rattle.sd_answer.specs.Laws.{have_data}
 use Rattle.dns_record.specs.declared.record.Key.{Key}
@@ -18,7 +21,6 @@ use Rattle.mdns_core.specs.InForce.{in_force}
 use Rattle.mdns_history.specs.Hearings.{hearings}
 use Rattle.mdns_history.specs.Lifetimes.{live_records}
 use Rattle.mdns_history.specs.Sessions.{opened, opened_count}
-use Rattle.mdns_history.specs.Groups.{host_of}
 use Rattle.mdns_history.specs.Outcomes.{early_outcome}
 use Rattle.mdns_history.specs.Fitting.{is_boot, last_moment, refusal_marks, Fits, IsLegal}
 use Rattle.mdns_history.proofs.Determined.{next_entry-fits}
@@ -32,14 +34,20 @@ use Rattle.mdns_asking.specs.Asked.{asked_for, sent_for, questions_after}
 use Rattle.mdns_asking.specs.State.{asker_of}
 use Rattle.mdns_asking.specs.Timed.{all_timed}
 use Rattle.sd_sessions.specs.Settling.{change_for, cuts_of, gifts_of, all_settled, remaining, with_opened, outcome_then, sessions_after}
-use Rattle.mdns_core.specs.Alone.{alone, kept_outcome}
-use Rattle.mdns_core.specs.Next.{changes_for, sessions_then, entry_for, state_after, IsHeard}
-use Rattle.mdns_core.proofs.step.Stage.{sent_by, bare, duty_marks, entry_after, entry_is, marks_are, sent-next, IsLegal-next}
+use Rattle.mdns_happened.specs.Told.{told_of, is_tick}
+use Rattle.mdns_claims.specs.State.{Contents}
+use Rattle.mdns_claims.specs.State as claims
+use Rattle.mdns_claims.specs.Owned.{own_in}
+use Rattle.mdns_claims.specs.Behind.{occasion_of, probes_told, contents_told}
+use Rattle.mdns_core.specs.Viewed.{viewed, kept_outcome}
+use Rattle.mdns_core.specs.Next.{claims_then, changes_for, sessions_then, entry_for, state_after, IsHeard}
+use Rattle.mdns_core.proofs.step.Stage.{queries_by, probes_by, sent_by, bare, claim_marks, asking_marks, entry_after, entry_is, marks_are, sent-next, IsLegal-next}
 use Rattle.mdns_core.proofs.records.Hears.{refusal-is, records-is}
 use Rattle.mdns_core.proofs.asking.AskedFor.{marks-asked, sends-asked}
 use Rattle.mdns_core.proofs.asking.AskedAfter.{asking-next}
 use Rattle.mdns_asking.proofs.Timed.{stands_timed}
-use Rattle.mdns_core.proofs.step.WithoutHost.{live, hostless-next, outcome-kept, changes-kept}
+use Rattle.mdns_core.proofs.step.Answered.{live, outcome-kept}
+use Rattle.mdns_core.proofs.step.Claiming.{contents_next, claim-marks-kept, probes-kept, claims-next, changes-kept}
 use Rattle.sd_sessions.specs.Answered.{answered}
 use Rattle.sd_sessions.specs.Laws.{answers_in}
 use Rattle.sd_sessions.proofs.KeptChanges.{marks-kept, given-kept}
@@ -50,12 +58,19 @@ use Rattle.sd_sessions.proofs.Follows.{outcome-is, opened-is, sessions-is}
 abbrev entry_of : ℕ → ℕ → Event → List Mark → List Sent → List Given → Outcome → Entry
 entry_of moment word ev marks sent given outcome = record { moment = moment; word = word; event = ev; marks = marks; sent = sent; given = given; outcome = outcome }
 
-abbrev kept_state : ℕ → ℕ → List Session → List Held → List Tracked → State
-kept_state last count sessions held questions = record { last = last; opened = count; sessions = sessions; held = held; questions = questions }
+abbrev kept_state : ℕ → ℕ → List Session → List Held → List Tracked → Contents → State
+kept_state last count sessions held questions contents =
+    record { last = last; opened = count; sessions = sessions; held = held; questions = questions; claims = contents }
+
+appended_parts : (ks ms ns more : List Mark) → (ks ++ (ms ++ ns)) ++ more ≡ ks ++ ms ++ ns ++ more
+appended_parts ks ms ns more = ap (λ l. l ++ more) (sym (append_assoc ks ms ns))
 
 module _ (history : List Entry) (moment word : ℕ) (ev : Event) where
   abbrev early : Outcome
   early = early_outcome ev history
+
+  abbrev refused : List Mark
+  refused = refusal_marks (bare history moment word ev) history ev
 
   abbrev changes : List SessionChange
   changes = map (change_for ev early (answers_in history) (answers_in (entry_after history moment word ev ∷ history))) (sessions_in history)
@@ -63,19 +78,23 @@ module _ (history : List Entry) (moment word : ℕ) (ev : Event) where
   abbrev then_sessions : Outcome → List SessionChange → List Session
   then_sessions o cs = with_opened (opened o) (remaining ev o (all_settled (sessions_in history) cs))
 
-  abbrev entry_with : Outcome → List SessionChange → List Mark → List Mark → List Sent → Entry
-  entry_with o cs refusal asked sent = entry_of moment word ev (refusal ++ asked ++ cuts_of cs) sent (gifts_of cs) (outcome_then ev o (then_sessions o cs))
+  abbrev entry_with : Outcome → List SessionChange → List Mark → List Mark → List Mark → List Sent → List Sent → Entry
+  entry_with o cs refusal claimed asked probes queries =
+      entry_of moment word ev (refusal ++ claimed ++ asked ++ cuts_of cs) (probes ++ queries) (gifts_of cs) (outcome_then ev o (then_sessions o cs))
 
-  module _ (legal : IsLegal in_force history) (hostless : host_of history ≡ None) (no_boot : is_boot ev ≡ false) where
+  module _ (legal : IsLegal in_force history) (no_boot : is_boot ev ≡ false) where
     -- what is kept makes the entry that follows, with the marks and messages of the duties
-    entry-is : entry_after history moment word ev ≡ entry_with early changes (refusal_marks (bare history moment word ev) history ev) (duty_marks history moment word ev) (sent_by history moment ev)
+    entry-is : entry_after history moment word ev
+        ≡ entry_with early changes refused (claim_marks history moment word ev) (asking_marks history moment word ev) (probes_by history moment ev) (queries_by history moment ev)
     entry-is =
         let e : Entry = entry_after history moment word ev in
-        let ms : List Mark = refusal_marks (bare history moment word ev) history ev ++ duty_marks history moment word ev ++ cuts_of changes in
+        let ms : List Mark = refused ++ claim_marks history moment word ev ++ asking_marks history moment word ev ++ cuts_of changes in
         ap (λ m. entry_of m e.word e.event e.marks e.sent e.given e.outcome) (ap (λ x. x.moment) (entry_is history moment word ev))
         ∙ ap (λ w. entry_of moment w e.event e.marks e.sent e.given e.outcome) (ap (λ x. x.word) (entry_is history moment word ev))
         ∙ ap (λ v. entry_of moment word v e.marks e.sent e.given e.outcome) (ap (λ x. x.event) (entry_is history moment word ev))
-        ∙ ap (λ marks. entry_of moment word ev marks e.sent e.given e.outcome) (marks-kept in_force history moment word ev legal ∙ ap (λ ns. ns ++ cuts_of changes) (marks_are history moment word ev))
+        ∙ ap (λ marks. entry_of moment word ev marks e.sent e.given e.outcome)
+        (marks-kept in_force history moment word ev legal ∙ ap (λ ns. ns ++ cuts_of changes) (marks_are history moment word ev)
+        ∙ appended_parts refused (claim_marks history moment word ev) (asking_marks history moment word ev) (cuts_of changes))
         ∙ ap (λ ss. entry_of moment word ev ms ss e.given e.outcome) (sent-next history moment word ev)
         ∙ ap (λ gs. entry_of moment word ev ms (sent_by history moment ev) gs e.outcome) (given-kept in_force history moment word ev legal)
         ∙ ap (λ o. entry_of moment word ev ms (sent_by history moment ev) (gifts_of changes) o) (outcome-is in_force history moment word ev legal no_boot)
@@ -83,80 +102,135 @@ module _ (history : List Entry) (moment word : ℕ) (ev : Event) where
     moment-is : (entry_after history moment word ev).moment ≡ moment
     moment-is = ap (λ x. x.moment) (entry_is history moment word ev)
 
-    module _ (questions : List Tracked) (before after : List Held) (refusal : List Mark) (questions_stand : asking.Stands (asker_of questions before) history) (held : IsPermutation before (live_records history (now history)))
-        (heard : IsHeard moment word ev (hearings history) after refusal) (data_before : have_data (rrs_of before) ≡ true) (data_after : have_data (rrs_of after) ≡ true) where
+    module _ (since : now history ≤ moment) (contents : Contents) (announces : contents.announces ≡ in_force.announcing) (claims_stand : claims.Stands contents history)
+        (questions : List Tracked) (before after : List Held) (refusal : List Mark) (questions_stand : asking.Stands (asker_of questions before) history)
+        (held : IsPermutation before (live_records history (now history))) (heard : IsHeard moment word ev (hearings history) after refusal) where
       abbrev state : State
-      state = kept_state (now history) (opened_count history) (sessions_in history) before questions
+      state = kept_state (now history) (opened_count history) (sessions_in history) before questions contents
 
       abbrev asked : List (Key × Cause)
       asked = asked_for questions after moment refusal ev
+
+      -- what is kept of claims, for an outcome and the mark of a refusal
+      abbrev claims_by : Outcome → List Mark → Contents
+      claims_by o marks = contents_told contents (occasion_of contents (told_of ev o marks) moment word)
+
+      abbrev claimed_by : Outcome → List Mark → List Mark
+      claimed_by o marks = (occasion_of contents (told_of ev o marks) moment word).marks
+
+      abbrev contents_then : Contents
+      contents_then = contents_next history legal moment word ev no_boot since contents announces claims_stand
+
+      -- the changes of sessions, for an outcome and what is then kept of claims
+      abbrev changes_by : Outcome → Contents → List SessionChange
+      changes_by o then = map (change_for ev o (answered (viewed contents before)) (answered (viewed then after))) (sessions_in history)
+
+      refusal-same : refusal ≡ refused
+      refusal-same = heard.refused ∙ refusal-is history moment word ev
 
       records-after : IsPermutation after (live_records (entry_after history moment word ev ∷ history) (entry_after history moment word ev).moment)
       records-after = subst (λ m. IsPermutation after (live_records (entry_after history moment word ev ∷ history) m)) (sym moment-is)
           (subst (λ live. IsPermutation after live) (records-is history moment word ev) heard.records)
 
-      changes-are : map (change_for ev early (answered (alone before)) (answered (alone after))) (sessions_in history) ≡ changes
-      changes-are =
-          changes-permuted ev early (alone before) (alone after) (live history) (live (entry_after history moment word ev ∷ history))
-          (ap have_data (append-nil (rrs_of before)) ∙ data_before) (ap have_data (append-nil (rrs_of after)) ∙ data_after) held records-after (sessions_in history)
-          ∙ changes-kept history legal hostless moment word ev no_boot
+      kept-early : kept_outcome contents (opened_count history) (sessions_in history) ev ≡ early
+      kept-early = sym (outcome-kept history contents claims_stand legal ev)
 
-      kept-early : kept_outcome (opened_count history) (sessions_in history) ev ≡ early
-      kept-early = sym (outcome-kept history legal hostless moment word ev no_boot)
+      claims-are : claims_by (kept_outcome contents (opened_count history) (sessions_in history) ev) refusal ≡ contents_then
+      claims-are = λ i. claims_by (kept-early i) (refusal-same i)
 
-      pub entry_for-is : entry_for state moment word ev refusal after ≡ entry_after history moment word ev
-      entry_for-is =
-          let marks : List Mark = map mark_of asked in
-          let sent : List Sent = sent_for after moment ev asked in
-          let refused : List Mark = refusal_marks (bare history moment word ev) history ev in
-          ap (λ o. entry_with o (map (change_for ev o (answered (alone before)) (answered (alone after))) (sessions_in history)) refusal marks sent) kept-early
-          ∙ ap (λ cs. entry_with early cs refusal marks sent) changes-are
-          ∙ ap (λ r. entry_with early changes r marks sent) (heard.refused ∙ refusal-is history moment word ev)
-          ∙ ap (λ ms. entry_with early changes refused ms sent) (marks-asked history moment word questions before after refusal questions_stand ev heard)
-          ∙ ap (λ ss. entry_with early changes refused (duty_marks history moment word ev) ss) (sends-asked history moment word questions before after refusal questions_stand ev heard)
-          ∙ sym entry-is
+      claimed-are : claimed_by (kept_outcome contents (opened_count history) (sessions_in history) ev) refusal ≡ claim_marks history moment word ev
+      claimed-are = (λ i. claimed_by (kept-early i) (refusal-same i)) ∙ claim-marks-kept history legal moment word ev no_boot since contents announces claims_stand
 
-      sessions-are : sessions_after ev (sessions_then state ev (changes_for state ev after)) ≡ sessions_in (entry_after history moment word ev ∷ history)
-      sessions-are =
-          ap (λ o. sessions_after ev (then_sessions o (map (change_for ev o (answered (alone before)) (answered (alone after))) (sessions_in history)))) kept-early
-          ∙ ap (λ cs. sessions_after ev (then_sessions early cs)) changes-are
-          ∙ sym (sessions-is in_force history moment word ev legal no_boot)
+      module _ (data_before : have_data (rrs_of before ++ own_in contents.kept) ≡ true)
+          (data_after : have_data (rrs_of after ++ own_in contents_then.kept) ≡ true) (typed_after : have_data (rrs_of after) ≡ true) where
+        changes-are : changes_by early contents_then ≡ changes
+        changes-are =
+            changes-permuted ev early (viewed contents before) (viewed contents_then after) (live history) (live (entry_after history moment word ev ∷ history))
+            data_before data_after held records-after (sessions_in history)
+            ∙ changes-kept history legal moment word ev no_boot since contents announces claims_stand
 
-      asking-after : asking.Stands (asker_of (all_timed after (questions_after (sessions_in history) moment word ev (kept_outcome (opened_count history) (sessions_in history) ev) asked questions)) after) (entry_after history moment word ev ∷ history)
-      asking-after =
-          stands_timed (entry_after history moment word ev ∷ history) (questions_after (sessions_in history) moment word ev (kept_outcome (opened_count history) (sessions_in history) ev) asked questions) after after after
-          (subst (λ o. asking.Stands (asker_of (questions_after (sessions_in history) moment word ev o asked questions) after) (entry_after history moment word ev ∷ history)) (sym kept-early)
-          (asking-next history legal moment word ev questions before after refusal questions_stand heard))
+        changes-then : changes_for state ev (claims_then state moment word ev refusal) after ≡ changes
+        changes-then = (λ i. changes_by (kept-early i) (claims-are i)) ∙ changes-are
 
-      pub stands-after : now history ≤ moment → moment ≤ last_moment → Stands (state_after state moment word ev refusal after) (entry_after history moment word ev ∷ history)
-      stands-after later in_time = record {
-        legal = IsLegal-next history moment word ev legal later in_time no_boot;
-        hostless = hostless-next history legal hostless moment word ev no_boot;
-        last = sym moment-is;
-        opened = ap (λ o. unwrap_or (opened o) (opened_count history)) kept-early ∙ sym (opened-is in_force history moment word ev legal no_boot);
-        sessions = sessions-are;
-        asking = asking-after;
-        records = records-after;
-        typed = data_after;
-      }
+        pub entry_for-is : entry_for state moment word ev refusal after ≡ entry_after history moment word ev
+        entry_for-is =
+            let o : Outcome = kept_outcome contents (opened_count history) (sessions_in history) ev in
+            let marks : List Mark = map mark_of asked in
+            let queries : List Sent = sent_for after moment ev asked in
+            let probes : List Sent = probes_told (is_tick ev) contents.kept moment in
+            ap (λ cs. entry_with o cs refusal (claimed_by o refusal) marks probes queries) changes-then
+            ∙ ap (λ x. entry_with x changes refusal (claimed_by o refusal) marks probes queries) kept-early
+            ∙ ap (λ cm. entry_with early changes refusal cm marks probes queries) claimed-are
+            ∙ ap (λ r. entry_with early changes r (claim_marks history moment word ev) marks probes queries) refusal-same
+            ∙ ap (λ ms. entry_with early changes refused (claim_marks history moment word ev) ms probes queries) (marks-asked history moment word questions before after refusal questions_stand ev heard)
+            ∙ ap (λ ps. entry_with early changes refused (claim_marks history moment word ev) (asking_marks history moment word ev) ps queries)
+            (probes-kept history legal moment word ev no_boot since contents announces claims_stand)
+            ∙ ap (λ qs. entry_with early changes refused (claim_marks history moment word ev) (asking_marks history moment word ev) (probes_by history moment ev) qs)
+            (sends-asked history moment word questions before after refusal questions_stand ev heard)
+            ∙ sym entry-is
 
-      pub stepped-from : now history ≤ moment → moment ≤ last_moment →
-          Fits in_force (entry_for state moment word ev refusal after) history × Stands (state_after state moment word ev refusal after) (entry_for state moment word ev refusal after ∷ history)
-      stepped-from later in_time = (
-        subst (λ e. Fits in_force e history) (sym entry_for-is) (next_entry-fits in_force history moment word ev later in_time no_boot),
-        subst (λ e. Stands (state_after state moment word ev refusal after) (e ∷ history)) (sym entry_for-is) (stands-after later in_time),
-      )
+        sessions-are : sessions_after ev (sessions_then state ev (changes_for state ev (claims_then state moment word ev refusal) after)) ≡ sessions_in (entry_after history moment word ev ∷ history)
+        sessions-are =
+            (λ i. sessions_after ev (then_sessions (kept-early i) (changes-then i)))
+            ∙ sym (sessions-is in_force history moment word ev legal no_boot)
+
+        asking-after : asking.Stands (asker_of (all_timed after (questions_after (sessions_in history) moment word ev (kept_outcome contents (opened_count history) (sessions_in history) ev) asked questions)) after)
+            (entry_after history moment word ev ∷ history)
+        asking-after =
+            let o : Outcome = kept_outcome contents (opened_count history) (sessions_in history) ev in
+            stands_timed (entry_after history moment word ev ∷ history) (questions_after (sessions_in history) moment word ev o asked questions) after after after
+            (subst (λ x. asking.Stands (asker_of (questions_after (sessions_in history) moment word ev x asked questions) after) (entry_after history moment word ev ∷ history)) (sym kept-early)
+            (asking-next history legal moment word ev questions before after refusal questions_stand heard))
+
+        announces-after : (claims_then state moment word ev refusal).announces ≡ in_force.announcing
+        unfolding contents_told
+        announces-after = announces
+
+        pub stands-after : moment ≤ last_moment → Stands (state_after state moment word ev refusal after) (entry_after history moment word ev ∷ history)
+        stands-after in_time = record {
+          legal = IsLegal-next history moment word ev legal since in_time no_boot;
+          last = sym moment-is;
+          opened = ap (λ o. unwrap_or (opened o) (opened_count history)) kept-early ∙ sym (opened-is in_force history moment word ev legal no_boot);
+          sessions = sessions-are;
+          asking = asking-after;
+          claims = subst (λ c. claims.Stands c (entry_after history moment word ev ∷ history)) (sym claims-are)
+              (claims-next history legal moment word ev no_boot since contents announces claims_stand);
+          announces = announces-after;
+          records = records-after;
+          typed = typed_after;
+        }
+
+        pub stepped-from : moment ≤ last_moment →
+            Fits in_force (entry_for state moment word ev refusal after) history × Stands (state_after state moment word ev refusal after) (entry_for state moment word ev refusal after ∷ history)
+        stepped-from in_time = (
+          subst (λ e. Fits in_force e history) (sym entry_for-is) (next_entry-fits in_force history moment word ev since in_time no_boot),
+          subst (λ e. Stands (state_after state moment word ev refusal after) (e ∷ history)) (sym entry_for-is) (stands-after in_time),
+        )
+
+both-have : (one other : List Rr) → have_data one ≡ true → have_data other ≡ true → have_data (one ++ other) ≡ true
+both-have one other a b = list_all-append (λ (rr : Rr). is_spellable_data rr.rdata) one other ∙ (λ i. a i && have_data other) ∙ b
 
 -- What is kept makes the entry that fits each history that it stands for, and what is kept then stands for the history with it.
 pub stepped : (state : State) (history : List Entry) → Stands state history → (moment word : ℕ) (ev : Event) → state.last ≤ moment → moment ≤ last_moment → is_boot ev ≡ false →
     (after : List Held) (refusal : List Mark) → IsHeard moment word ev (hearings history) after refusal → have_data (rrs_of state.held) ≡ true → have_data (rrs_of after) ≡ true →
+    have_data (own_in state.claims.kept) ≡ true → have_data (own_in (claims_then state moment word ev refusal).kept) ≡ true →
     Fits in_force (entry_for state moment word ev refusal after) history × Stands (state_after state moment word ev refusal after) (entry_for state moment word ev refusal after ∷ history)
-stepped state history stands moment word ev later in_time no_boot after refusal heard data_before data_after =
+stepped state history stands moment word ev later in_time no_boot after refusal heard data_before data_after own_before own_after =
     subst (λ (s : State). Fits in_force (entry_for s moment word ev refusal after) history × Stands (state_after s moment word ev refusal after) (entry_for s moment word ev refusal after ∷ history)) (sym same)
-    (stepped-from history moment word ev stands.legal stands.hostless no_boot state.questions state.held after refusal stands.asking stands.records heard data_before data_after
-    (subst (λ k. k ≤ moment) stands.last later) in_time)
+    (stepped-from history moment word ev stands.legal no_boot since state.claims stands.announces stands.claims state.questions state.held after refusal stands.asking stands.records heard
+    (both-have (rrs_of state.held) (own_in state.claims.kept) data_before own_before)
+    (both-have (rrs_of after) _ data_after (subst (λ (c : Contents). have_data (own_in c.kept) ≡ true) claims_same own_after))
+    data_after in_time)
   where
-    same : state ≡ kept_state (now history) (opened_count history) (sessions_in history) state.held state.questions
-    same = ap (λ l. kept_state l state.opened state.sessions state.held state.questions) stands.last
-        ∙ ap (λ o. kept_state (now history) o state.sessions state.held state.questions) stands.opened
-        ∙ ap (λ ss. kept_state (now history) (opened_count history) ss state.held state.questions) stands.sessions
+    since : now history ≤ moment
+    since = subst (λ k. k ≤ moment) stands.last later
+
+    same : state ≡ kept_state (now history) (opened_count history) (sessions_in history) state.held state.questions state.claims
+    same = ap (λ l. kept_state l state.opened state.sessions state.held state.questions state.claims) stands.last
+        ∙ ap (λ o. kept_state (now history) o state.sessions state.held state.questions state.claims) stands.opened
+        ∙ ap (λ ss. kept_state (now history) (opened_count history) ss state.held state.questions state.claims) stands.sessions
+
+    claims_same : claims_then state moment word ev refusal ≡ contents_next history stands.legal moment word ev no_boot since state.claims stands.announces stands.claims
+    claims_same =
+        ap (λ (s : State). claims_then s moment word ev refusal) same
+        ∙ claims-are history moment word ev stands.legal no_boot since state.claims stands.announces stands.claims state.questions state.held after refusal stands.asking stands.records heard

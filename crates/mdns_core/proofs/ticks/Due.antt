@@ -1,6 +1,7 @@
--- The next moment at which something is due: the first, from now on, at which a held record ends or a question is due.
+-- The next moment at which something is due: the first, from now on, at which a held record ends, or a question or a group is due.
 use Rattle.std.proofs.Common.{◌≡◌, ℕ, ◌<◌, ◌≤◌, max, Bool, true, false, not, ◌&&◌, ◌||◌, List, [], ◌∷◌, ◌++◌, map, refl, ap, ◌∙◌, sym, subst, arith}
 use Rattle.std.proofs.lemmas.List.Sorted.{list_any-IsPermutation}
+use Rattle.std.proofs.lemmas.List.Folds.{list_all-append}
 use Rattle.std.specs.Prelude.{filter, nat_lt}
 use Rattle.std.specs.List.{list_any, list_all}
 use Rattle.std.specs.List.Sorted.{IsPermutation}
@@ -55,8 +56,9 @@ least-due past (n ∷ ns) idle =
     idle_below : (t : ℕ) → now past ≤ t → is_idle in_force past t ≡ nat_lt t m
     idle_below t later = idle t later ∙ below_least t n ns
 
-module _ (past : List Entry) (idle : (t : ℕ) → now past ≤ t → is_idle in_force past t ≡ (ends_none past t && is_nothing (tick_askings past t))) (questions : List Tracked) (held : List Held)
-    (stands : asking.Stands (asker_of questions held) past) (records : IsPermutation held (live_records past (now past))) where
+-- A tick at a moment is idle where it ends no record, asks no question and comes before these moments.
+module _ (past : List Entry) (waits : List ℕ) (idle : (t : ℕ) → now past ≤ t → is_idle in_force past t ≡ ((ends_none past t && is_nothing (tick_askings past t)) && list_all (nat_lt t) waits))
+    (questions : List Tracked) (held : List Held) (stands : asking.Stands (asker_of questions held) past) (records : IsPermutation held (live_records past (now past))) where
   live_later : (moment : ℕ) → now past ≤ moment → IsPermutation (filter (is_live_at moment) held) (live_records past moment)
   unfolding live_records
   live_later moment later =
@@ -68,14 +70,23 @@ module _ (past : List Entry) (idle : (t : ℕ) → now past ≤ t → is_idle in
       ap is_nothing (sym (due_follows (asker_of questions held) past moment stands (live_later moment later)))
       ∙ is_nothing-map asking.mark_of (due_at (asker_of questions held) moment)
 
-  -- A tick is idle where no held record has ended and no question is due.
-  pub is_idle-held : (moment : ℕ) → now past ≤ moment → is_idle in_force past moment ≡ (list_all (is_live_at moment) held && is_nothing (due_at (asker_of questions held) moment))
+  -- A tick is idle where no held record has ended, no question is due, and it comes before these moments.
+  is_idle-held : (moment : ℕ) → now past ≤ moment →
+      is_idle in_force past moment ≡ ((list_all (is_live_at moment) held && is_nothing (due_at (asker_of questions held) moment)) && list_all (nat_lt moment) waits)
   is_idle-held moment later =
       idle moment later
-      ∙ ap (λ b. b && is_nothing (tick_askings past moment)) (sym (list_all-IsPermutation (is_live_at moment) held (live_records past (now past)) records))
-      ∙ ap (λ b. list_all (is_live_at moment) held && b) (asks_none moment later)
+      ∙ (λ i. (sym (list_all-IsPermutation (is_live_at moment) held (live_records past (now past)) records) i && asks_none moment later i) && list_all (nat_lt moment) waits)
 
-  -- The next moment that is due is the least of the ends of the held records and the first moments of the questions, or now where that is past.
-  pub due-held : NextDue in_force past (option_map (max (now past)) (least (map (λ one. one.end) held ++ map (next_of held) questions)))
+  -- The next moment that is due is the least of the ends of the held records, the first moments of the questions and these, or now where that is past.
+  pub due-held : NextDue in_force past (option_map (max (now past)) (least (map (λ one. one.end) held ++ map (next_of held) questions ++ waits)))
   due-held =
-      least-due past (map (λ one. one.end) held ++ map (next_of held) questions) (λ t later. is_idle-held t later ∙ quiet_before questions held t)
+      least-due past (ends ++ nexts ++ waits) (λ t later.
+      is_idle-held t later
+      ∙ ap (λ b. b && list_all (nat_lt t) waits) (quiet_before questions held t)
+      ∙ sym (list_all-append (nat_lt t) (ends ++ nexts) waits))
+    where
+      ends : List ℕ
+      ends = map (λ one. one.end) held
+
+      nexts : List ℕ
+      nexts = map (next_of held) questions

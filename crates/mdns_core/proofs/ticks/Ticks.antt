@@ -1,4 +1,4 @@
--- When a tick does nothing: where no live record has ended by then and no question is asked, if it settles no group and leaves the answers.
+-- When a tick does nothing: where no live record has ended by then, no group is probed or made sure, and no question is asked, if it then leaves the answers.
 use Rattle.std.proofs.Common.{◌≡◌, ℕ, ◌≤◌, Bool, true, false, not, ◌&&◌, List, [], ◌∷◌, ◌++◌, map, None, refl, ap, ◌∙◌, arith, append-nil}
 use Rattle.std.proofs.Math.Bool.{and-false}
 use Rattle.std.specs.Prelude.{filter, nat_lt}
@@ -15,7 +15,7 @@ use Rattle.mdns_core.specs.InForce.{in_force}
 use Rattle.mdns_history.specs.declared.operation.Operation.{Operation}
 use Rattle.mdns_history.specs.Sessions.{is_cut, operations_of}
 use Rattle.mdns_history.specs.Asking.{tick_askings}
-use Rattle.mdns_history.specs.Sending.{sent_queries}
+use Rattle.mdns_history.specs.Sending.{sent_probes, sent_queries}
 use Rattle.mdns_history.specs.Items.{given_to, queue}
 use Rattle.mdns_history.specs.Outcomes.{early_outcome}
 use Rattle.mdns_history.specs.Fitting.{IsLegal}
@@ -23,7 +23,8 @@ use Rattle.mdns_history.specs.Due.{is_nothing, settles_none, ends_none, is_idle}
 use Rattle.sd_sessions.specs.Changes.{items_between, passes}
 use Rattle.sd_sessions.proofs.NumberLists.{filter-same, flat_map-same}
 use Rattle.sd_sessions.proofs.EntryParts.{marked}
-use Rattle.mdns_core.proofs.step.Stage.{entry_after, entry_is, marks_are, sent-next}
+use Rattle.mdns_history.specs.Claims.{claim_marks}
+use Rattle.mdns_core.proofs.step.Stage.{noted_marks, entry_after, entry_is, marks_are, sent-next}
 use Rattle.sd_sessions.proofs.Brought.{change_items-marked}
 use Rattle.sd_sessions.specs.Laws.{answers_in}
 use Rattle.sd_sessions.proofs.Shape.{attached, brought_to, passes_now, marks-next, given-next}
@@ -53,31 +54,50 @@ never_quiet marks sent given b = of (is_nothing marks) (is_nothing sent) (is_not
     of true false r s = refl
     of false q r s = refl
 
--- where no question is asked no query is sent
-quiet_askings : (askings : List Mark) (past : List Entry) (moment : ℕ) → all_quiet askings (sent_queries askings past moment) [] true true ≡ is_nothing askings
-unfolding pack_query
-quiet_askings [] past moment = refl
-quiet_askings (m ∷ ms) past moment = refl
+never_settled : (marks : List Mark) (sent : List Sent) (given : List Given) (c : Bool) → all_quiet marks sent given false c ≡ false
+never_settled marks sent given c = of (is_nothing marks) (is_nothing sent) (is_nothing given)
+  where
+    of : (p q r : Bool) → (p && q && r && false && c) ≡ false
+    of true true true = refl
+    of true true false = refl
+    of true false r = refl
+    of false q r = refl
 
-module _ (past : List Entry) (moment word : ℕ) (legal : IsLegal in_force past) (settled : settles_none (entry_after past moment word event.Tick) past ≡ true)
-    (kept : ends_none past moment ≡ true → (o : Operation) → answers_in (entry_after past moment word event.Tick ∷ past) o ≡ answers_in past o) where
+-- where no question is asked no query is sent
+quiet_askings : (askings : List Mark) (past : List Entry) (moment : ℕ) (probes : List Sent) →
+    all_quiet askings (probes ++ sent_queries askings past moment) [] true true ≡ (is_nothing askings && is_nothing probes)
+unfolding pack_query
+quiet_askings [] past moment [] = refl
+quiet_askings [] past moment (probe ∷ probes) = refl
+quiet_askings (m ∷ ms) past moment probes = refl
+
+module _ (past : List Entry) (moment word : ℕ) (legal : IsLegal in_force past)
+    (kept : ends_none past moment ≡ true → settles_none (entry_after past moment word event.Tick) past ≡ true → (o : Operation) → answers_in (entry_after past moment word event.Tick ∷ past) o ≡ answers_in past o) where
   same_operations : (n : ℕ) → operations_of n (marked in_force past moment word event.Tick ∷ past) ≡ operations_of n past
   unfolding operations_of early_outcome
   same_operations n = refl
 
-  -- a tick that ends no record brings nothing
-  brought_none : ends_none past moment ≡ true → (n : ℕ) → brought_to in_force past moment word event.Tick n ≡ []
+  abbrev settled : Bool
+  settled = settles_none (entry_after past moment word event.Tick) past
+
+  -- a tick that ends no record and makes no group sure brings nothing
+  brought_none : ends_none past moment ≡ true → settled ≡ true → (n : ℕ) → brought_to in_force past moment word event.Tick n ≡ []
   unfolding early_outcome
-  brought_none none n =
+  brought_none none same n =
       change_items-marked in_force past moment word event.Tick n
-      ∙ (λ i. items_between (answers_in past) (λ o. kept none o i) None (operations_of n past) (same_operations n i))
+      ∙ (λ i. items_between (answers_in past) (λ o. kept none same o i) None (operations_of n past) (same_operations n i))
       ∙ items_between-same (operations_of n past) (answers_in past) (operations-rising in_force past legal n)
 
+  -- time gives no marks to claims
+  noted_askings : noted_marks past moment word event.Tick ≡ tick_askings past moment
+  unfolding claim_marks
+  noted_askings = refl
+
   -- so its marks are those of the questions that it asks
-  marks_asked : ends_none past moment ≡ true → (entry_after past moment word event.Tick).marks ≡ tick_askings past moment
-  marks_asked none =
+  marks_asked : ends_none past moment ≡ true → settled ≡ true → (entry_after past moment word event.Tick).marks ≡ tick_askings past moment
+  marks_asked none same =
       marks-next in_force past moment word event.Tick
-      ∙ ap (λ ms. ms ++ map (λ n. mark.Cut n) (filter cutting (attached in_force past moment word event.Tick))) (marks_are past moment word event.Tick)
+      ∙ ap (λ ms. ms ++ map (λ n. mark.Cut n) (filter cutting (attached in_force past moment word event.Tick))) (marks_are past moment word event.Tick ∙ noted_askings)
       ∙ ap (λ ns. tick_askings past moment ++ map (λ n. mark.Cut n) ns)
       (filter-same cutting (λ n. false) (attached in_force past moment word event.Tick) (λ n h. fits n) ∙ filter-never (attached in_force past moment word event.Tick))
       ∙ append-nil (tick_askings past moment)
@@ -89,44 +109,50 @@ module _ (past : List Entry) (moment word : ℕ) (legal : IsLegal in_force past)
       fits n =
           let few : frames_len (queue n past) ≤ 16777216 = queue-within in_force past legal n in
           let within : nat_lt 16777216 (frames_len (queue n past)) ≡ false = grind arith in
-          ap (λ items. not (is_cut n past) && passes (queue n past) items) (brought_none none n)
+          ap (λ items. not (is_cut n past) && passes (queue n past) items) (brought_none none same n)
           ∙ ap (λ items. not (is_cut n past) && nat_lt 16777216 (frames_len items)) (append-nil (queue n past))
           ∙ ap (λ b. not (is_cut n past) && b) within ∙ and-false (not (is_cut n past))
 
-  given_none : ends_none past moment ≡ true → (entry_after past moment word event.Tick).given ≡ []
-  given_none none =
+  given_none : ends_none past moment ≡ true → settled ≡ true → (entry_after past moment word event.Tick).given ≡ []
+  given_none none same =
       let ns : List ℕ = filter (λ n. not (is_cut n past) && not (passes_now in_force past moment word event.Tick n)) (attached in_force past moment word event.Tick) in
       given-next in_force past moment word event.Tick
-      ∙ flat_map-same (λ n. map (given_to n) (brought_to in_force past moment word event.Tick n)) (λ n. []) ns (λ n h. ap (map (given_to n)) (brought_none none n))
+      ∙ flat_map-same (λ n. map (given_to n) (brought_to in_force past moment word event.Tick n)) (λ n. []) ns (λ n h. ap (map (given_to n)) (brought_none none same n))
       ∙ flat_map-never ns
 
   at_moment : (entry_after past moment word event.Tick).moment ≡ moment
   at_moment = ap (λ e. e.moment) (entry_is past moment word event.Tick)
 
-  quiet_where : (b : Bool) → ends_none past moment ≡ b →
+  quiet_where : (b s : Bool) → ends_none past moment ≡ b → settled ≡ s →
       all_quiet (entry_after past moment word event.Tick).marks (entry_after past moment word event.Tick).sent (entry_after past moment word event.Tick).given
-      (settles_none (entry_after past moment word event.Tick) past) (ends_none past (entry_after past moment word event.Tick).moment)
-      ≡ (b && is_nothing (tick_askings past moment))
-  quiet_where true none =
+      settled (ends_none past (entry_after past moment word event.Tick).moment)
+      ≡ (b && (s && (is_nothing (tick_askings past moment) && is_nothing (sent_probes past moment))))
+  quiet_where true true none same =
       let e : Entry = entry_after past moment word event.Tick in
       let asked : List Mark = tick_askings past moment in
-      let queries : List Sent = sent_queries asked past moment in
-      ap (λ ms. all_quiet ms e.sent e.given (settles_none e past) (ends_none past e.moment)) (marks_asked none)
-      ∙ ap (λ ss. all_quiet asked ss e.given (settles_none e past) (ends_none past e.moment)) (sent-next past moment word event.Tick)
-      ∙ ap (λ gs. all_quiet asked queries gs (settles_none e past) (ends_none past e.moment)) (given_none none)
-      ∙ ap (λ b. all_quiet asked queries [] b (ends_none past e.moment)) settled
-      ∙ ap (λ k. all_quiet asked queries [] true (ends_none past k)) at_moment
-      ∙ ap (all_quiet asked queries [] true) none
-      ∙ quiet_askings asked past moment
-  quiet_where false some =
+      let sent : List Sent = sent_probes past moment ++ sent_queries asked past moment in
+      ap (λ ms. all_quiet ms e.sent e.given settled (ends_none past e.moment)) (marks_asked none same)
+      ∙ ap (λ ss. all_quiet asked ss e.given settled (ends_none past e.moment)) (sent-next past moment word event.Tick)
+      ∙ ap (λ gs. all_quiet asked sent gs settled (ends_none past e.moment)) (given_none none same)
+      ∙ ap (λ b. all_quiet asked sent [] b (ends_none past e.moment)) same
+      ∙ ap (λ k. all_quiet asked sent [] true (ends_none past k)) at_moment
+      ∙ ap (all_quiet asked sent [] true) none
+      ∙ quiet_askings asked past moment (sent_probes past moment)
+  quiet_where true false none some =
       let e : Entry = entry_after past moment word event.Tick in
-      ap (λ k. all_quiet e.marks e.sent e.given (settles_none e past) (ends_none past k)) at_moment
-      ∙ ap (all_quiet e.marks e.sent e.given (settles_none e past)) some
-      ∙ never_quiet e.marks e.sent e.given (settles_none e past)
+      ap (λ b. all_quiet e.marks e.sent e.given b (ends_none past e.moment)) some
+      ∙ never_settled e.marks e.sent e.given (ends_none past e.moment)
+  quiet_where false s some same =
+      let e : Entry = entry_after past moment word event.Tick in
+      ap (λ k. all_quiet e.marks e.sent e.given settled (ends_none past k)) at_moment
+      ∙ ap (all_quiet e.marks e.sent e.given settled) some
+      ∙ never_quiet e.marks e.sent e.given settled
 
--- A tick that settles no group is idle where it ends no record and asks no question, where answers stay in an entry that ends no record.
-pub is_idle-tick : (past : List Entry) (moment : ℕ) → IsLegal in_force past → settles_none (entry_after past moment 0 event.Tick) past ≡ true
-    → (ends_none past moment ≡ true → (o : Operation) → answers_in (entry_after past moment 0 event.Tick ∷ past) o ≡ answers_in past o)
-    → is_idle in_force past moment ≡ (ends_none past moment && is_nothing (tick_askings past moment))
+-- A tick is idle where it ends no record, makes no group sure, asks no question and probes no group, where answers stay in an entry that ends no record
+-- and makes no group sure.
+pub is_idle-tick : (past : List Entry) (moment : ℕ) → IsLegal in_force past
+    → (ends_none past moment ≡ true → settles_none (entry_after past moment 0 event.Tick) past ≡ true → (o : Operation) → answers_in (entry_after past moment 0 event.Tick ∷ past) o ≡ answers_in past o)
+    → is_idle in_force past moment
+    ≡ (ends_none past moment && (settles_none (entry_after past moment 0 event.Tick) past && (is_nothing (tick_askings past moment) && is_nothing (sent_probes past moment))))
 unfolding is_idle
-is_idle-tick past moment legal settled kept = quiet_where past moment 0 legal settled kept (ends_none past moment) refl
+is_idle-tick past moment legal kept = quiet_where past moment 0 legal kept (ends_none past moment) (settles_none (entry_after past moment 0 event.Tick) past) refl refl

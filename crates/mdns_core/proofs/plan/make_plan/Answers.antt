@@ -1,23 +1,34 @@
-use Rattle.std.proofs.Common.{◌≡◌, ◌∙◌, ℕ, List, [], refl, ap, subst, sym}
+use Rattle.std.proofs.Common.{◌≡◌, ◌∙◌, ℕ, List, ap, subst, sym}
+use Rattle.mdns_history.specs.declared.entry.Sent.{Sent}
 use Rattle.mdns_history.specs.declared.held.Held.{Held}
 use Rattle.mdns_history.specs.Hearings.{counted_records}
 use Rattle.mdns_happened.specs.declared.walk.Walk.{Walk}
+use Rattle.mdns_happened.specs.declared.around.Registered.{Registered}
+use Rattle.mdns_happened.specs.Registrations.{is_told, AreRegistered}
 use Rattle.mdns_happened.specs.Told.{Told, told_by}
 use Rattle.mdns_happened.specs.Walks.{AreWalks, AreOwnWalks}
 use Rattle.mdns_records.specs.After.{held_after}
 use Rattle.mdns_records.proofs.Holding.{after-holds, after-live, after-heard}
 use Rattle.mdns_question.specs.declared.tracked.Tracked.{Tracked}
+use Rattle.mdns_probe.specs.Kept.{Kept}
+use Rattle.mdns_claims.specs.State.{Contents}
+use Rattle.mdns_claims.proofs.Typed.{own_data}
+use Rattle.mdns_claims.specs.Behind.{occasion_of, probes_told}
+use Rattle.mdns_claims.specs.Later.{groups_behind}
+use Rattle.mdns_claims.specs.Owned.{own_in, registered_answers}
 use Rattle.mdns_asking.specs.Planned as asking
 use Rattle.mdns_asking.specs.Walked as for_asking
 use Rattle.sd_sessions.specs.Sessions.{Session}
 use Rattle.sd_sessions.specs.Walked as for_sessions
+use Rattle.mdns_core.specs.Viewed.{viewed}
+use Rattle.mdns_core.specs.Planned.{AreOwnKnown, claims_told}
 use Rattle.mdns_core.proofs.records.HeardPackets.{heard-read}
-use Rattle.mdns_core.specs.Alone.{alone}
-use Rattle.mdns_core.proofs.records.Walked.{heard-walked, beside-alone}
+use Rattle.mdns_core.proofs.records.Walked.{heard-walked, beside-told, then-kept}
+use Rattle.mdns_core.proofs.records.Begun.{begun-told}
 use Rattle.mdns_core.proofs.plan.make_plan.Goals as goal
 
-pub plan-requires-clause-heard : goal.plan-requires-clause-heard
-plan-requires-clause-heard g c =
+pub plan-requires-2-clause-heard : goal.plan-requires-2-clause-heard
+plan-requires-2-clause-heard g c =
     let held : List Held = c.args.kept.now.records.now.held in
     subst (for_asking.AreHeard c.args.when.moment) (sym c.deref.ensures.value)
     (heard-walked c.args.when.moment held (held_after c.args.when.moment c.args.when.word c.in_ok-reading.reading.heard held) c.in_ok-walks.walks.items c.in_ok-walks.ensures.records
@@ -27,32 +38,56 @@ pub returns : goal.returns
 returns g c =
     let told : Told = told_by c.in_ok-reading.reading.happened in
     let now : ℕ = c.args.when.moment in
+    let word : ℕ = c.args.when.word in
     let held : List Held = c.args.kept.now.records.now.held in
-    let later : List Held = held_after now c.args.when.word c.in_ok-reading.reading.heard held in
+    let later : List Held = held_after now word c.in_ok-reading.reading.heard held in
     let questions : List Tracked = c.args.kept.now.asking.now.questions in
     let sessions : List Session = c.args.kept.now.sessions.now.sessions in
+    let contents : Contents = c.args.kept.now.claims.now.contents in
+    let then : Contents = claims_told contents told now word in
     let walks : List Walk = c.in_ok-walks.walks.items in
+    let lines : List Registered = c.in_ok-registered.registered.items in
     let asked_of : c.deref.result.now ≡ walks = c.deref.ensures.value in
     let served_of : c.deref-2.result.now ≡ walks = c.deref-2.ensures.value in
+    let told_of_lines : c.deref-3.result.now ≡ lines = c.deref-3.ensures.value in
+    let before_is : c.behind.result.groups.now ≡ contents.kept = c.behind.ensures.before in
+    let behind_is : groups_behind c.behind.result ≡ then.kept = c.behind.ensures.told word c.in_ok-claims.ensures.plan ∙ then-kept contents told now word in
+    let registered : AreRegistered (λ session op. registered_answers session op contents.kept) (λ session op. registered_answers session op then.kept) c.deref-3.result.now =
+    subst (AreRegistered (λ session op. registered_answers session op contents.kept) (λ session op. registered_answers session op then.kept)) (sym told_of_lines)
+    (subst (λ (ks : List Kept). AreRegistered (λ session op. registered_answers session op contents.kept) (λ session op. registered_answers session op ks) lines) behind_is
+    (subst (λ (ks : List Kept). AreRegistered (λ session op. registered_answers session op ks) (λ session op. registered_answers session op (groups_behind c.behind.result)) lines) before_is
+    c.in_ok-registered.ensures.are)) in
     record {
       told = c.in_ok-reading.ensures.told;
       heard = λ past before since holds.
-          heard-read now c.args.when.word before c.args.event.now past held later c.in_ok-reading.reading.heard told.refusal since holds c.requires.within
+          heard-read now word before c.args.event.now past held later c.in_ok-reading.reading.heard told.refusal since holds c.requires.within
           (c.in_ok-reading.ensures.records ∙ ap (λ (t : Told). counted_records t.heard) c.in_ok-reading.ensures.told)
           (c.in_ok-reading.ensures.refused past before since holds)
-          (λ room. after-holds now c.args.when.word c.in_ok-reading.reading.heard held past before since holds);
+          (λ room. after-holds now word c.in_ok-reading.reading.heard held past before since holds);
       within = c.in_ok-reading.ensures.room;
       «data» = c.in_ok-reading.ensures.parts;
+      claims = c.in_ok-claims.ensures.plan;
+      fits = c.in_ok-claims.ensures.fits;
+      owned = own_data contents.kept c.in_ok-claims.ensures.data;
       walks = c.in_ok-walks.ensures;
-      asking = subst (λ (ws : List Walk). asking.IsPlan told now sessions questions later ws c.in_ok-asking.asking) asked_of
+      asking = subst (λ (ws : List Walk). asking.IsPlan told now sessions questions later ws (probes_told told.ticks contents.kept now) c.in_ok-asking.asking) asked_of
+          (subst (λ (sent : List Sent). asking.IsPlan told now sessions questions later c.deref.result.now sent c.in_ok-asking.asking) c.in_ok-probes.ensures
           (c.in_ok-asking.ensures.plan held later c.requires.timed (subst (AreWalks held later) (sym asked_of) c.in_ok-walks.ensures.records)
-          (after-live now c.args.when.word c.in_ok-reading.reading.heard held)
-          (subst (for_asking.AreEnough told now questions held later) (sym asked_of) c.in_ok-walks.ensures.asking));
+          (after-live now word c.in_ok-reading.reading.heard held)
+          (subst (for_asking.AreEnough told now questions held later) (sym asked_of) c.in_ok-walks.ensures.asking)));
       gaps = c.in_ok-asking.ensures.gaps;
-      sessions = c.in_ok-sessions.ensures (alone held) (alone later) (subst (AreWalks held later) (sym served_of) c.in_ok-walks.ensures.records)
+      sessions = c.in_ok-sessions.ensures (viewed contents held) (viewed then later) (subst (AreWalks held later) (sym served_of) c.in_ok-walks.ensures.records)
           (subst (λ (ws : List Walk). for_sessions.AreKnown held later ws sessions) (sym served_of) c.in_ok-walks.ensures.sessions)
           (subst (λ (ws : List Walk). for_sessions.IsCallWalked ws told.call) (sym served_of) c.in_ok-walks.ensures.call)
-          (beside-alone told held later _ sessions (subst (AreOwnWalks [] []) (sym served_of) c.in_ok-walks.ensures.own) refl);
+          (beside-told told contents then held later _ sessions
+          (subst (AreOwnWalks (own_in contents.kept) (own_in then.kept)) (sym served_of) c.in_ok-walks.ensures.own)
+          (subst (λ (ws : List Walk). AreOwnKnown (own_in contents.kept) (own_in then.kept) ws sessions) (sym served_of) c.in_ok-walks.ensures.own_known)
+          registered
+          (λ session op unheard.
+          ap (registered_answers session op) (sym behind_is)
+          ∙ c.in_ok-registered.ensures.rest session op (ap (λ (ls : List Registered). is_told ls session op) (sym told_of_lines) ∙ unheard)
+          ∙ ap (registered_answers session op) before_is)
+          (λ call e registers. ap (λ (ls : List Registered). is_told ls call.session call.op) told_of_lines ∙ begun-told contents (occasion_of contents told now word) c.in_ok-claims.claims c.behind.result.deed.now lines c.in_ok-claims.ensures.plan c.behind.ensures.deed c.in_ok-registered.ensures.begun call e registers));
       marks = c.in_ok-marks.ensures;
       given = c.in_ok-given.ensures;
     }

@@ -1,30 +1,43 @@
-use Rattle.std.proofs.Common.{ℕ, List, IfOk, subst}
+use Rattle.std.proofs.Common.{◌≡◌, ℕ, List, IfOk, subst}
 use Rattle.dns_record.specs.declared.record.Rr.{Rr}
 use Rattle.mdns_history.specs.declared.held.Held.{Held}
 use Rattle.mdns_happened.specs.Told.{Told, told_by}
+use Rattle.mdns_happened.specs.Walks.{own_of}
 use Rattle.mdns_records.specs.After.{held_after}
 use Rattle.mdns_question.specs.declared.tracked.Tracked.{Tracked}
 use Rattle.mdns_asking.specs.Walked as for_asking
+use Rattle.mdns_probe.specs.Kept.{Kept}
+use Rattle.mdns_claims.specs.State.{Contents}
+use Rattle.mdns_claims.specs.Later.{groups_behind}
+use Rattle.mdns_claims.specs.Owned.{own_in}
 use Rattle.sd_sessions.specs.Sessions.{Session}
 use Rattle.sd_sessions.specs.Walked as for_sessions
-use Rattle.mdns_core.specs.Planned.{AreEnough}
-use Rattle.mdns_core.proofs.records.HeardPackets.{ok_three}
-use Rattle.mdns_core.proofs.records.Walked.{enough-walked}
+use Rattle.mdns_core.specs.Planned.{AreEnough, claims_told}
+use Rattle.mdns_core.proofs.records.HeardPackets.{ok_with}
+use Rattle.mdns_core.proofs.records.Walked.{among-none, enough-owned}
 use Rattle.mdns_core.proofs.plan.walk.Goals as goal
 
 pub returns : goal.returns
 returns g c =
     let told : Told = told_by c.args.reading.now.happened in
     let now : ℕ = c.args.when.moment in
+    let word : ℕ = c.args.when.word in
     let held : List Held = c.args.kept.now.records.now.held in
     let questions : List Tracked = c.args.kept.now.asking.now.questions in
     let sessions : List Session = c.args.kept.now.sessions.now.sessions in
-    subst (λ (rrs : List Rr). IfOk c.walk.result (λ walks. AreEnough told now held (held_after now c.args.when.word rrs held) questions sessions walks.items)) c.as_slice-heard.ensures
-    (ok_three c.walk.result
-    (λ walks are named unowned.
-    enough-walked held (held_after now c.args.when.word c.as_slice-heard.result.now held) c.in_ok-touched.touched.items c.put_names-2.new.names.items walks.items named
-    (c.in_ok-touched.ensures.all c.args.when.word) c.put_names.new.names.items c.in_ok-put_names-2.ensures.kept told now questions sessions are unowned
-    (subst (λ (names : List (List (List ℕ))). for_asking.AreNamed told now questions names c.put_names-2.new.names.items) c.deref-2.ensures.value c.in_ok-put_names-2.ensures.named)
-    (subst (λ (names : List (List (List ℕ))). for_sessions.AreNamed names c.put_names.new.names.items sessions) c.deref.ensures.value c.in_ok-put_names.ensures.asked)
-    c.in_ok-put_names.ensures.call)
-    c.walk.ensures.walks c.walk.ensures.names c.walk.ensures.own)
+    let contents : Contents = c.args.kept.now.claims.now.contents in
+    let touched : List (List (List ℕ)) = c.put_names.new.names.items in
+    let named : List (List (List ℕ)) = c.put_names-3.new.names.items in
+    subst (λ (rrs : List Rr). IfOk c.with_own.result (λ walks. AreEnough told now held (held_after now word rrs held) (own_in contents.kept) (own_in (claims_told contents told now word).kept) questions sessions walks.items))
+    c.as_slice-heard.ensures
+    (ok_with c.with_own.result
+    (λ owned owned_is.
+    enough-owned held (held_after now word c.as_slice-heard.result.now held) contents told now word (groups_behind c.behind-behind.result) touched named c.in_ok-walks.walks.items owned.items
+    (c.behind-behind.ensures.told word c.requires.planned) owned_is c.in_ok-walks.ensures.names
+    (λ name none. c.in_ok-touched.ensures.all word name (among-none c.in_ok-touched.touched.items touched c.in_ok-put_names.ensures.kept name none))
+    (λ name none. subst (λ (ks : List Kept). own_of name (own_in (groups_behind c.behind-behind.result)) ≡ own_of name (own_in ks)) c.behind-behind.ensures.before (c.in_ok-put_names.ensures.changed name none))
+    c.put_names-2.new.names.items c.in_ok-put_names-3.ensures.kept questions sessions c.in_ok-walks.ensures.walks
+    (subst (λ (names : List (List (List ℕ))). for_asking.AreNamed told now questions names named) c.deref-2.ensures.value c.in_ok-put_names-3.ensures.named)
+    (subst (λ (names : List (List (List ℕ))). for_sessions.AreNamed names c.put_names-2.new.names.items sessions) c.deref.ensures.value c.in_ok-put_names-2.ensures.asked)
+    c.in_ok-put_names-2.ensures.call)
+    c.with_own.ensures)

@@ -1,5 +1,17 @@
 use Rattle.mdns_core.proofs.records.HeardPackets.{room-left, ok_with}
+use Rattle.std.proofs.Common.{subst, sym}
+use Rattle.mdns_happened.specs.Told.{Told, told_by}
+use Rattle.mdns_claims.specs.Planned.{IsAcceptable}
+use Rattle.mdns_core.proofs.records.Begun.{acceptable-told}
 use Rattle.mdns_core.proofs.reading.read_event.Goals as goal
+
+pub returns-in-Call-clause-acceptable : goal.returns-in-Call-clause-acceptable
+returns-in-Call-clause-acceptable c = ok_with c.brings_nothing-in-Call.result
+    (λ reading same.
+    subst (λ (t : Told). IsAcceptable c.args.kept.now.claims.now.contents.registered t.call) (sym same)
+    (acceptable-told c.args.kept.now.claims.now.contents c.in-Call.session c.in-Call.op c.in-Call.request c.registering-known.result _ (told_by c.call.result)
+    c.registering-known.ensures c.call.ensures.told c.call.ensures.well_formed))
+    c.brings_nothing-in-Call.ensures.told
 
 pub returns-in-Attach-clause-room : goal.returns-in-Attach-clause-room
 returns-in-Attach-clause-room c = ok_with c.brings_nothing.result

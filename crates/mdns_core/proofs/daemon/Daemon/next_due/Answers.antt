@@ -1,5 +1,7 @@
 use Rattle.std.proofs.Common.{◌≡◌, ◌∙◌, ◌++◌, max, List, map, Option, ap, subst, sym}
 use Rattle.std.specs.Prelude.{ℕ}
+use Rattle.std.specs.List.{flat_map}
+use Rattle.mdns_claims.specs.Behind.{next_in}
 use Rattle.std.specs.Option.{option_map}
 use Rattle.dns_name.specs.Lists.{least}
 use Rattle.mdns_core.specs.InForce.{in_force}
@@ -15,8 +17,9 @@ returns-clause-value c =
     let held : List Held = c.self.inside.records.held in
     let ends : List ℕ = map (λ (one : Held). one.end) held in
     let nexts : List ℕ = map (next_of held) c.self.inside.asking.questions in
-    let least_is : c.earlier-due.result ≡ least (ends ++ nexts) =
-    c.earlier-due.ensures ends nexts c.next_end.ensures.least (c.first_due.ensures.due held c.self.invariant.3) in
+    let waits : List ℕ = flat_map (next_in c.self.inside.claims.contents.announces) c.self.inside.claims.contents.kept in
+    let first : c.earlier-due.result ≡ least (ends ++ nexts) = c.earlier-due.ensures ends nexts c.next_end.ensures.least (c.first_due.ensures.due held c.self.invariant.3) in
+    let least_is : c.earlier.result ≡ least (ends ++ nexts ++ waits) = c.earlier.ensures (ends ++ nexts) waits first c.next_due.ensures in
     c.not_before.ensures ∙ ap (option_map (max c.self.inside.last)) least_is ∙ ap due_of c.self.view_is
 
 pub returns-clause-due : goal.returns-clause-due

@@ -15,26 +15,35 @@ use Rattle.sd_sessions.specs.Sessions.{Session}
 use Rattle.sd_sessions.specs.Answered.{Answering, answered}
 use Rattle.sd_sessions.specs.Planned as sessions
 use Rattle.sd_sessions.specs.Settling.{shifted_told, outcome_told, sessions_told}
-use Rattle.mdns_core.specs.Alone.{alone}
+use Rattle.mdns_claims.specs.State.{Contents}
+use Rattle.mdns_claims.proofs.Typed.{own_data}
+use Rattle.mdns_claims.specs.Planned as claims
+use Rattle.mdns_core.specs.Viewed.{viewed}
+use Rattle.mdns_core.specs.Planned.{claims_told}
 use Rattle.mdns_core.specs.InForce.{in_force}
 use Rattle.mdns_core.specs.State.{State, Stands}
 use Rattle.mdns_core.proofs.step.Standing.{replayed-stands, queued-stands}
 use Rattle.mdns_asking.proofs.Timed.{are_timed}
 use Rattle.mdns_core.proofs.step.Moved.{timed-moved, heard-since}
-use Rattle.mdns_core.proofs.step.Plans.{IsMade, asked_of_plan, applied, carried-plan, ticked-plan}
+use Rattle.mdns_core.proofs.step.Plans.{IsMade, asked_of_plan, applied, claimed, carried-plan, ticked-plan}
 use Rattle.mdns_core.proofs.daemon.Daemon.step.Goals as goal
 
 pub apply-requires-clause-fits : goal.apply-requires-clause-fits
 apply-requires-clause-fits g c =
     subst (λ (held : List Held). length (held_after c.args.now c.args.word c.in_ok-plan.plan.heard held) ≤ 32768) (sym c.reserve.ensures.held) c.in_ok-plan.ensures.within
 
+pub apply-requires-2-clause-fits : goal.apply-requires-2-clause-fits
+apply-requires-2-clause-fits g c =
+    subst (λ (kept : Contents). claims.IsFor kept.registered kept.kept c.in_ok-plan.plan.claims.deed) (sym c.reserve-2.ensures.contents) c.in_ok-plan.ensures.fits
+
 pub apply-outcome-requires-clause-planned : goal.apply-outcome-requires-clause-planned
 apply-outcome-requires-clause-planned g c =
-    let earlier : Answering = answered (alone c.self.inside.records.held) in
-    let later : Answering = answered (alone (held_after c.args.now c.args.word c.in_ok-plan.plan.heard c.self.inside.records.held)) in (
+    let contents : Contents = c.self.inside.claims.contents in
+    let earlier : Answering = answered (viewed contents c.self.inside.records.held) in
+    let later : Answering = answered (viewed (claims_told contents (told_by c.in_ok-plan.plan.happened) c.args.now c.args.word) (held_after c.args.now c.args.word c.in_ok-plan.plan.heard c.self.inside.records.held)) in (
       earlier,
       later,
-      subst (λ (ss : List Session). sessions.IsPlan (told_by c.in_ok-plan.plan.happened) earlier later ss c.in_ok-plan.plan.sessions) (sym c.reserve-3.ensures.sessions) c.in_ok-plan.ensures.sessions,
+      subst (λ (ss : List Session). sessions.IsPlan (told_by c.in_ok-plan.plan.happened) earlier later ss c.in_ok-plan.plan.sessions) (sym c.reserve-4.ensures.sessions) c.in_ok-plan.ensures.sessions,
     )
 
 pub returns-clause-fits : goal.returns-clause-fits
@@ -43,20 +52,25 @@ returns-clause-fits g c = λ history stands.
     let later : List Held = held_after c.args.now c.args.word c.in_ok-plan.plan.heard held in
     let ss : List Session = c.self.inside.sessions.sessions in
     let questions : List Tracked = c.self.inside.asking.questions in
+    let contents : Contents = c.self.inside.claims.contents in
     let told : Told = told_by c.in_ok-plan.plan.happened in
     let changes : List SessionChange = c.in_ok-plan.plan.sessions.changes.items in
     let moved : IsPermutation c.apply.new.self.held later =
     subst (λ (hs : List Held). IsPermutation c.apply.new.self.held (held_after c.args.now c.args.word c.in_ok-plan.plan.heard hs)) c.reserve.ensures.held c.apply.ensures.held in
-    let made : IsMade c.self.inside.sessions.opened ss held later questions c.args.now c.args.word c.args.event c.in_ok-plan.plan c.in_ok-plan.ensures c.apply-outcome.result c.apply-outcome.new.self.opened c.apply-outcome.new.self.sessions c.apply-2.new.self.questions =
+    let made : IsMade c.self.inside.sessions.opened ss held later questions contents c.args.now c.args.word c.args.event c.in_ok-plan.plan c.in_ok-plan.ensures
+    c.apply-outcome.result c.apply-outcome.new.self.opened c.apply-outcome.new.self.sessions c.apply-3.new.self.questions c.apply-2.new.self.contents =
     record {
-      went = c.apply-outcome.ensures.outcome ∙ ap (λ (xs : List Session). outcome_told told.taking told.outcome (shifted_told told xs changes)) c.reserve-3.ensures.sessions;
-      remain = c.apply-outcome.ensures.sessions ∙ ap (λ (xs : List Session). sessions_told told.taking (shifted_told told xs changes)) c.reserve-3.ensures.sessions;
-      counted = c.apply-outcome.ensures.opened ∙ ap (λ (n : ℕ). unwrap_or told.opened n) c.reserve-3.ensures.opened;
-      follow = applied c.self.inside.sessions.opened ss held later questions c.args.now c.args.word c.args.event c.in_ok-plan.plan c.in_ok-plan.ensures
-          c.deref.result.now c.reserve-2.new.self.questions c.apply-2.new.self.questions c.deref.ensures.value c.reserve-2.ensures.questions c.self.invariant.3 c.apply-2.ensures;
+      went = c.apply-outcome.ensures.outcome ∙ ap (λ (xs : List Session). outcome_told told.taking told.outcome (shifted_told told xs changes)) c.reserve-4.ensures.sessions;
+      remain = c.apply-outcome.ensures.sessions ∙ ap (λ (xs : List Session). sessions_told told.taking (shifted_told told xs changes)) c.reserve-4.ensures.sessions;
+      counted = c.apply-outcome.ensures.opened ∙ ap (λ (n : ℕ). unwrap_or told.opened n) c.reserve-4.ensures.opened;
+      follow = applied c.self.inside.sessions.opened ss held later questions contents c.args.now c.args.word c.args.event c.in_ok-plan.plan c.in_ok-plan.ensures
+          c.deref.result.now c.reserve-3.new.self.questions c.apply-3.new.self.questions c.deref.ensures.value c.reserve-3.ensures.questions c.self.invariant.3 c.apply-3.ensures;
+      claimed = claimed c.self.inside.sessions.opened ss held later questions contents c.args.now c.args.word c.args.event c.in_ok-plan.plan c.in_ok-plan.ensures
+          c.reserve-2.new.self.contents c.apply-2.new.self.contents c.reserve-2.ensures.contents c.apply-2.ensures.contents;
+      owned = own_data c.apply-2.new.self.contents.kept c.apply-2.ensures.data;
     } in
-    carried-plan c.self.inside.sessions.opened ss held later questions c.args.now c.args.word c.args.event c.in_ok-plan.plan c.in_ok-plan.ensures
-    c.self.inside.last c.apply-outcome.result c.apply-outcome.new.self.opened c.apply-outcome.new.self.sessions c.apply-2.new.self.questions c.apply.new.self.held made moved
+    carried-plan c.self.inside.sessions.opened ss held later questions contents c.args.now c.args.word c.args.event c.in_ok-plan.plan c.in_ok-plan.ensures
+    c.self.inside.last c.apply-outcome.result c.apply-outcome.new.self.opened c.apply-outcome.new.self.sessions c.apply-3.new.self.questions c.apply-2.new.self.contents c.apply.new.self.held made moved
     (subst (λ (s : State). s.last ≤ c.args.now) (sym c.self.view_is) c.requires.later) c.requires.bound c.requires.no_boot history (subst (λ (s : State). Stands s history) (sym c.self.view_is) stands)
 
 pub returns-clause-replayed : goal.returns-clause-replayed
@@ -77,26 +91,30 @@ invariant_of-self-2 g c =
     let held : List Held = c.self.inside.records.held in
     let later : List Held = held_after c.args.now c.args.word c.in_ok-plan.plan.heard held in
     let questions : List Tracked = c.self.inside.asking.questions in
+    let contents : Contents = c.self.inside.claims.contents in
     let moved : IsPermutation c.apply.new.self.held later =
     subst (λ (hs : List Held). IsPermutation c.apply.new.self.held (held_after c.args.now c.args.word c.in_ok-plan.plan.heard hs)) c.reserve.ensures.held c.apply.ensures.held in (
       subst (λ (n : ℕ). n ≤ 32768) (length_permutation c.apply.new.self.held later moved) c.in_ok-plan.ensures.within,
       c.apply.ensures.live,
       c.apply.ensures.heard (subst (AllHeard c.args.now) (sym c.reserve.ensures.held)
           (heard-since c.self.inside.last c.args.now (subst (λ (s : State). s.last ≤ c.args.now) (sym c.self.view_is) c.requires.later) held c.self.invariant.2)),
-      timed-moved c.apply.new.self.held later moved c.apply-2.new.self.questions
-          (subst (AreTimed later) (sym (applied c.self.inside.sessions.opened c.self.inside.sessions.sessions held later questions c.args.now c.args.word c.args.event c.in_ok-plan.plan c.in_ok-plan.ensures
-          c.deref.result.now c.reserve-2.new.self.questions c.apply-2.new.self.questions c.deref.ensures.value c.reserve-2.ensures.questions c.self.invariant.3 c.apply-2.ensures))
-          (are_timed later (asked_of_plan c.self.inside.sessions.opened c.self.inside.sessions.sessions held later questions c.args.now c.args.word c.args.event c.in_ok-plan.plan c.in_ok-plan.ensures questions))),
+      timed-moved c.apply.new.self.held later moved c.apply-3.new.self.questions
+          (subst (AreTimed later) (sym (applied c.self.inside.sessions.opened c.self.inside.sessions.sessions held later questions contents c.args.now c.args.word c.args.event c.in_ok-plan.plan c.in_ok-plan.ensures
+          c.deref.result.now c.reserve-3.new.self.questions c.apply-3.new.self.questions c.deref.ensures.value c.reserve-3.ensures.questions c.self.invariant.3 c.apply-3.ensures))
+          (are_timed later (asked_of_plan c.self.inside.sessions.opened c.self.inside.sessions.sessions held later questions contents c.args.now c.args.word c.args.event c.in_ok-plan.plan c.in_ok-plan.ensures questions))),
     )
 
 pub returns-clause-ticked : goal.returns-clause-ticked
 returns-clause-ticked g c = λ tick.
     let held : List Held = c.self.inside.records.held in
     let later : List Held = held_after c.args.now c.args.word c.in_ok-plan.plan.heard held in
+    let contents : Contents = c.self.inside.claims.contents in
     let moved : IsPermutation c.apply.new.self.held later =
     subst (λ (hs : List Held). IsPermutation c.apply.new.self.held (held_after c.args.now c.args.word c.in_ok-plan.plan.heard hs)) c.reserve.ensures.held c.apply.ensures.held in
-    ticked-plan c.self.inside.sessions.opened c.self.inside.sessions.sessions held later c.self.inside.asking.questions c.args.now c.args.word c.args.event c.in_ok-plan.plan c.in_ok-plan.ensures
-    c.apply-outcome.new.self.opened c.apply-outcome.new.self.sessions c.apply-2.new.self.questions c.apply.new.self.held
-    (applied c.self.inside.sessions.opened c.self.inside.sessions.sessions held later c.self.inside.asking.questions c.args.now c.args.word c.args.event c.in_ok-plan.plan c.in_ok-plan.ensures
-    c.deref.result.now c.reserve-2.new.self.questions c.apply-2.new.self.questions c.deref.ensures.value c.reserve-2.ensures.questions c.self.invariant.3 c.apply-2.ensures)
+    ticked-plan c.self.inside.sessions.opened c.self.inside.sessions.sessions held later c.self.inside.asking.questions contents c.args.now c.args.word c.args.event c.in_ok-plan.plan c.in_ok-plan.ensures
+    c.apply-outcome.new.self.opened c.apply-outcome.new.self.sessions c.apply-3.new.self.questions c.apply-2.new.self.contents c.apply.new.self.held
+    (applied c.self.inside.sessions.opened c.self.inside.sessions.sessions held later c.self.inside.asking.questions contents c.args.now c.args.word c.args.event c.in_ok-plan.plan c.in_ok-plan.ensures
+    c.deref.result.now c.reserve-3.new.self.questions c.apply-3.new.self.questions c.deref.ensures.value c.reserve-3.ensures.questions c.self.invariant.3 c.apply-3.ensures)
+    (claimed c.self.inside.sessions.opened c.self.inside.sessions.sessions held later c.self.inside.asking.questions contents c.args.now c.args.word c.args.event c.in_ok-plan.plan c.in_ok-plan.ensures
+    c.reserve-2.new.self.contents c.apply-2.new.self.contents c.reserve-2.ensures.contents c.apply-2.ensures.contents)
     moved (after-live c.args.now c.args.word c.in_ok-plan.plan.heard held) tick

@@ -1,6 +1,0 @@
-use Rattle.std.proofs.Common.{◌≡◌, map}
-use Rattle.mdns_history.specs.Sending.{to_all}
-use Rattle.mdns_asking.proofs.queries.to_all.Given as goal
-
-abbrev pub invariant-loop-message : goal.invariant-loop-message
-invariant-loop-message l = l.sent ≡ map to_all l.yielded

@@ -1,0 +1,8 @@
+use Rattle.std.proofs.Common.{◌≡◌, map}
+use Rattle.mdns_claims.specs.Later.{groups_behind}
+use Rattle.mdns_claims.specs.Owned.{own_in}
+use Rattle.mdns_core.specs.Planned.{with_own}
+use Rattle.mdns_core.proofs.plan.with_own.Given as goal
+
+abbrev pub invariant-loop-walk : goal.invariant-loop-walk
+invariant-loop-walk l = l.owned.items ≡ map (with_own (own_in l.claims.contents.kept) (own_in (groups_behind l.behind))) l.yielded
