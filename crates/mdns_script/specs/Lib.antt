@@ -1,3 +1,4 @@
 pub mod Tokens
 pub mod Requests
+pub mod Boots
 pub mod Lines

@@ -1,5 +1,5 @@
 -- What the lines of a script say: which are built so far, which aren't yet, and which are no lines.
-use Rattle.std.specs.Prelude.{ℕ, ◌==◌, ◌+◌, ◌^◌, nat_le, not, ◌&&◌, ◌||◌, Bool, false, if◌then◌else◌, List, [], ◌∷◌, Option, Some, None, codes}
+use Rattle.std.specs.Prelude.{ℕ, ◌==◌, ◌^◌, nat_le, not, ◌&&◌, ◌||◌, Bool, false, if◌then◌else◌, List, [], ◌∷◌, Option, Some, None, codes}
 use Rattle.std.specs.Option.{option_map}
 use Rattle.std.specs.Str.{bytes_eq}
 use Rattle.mdns_base.specs.Cut.{cut_of}
@@ -7,21 +7,12 @@ use Rattle.mdns_base.specs.declared.host.Host.{Host}
 use Rattle.mdns_base.specs.Digits.{◌>>=◌, decimal_of, decimal_below, ipv4_of, hex_of}
 use Rattle.mdns_history.specs.declared.event.Event.TheVariants as event
 use Rattle.mdns_script.specs.Tokens.{when}
+use Rattle.mdns_script.specs.Boots.{daemon_of, daemon_command}
 use Rattle.mdns_script.specs.Requests.{request_of}
 use Rattle.mdns_script.specs.declared.command.Command.{Command}
 use Rattle.mdns_script.specs.declared.command.Command.TheVariants as commands
 use Rattle.mdns_script.specs.declared.command.Line.{Line}
 use Rattle.mdns_script.specs.declared.command.Line.TheVariants as lines
-
--- the number of a daemon, 1 to 16
-abbrev pub daemon_of : List ℕ → Option ℕ
-daemon_of text = do
-  n ← decimal_of text
-  when (nat_le 1 n && nat_le n 16) n
-
--- `daemon K`: a daemon without a host at the address 10.0.0.K
-abbrev pub daemon_command : List ℕ → Option Command
-daemon_command text = option_map (λ n. commands.Daemon n (record { address = 167772160 + n; host = None })) (daemon_of text)
 
 -- `close K S`: the session ends
 unfoldable pub close_command : List ℕ → Option Command

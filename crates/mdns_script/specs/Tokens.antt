@@ -5,6 +5,7 @@ use Rattle.std.specs.Result.{result_ok}
 use Rattle.std.specs.List.{list_all, slice_split}
 use Rattle.std.specs.Str.{bytes_eq, is_utf8}
 use Rattle.mdns_base.specs.Digits.{◌>>=◌}
+use Rattle.dns_name.specs.Names.{is_label}
 use Rattle.dns_name.specs.ReadName.{read_name}
 use Rattle.dns_name.specs.TextItems.{items_of, label_read}
 use Rattle.dns_name.specs.declared.items.TextItem.{TextItem}
@@ -74,6 +75,19 @@ label_of bytes = label_bytes bytes >>= text_of
 -- the text that a service type of a request stands for
 abbrev pub type_of : List ℕ → Option (List ℕ)
 type_of bytes = type_bytes bytes >>= text_of
+
+-- text of 1 to 63 bytes
+abbrev pub label_text : List ℕ → Option (List ℕ)
+label_text bytes = do
+  text ← text_of bytes
+  when (is_label text) text
+
+-- the label of a host that a token stands for: text of 1 to 63 bytes
+abbrev pub host_label_of : List ℕ → Option (List ℕ)
+host_label_of bytes = do
+  token ← token_of bytes
+  label ← label_read 63 token
+  label_text label
 
 -- the bytes that a string of TXT data stands for
 abbrev pub string_of : List ℕ → Option (List ℕ)

@@ -1,19 +1,18 @@
 ghost use Rattle.std.specs.Prelude.{◌≡◌, ◌^◌, Ok, IfOk};
 ghost use Rattle.std.specs.Option.{option_map};
 ghost use Rattle.mdns_base.specs.Digits.{decimal_of, decimal_below};
-ghost use Rattle.mdns_script.specs.Lines.{line_of, is_read, first_of, is_known, command_of, command_of_words, daemon_command, close_command, take_command, max_of, hear_command, hear_words, call_command, call_words, daemon_of};
+ghost use Rattle.mdns_script.specs.Lines.{line_of, is_read, first_of, is_known, command_of, command_of_words, close_command, take_command, max_of, hear_command, hear_words, call_command, call_words};
+ghost use Rattle.mdns_script.specs.Boots.{daemon_of};
 
+use crate::boot::{daemon_command, daemon_number};
 use crate::requests::request;
 use crate::{Command, Line};
 use bytes::Bytes;
 use mdns_base::{
     Host, cut_at, is_same, read_decimal, read_decimal_u16, read_decimal_u32, read_hex, read_ipv4,
 };
-use mdns_history::{Config, Event};
+use mdns_history::Event;
 use std::alloc::{AllocError, Global};
-
-/// The address of daemon K without a host is this and K: 10.0.0.K.
-const NETWORK: u32 = 167_772_160;
 
 /// What a line asks for. The line is without its line feed and the carriage return before it. Only want of memory is an
 /// error.
@@ -109,19 +108,6 @@ fn command_of_words(alloc: Global, word: &[u8], rest: &[u8]) -> Result<Option<Co
         return Ok(take_command(rest));
     }
     Ok(None)
-}
-
-fn daemon_command(text: &[u8]) -> Option<Command>
-    ensures { result ≡ daemon_command text.now }
-{
-    let number = daemon_number(text)?;
-    Some(Command::Daemon {
-        number,
-        config: Config {
-            address: NETWORK + number,
-            host: None,
-        },
-    })
 }
 
 fn word_command(text: &[u8]) -> Option<Command>
@@ -248,16 +234,4 @@ fn hear_words(text: &[u8]) -> Option<(u32, Host, &[u8])>
     let ip = read_ipv4(ip)?;
     let port = read_decimal_u16(port)?;
     Some((daemon, Host { ip, port }, hex))
-}
-
-// The number of a daemon, 1 to 16.
-fn daemon_number(text: &[u8]) -> Option<u32>
-    ensures { result ≡ daemon_of text.now }
-{
-    let number = read_decimal(text)?;
-    if 1 <= number && number <= 16 {
-        Some(number as u32)
-    } else {
-        None
-    }
 }

@@ -34,12 +34,66 @@ fn lines_begin_with_a_word(rt: HostRuntime) -> Result<(), Fail> {
         ("daemon 17", '~'),
         ("daemon 01", '~'),
         ("daemon 1 ", '~'),
-        ("daemon 1 host h 10.0.0.1", '~'),
         ("at 1000", '+'),
         ("at\t1000", '!'),
         ("open 1", '+'),
         ("open 0", '~'),
         ("open  1", '~'),
+    ] {
+        expect(&rt, rt.alloc(), line, sign)?;
+    }
+    Ok(())
+}
+
+#[test]
+fn daemons_have_hosts(rt: HostRuntime) -> Result<(), Fail> {
+    for (line, sign) in [
+        ("daemon 1 host h 10.0.0.1", '+'),
+        ("daemon 16 host H 255.255.255.255", '+'),
+        (
+            "daemon 1 host h 10.0.0.1 FE80:0000:0000:0000:0000:0000:0000:0001",
+            '+',
+        ),
+        ("daemon 1 host h 10.0.0.1 fe80::1", '~'),
+        (
+            "daemon 1 host h 10.0.0.1 fe80:0000:0000:0000:0000:0000:0000:0001 ",
+            '~',
+        ),
+        (
+            "daemon 1 host h fe80:0000:0000:0000:0000:0000:0000:0001",
+            '~',
+        ),
+        ("daemon 17 host h 10.0.0.1", '~'),
+        ("daemon 1 host h 10.0.0.256", '~'),
+        ("daemon 1 host h 10.0.0.1 ", '~'),
+        ("daemon 1 host h", '~'),
+        ("daemon 1 host", '~'),
+        ("daemon 1 host ", '~'),
+        ("daemon 1 Host h 10.0.0.1", '~'),
+        ("daemon 1 hosts h 10.0.0.1", '~'),
+        ("daemon 1 host  10.0.0.1", '~'),
+    ] {
+        expect(&rt, rt.alloc(), line, sign)?;
+    }
+    Ok(())
+}
+
+// The label of a host is text of 1 to 63 bytes.
+#[test]
+fn hosts_have_labels(rt: HostRuntime) -> Result<(), Fail> {
+    for (line, sign) in [
+        ("daemon 1 host a.b 10.0.0.1", '~'),
+        ("daemon 1 host a\\.b\\\\c 10.0.0.1", '+'),
+        ("daemon 1 host Back\\032Office,2 10.0.0.1", '+'),
+        ("daemon 1 host \\e 10.0.0.1", '~'),
+        ("daemon 1 host a\\e 10.0.0.1", '~'),
+        ("daemon 1 host a\\256 10.0.0.1", '~'),
+        ("daemon 1 host é 10.0.0.1", '+'),
+        ("daemon 1 host \\195\\169 10.0.0.1", '+'),
+        ("daemon 1 host \\200 10.0.0.1", '~'),
+        // Who boots the daemon refuses control characters.
+        ("daemon 1 host a\\009 10.0.0.1", '+'),
+        ("daemon 1 host a\tb 10.0.0.1", '+'),
     ] {
         expect(&rt, rt.alloc(), line, sign)?;
     }
@@ -195,28 +249,36 @@ fn strings_are_read(rt: HostRuntime) -> Result<(), Fail> {
     Ok(())
 }
 
-// A text and another so many times behind it.
-fn lengthened(alloc: Global, text: &str, piece: &str, times: usize) -> Result<String, AllocError> {
+// A text, another so many times behind it, and an end.
+fn lengthened(
+    alloc: Global,
+    (text, piece, times, end): (&str, &str, usize, &str),
+) -> Result<String, AllocError> {
     let mut line = String::from_str(alloc, text)?;
     for _ in 0..times {
         line.push_str(piece)?;
     }
+    line.push_str(end)?;
     Ok(line)
 }
 
 #[test]
 fn lengths_are_limited(rt: HostRuntime) -> Result<(), Fail> {
-    for (text, piece, times, sign) in [
-        ("call 1 1 1 browse ", "x", 1024, '+'),
-        ("call 1 1 1 browse ", "x", 1025, '~'),
-        ("call 1 1 1 browse ", "\\195\\169", 512, '+'),
-        ("call 1 1 1 resolve \\e ", ".", 1025, '~'),
-        ("call 1 1 1 update ", "\\000", 255, '+'),
-        ("call 1 1 1 update ", "x", 256, '~'),
-        ("call 1 1 1 update abcdefg", " abcdefg", 1023, '+'),
-        ("call 1 1 1 update abcdefgh", " abcdefg", 1023, '~'),
+    for (parts, sign) in [
+        (("daemon 1 host ", "x", 63, " 10.0.0.1"), '+'),
+        (("daemon 1 host ", "x", 64, " 10.0.0.1"), '~'),
+        (("daemon 1 host a", "é", 31, " 10.0.0.1"), '+'),
+        (("daemon 1 host ", "é", 32, " 10.0.0.1"), '~'),
+        (("call 1 1 1 browse ", "x", 1024, ""), '+'),
+        (("call 1 1 1 browse ", "x", 1025, ""), '~'),
+        (("call 1 1 1 browse ", "\\195\\169", 512, ""), '+'),
+        (("call 1 1 1 resolve \\e ", ".", 1025, ""), '~'),
+        (("call 1 1 1 update ", "\\000", 255, ""), '+'),
+        (("call 1 1 1 update ", "x", 256, ""), '~'),
+        (("call 1 1 1 update abcdefg", " abcdefg", 1023, ""), '+'),
+        (("call 1 1 1 update abcdefgh", " abcdefg", 1023, ""), '~'),
     ] {
-        let line = lengthened(rt.alloc(), text, piece, times)?;
+        let line = lengthened(rt.alloc(), parts)?;
         expect(&rt, rt.alloc(), line.as_str(), sign)?;
     }
     Ok(())
@@ -227,6 +289,7 @@ fn lengths_are_limited(rt: HostRuntime) -> Result<(), Fail> {
 fn bytes_are_characters(rt: HostRuntime) -> Result<(), Fail> {
     for (line, sign) in [
         (b"#\xff".as_slice(), '+'),
+        (b"daemon 1 host a\xff 10.0.0.1".as_slice(), '~'),
         (b"call 1 1 1 query A a\xff.local".as_slice(), '~'),
         (b"call 1 1 1 browse \xff".as_slice(), '~'),
         (b"call 1 1 1 resolve \xff a".as_slice(), '~'),

@@ -3,11 +3,11 @@ ghost use Rattle.std.specs.Prelude.{◌≡◌, ◌==◌, ◌++◌, ◌∷◌, �
 ghost use Rattle.std.specs.List.{slice_split};
 ghost use Rattle.std.specs.Option.{option_map};
 ghost use Rattle.txt_record.specs.Strings.{txt_data};
-ghost use Rattle.mdns_script.specs.Tokens.{text_of, is_whole, is_token, token_of, name_of, item_byte, type_read, label_bytes, type_bytes, label_of, type_of, string_of, strings_of, short_txt, txt_of};
+ghost use Rattle.mdns_script.specs.Tokens.{text_of, is_whole, is_token, token_of, name_of, item_byte, type_read, label_bytes, type_bytes, label_of, type_of, label_text, host_label_of, string_of, strings_of, short_txt, txt_of};
 
 use arrayvec::ArrayVec;
 use bytes::Bytes;
-use dns_name::{Name, TextItem, TextItems, read_label};
+use dns_name::{Label, Name, TextItem, TextItems, read_label};
 use mdns_base::{cut_at, is_same};
 use sd_call::Text;
 use std::alloc::{AllocError, Global};
@@ -38,6 +38,22 @@ pub(crate) fn regtype(alloc: Global, bytes: &[u8]) -> Result<Option<Text>, Alloc
         Some(bytes) => text(alloc, bytes.as_slice()),
         None => Ok(None),
     }
+}
+
+/// The label of a host that a token stands for.
+pub(crate) fn host_label(bytes: &[u8]) -> Option<Label>
+    ensures { result ≡ host_label_of bytes.now }
+{
+    let label: ArrayVec<u8, 63> = read_label(token(bytes)?.as_bytes())?;
+    host_text(label.as_slice())
+}
+
+// Text as a label.
+fn host_text(bytes: &[u8]) -> Option<Label>
+    ensures { result ≡ label_text bytes.now }
+{
+    let text = characters(bytes)?;
+    Label::new(text.as_bytes())
 }
 
 /// The TXT data of the tokens between spaces. Refused only for want of memory.
