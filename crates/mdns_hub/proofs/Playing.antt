@@ -23,7 +23,7 @@ use Rattle.mdns_history.specs.Sending.{tick_sends}
 use Rattle.mdns_script.specs.declared.command.Command.{Command}
 use Rattle.mdns_script.specs.declared.command.Command.TheVariants.{Daemon, At, Attach, Event as Happening}
 use Rattle.mdns_core.specs.InForce.{in_force}
-use Rattle.mdns_history.specs.Fitting.{Fits, boot_entry, is_boot, last_moment, next_entry}
+use Rattle.mdns_history.specs.Fitting.{Fits, boot_entry, is_boot, is_host_label, last_moment, next_entry}
 use Rattle.mdns_history.specs.Due.{IsNextDue, NextDue, is_idle}
 use Rattle.mdns_core.specs.State.{State, Stands}
 use Rattle.mdns_hub.specs.declared.hub.Hub.{Hub}
@@ -228,9 +228,9 @@ ready_same hub played command of =
 
 -- what a command that is ready asks of the hub
 
-pub ready_boot : (hub : Hub) (command : Command) (number : ℕ) (config : Config) → command ≡ Daemon number config → hub_ready hub command ≡ true → (is_none hub.booted ≡ true) × (is_none config.host ≡ true)
+pub ready_boot : (hub : Hub) (command : Command) (number : ℕ) (config : Config) → command ≡ Daemon number config → hub_ready hub command ≡ true → (is_none hub.booted ≡ true) × (is_host_label config.host ≡ true)
 unfolding is_ready_at
-ready_boot hub command number config is ready = of hub.booted (is_none config.host) (subst (λ (x : Command). hub_ready hub x ≡ true) is ready)
+ready_boot hub command number config is ready = of hub.booted (is_host_label config.host) (subst (λ (x : Command). hub_ready hub x ≡ true) is ready)
   where
     of : (b : Option Booted) (h : Bool) → (is_none (number_of b) && h) ≡ true → (is_none b ≡ true) × (h ≡ true)
     of None h e = (refl, e)

@@ -2,7 +2,7 @@
 use Rattle.std.specs.Prelude.{◌≡◌, ℕ, ◌-◌, ◌^◌, nat_le, not, ◌&&◌, Bool, true, Option, is_none}
 use Rattle.mdns_history.specs.declared.event.Event.TheVariants as event
 use Rattle.mdns_history.specs.Sessions.{is_number}
-use Rattle.mdns_history.specs.Fitting.{is_boot}
+use Rattle.mdns_history.specs.Fitting.{is_boot, is_host_label}
 use Rattle.mdns_script.specs.declared.command.Command.{Command}
 use Rattle.mdns_script.specs.declared.command.Command.TheVariants.{Pass, Daemon, At, Word, Attach, Event as Happening}
 use Rattle.mdns_hub.specs.Played.{Played, Happens, Boots, RunsTo}
@@ -11,11 +11,11 @@ use Rattle.mdns_hub.specs.Played.{Played, Happens, Boots, RunsTo}
 abbrev pub may_run_to : ℕ → ℕ → Bool
 may_run_to clock moment = (nat_le clock moment && nat_le moment (2 ^ 53)) && nat_le (moment - clock) 86400000
 
--- Whether a command's line is built at a moment, told of the number of the daemon that was booted: one daemon without a host is booted
--- once, and every event but a boot may happen to it.
+-- Whether a command's line is built at a moment, told of the number of the daemon that was booted: one daemon is booted once, the label of
+-- its host, if it has one, is text without control characters, and every event but a boot may happen to it.
 unfoldable pub is_ready_at : ℕ → Option ℕ → Command → Bool
 is_ready_at clock booted Pass = true
-is_ready_at clock booted (Daemon number config) = is_none booted && is_none config.host
+is_ready_at clock booted (Daemon number config) = is_none booted && is_host_label config.host
 is_ready_at clock booted (At moment) = may_run_to clock moment
 is_ready_at clock booted (Word word) = true
 is_ready_at clock booted (Attach number) = is_number number booted

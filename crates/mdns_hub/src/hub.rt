@@ -1,14 +1,16 @@
 // A script's commands, done on a daemon.
-ghost use Rattle.std.specs.Prelude.{◌≡◌, ◌≤◌, ◌^◌};
+ghost use Rattle.std.specs.Prelude.{◌≡◌, ◌≤◌, ◌^◌, IsTrue};
 ghost use Rattle.std.specs.Option.{ForSome};
-ghost use Rattle.mdns_history.specs.Fitting.{is_boot};
+ghost use Rattle.std.specs.Str.{is_utf8};
+ghost use Rattle.mdns_history.specs.Fitting.{is_boot, is_host_label};
 
 use crate::HubError;
 use crate::steps::{put_entry, step, tick_to};
 use mdns_base::Sink;
 use mdns_core::Daemon;
-use mdns_history::{Config, Event};
+use mdns_history::{Config, Event, HostConfig};
 use mdns_script::Command;
+use sd_name::is_service_label;
 use std::alloc::Global;
 
 /// A day in milliseconds: the furthest that one command runs ahead.
@@ -82,7 +84,9 @@ impl Hub {
     {
         match command {
             Command::Pass => true,
-            Command::Daemon { config, .. } => self.booted.is_none() && config.host.is_none(),
+            Command::Daemon { config, .. } => {
+                self.booted.is_none() && is_host_label(&config.host)
+            }
             Command::At { moment } => self.may_run_to(*moment),
             Command::Word { .. } => true,
             Command::Attach { daemon } => self.is_booted(*daemon),
@@ -130,7 +134,7 @@ impl Hub {
 
     fn boot<K: Sink>(&mut self, number: u32, config: Config, output: &mut K) -> Result<(), HubError>
         requires free { is_none self.old.booted ≡ true }
-        requires host { is_none config.host ≡ true }
+        requires host { IsTrue (is_host_label config.host) }
 
         ensures done { OnOk result (Advances (Boots number config) self.old self.new (K.held output.old) (K.held output.new)) }
         ensures part { OnErr result (BreaksIn (OrNothing (Boots number config)) self.old (K.held output.old) (K.held output.new)) }
@@ -196,4 +200,24 @@ fn is_boot(event: &Event) -> bool
     ensures { result ≡ is_boot event.now }
 {
     matches!(event, Event::Boot { .. })
+}
+
+// Whether the label of a host, if there is one, is text without control characters.
+#[tactic(auto, unfolding(sd_name::specs::ServiceTypes::is_service_label))]
+fn is_host_label(host: &Option<HostConfig>) -> bool
+    ensures { result ≡ is_host_label host.now }
+{
+    match host {
+        Some(host) => is_text(host.label.as_slice()) && is_service_label(host.label.as_slice()),
+        None => true,
+    }
+}
+
+fn is_text(bytes: &[u8]) -> bool
+    ensures { result ≡ is_utf8 bytes.now }
+{
+    match str::from_utf8(bytes) {
+        Ok(_) => true,
+        Err(_) => false,
+    }
 }
