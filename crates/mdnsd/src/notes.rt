@@ -9,7 +9,9 @@ pub const SCRIPT_HELP: &str = "usage: mdnsd script < SCRIPT > TRANSCRIPT
 
 Plays a script for one daemon, and prints what the daemon does. The lines of a script:
 
-  daemon K              boots daemon K (1 to 16)
+  daemon K              boots daemon K (1 to 16) without a host, at the address 10.0.0.K
+  daemon K host LABEL IPV4 [IPV6]
+                        boots daemon K with a host of that name under local
   at T                  runs all that is due up to T milliseconds
   word W                gives every later event the random word W
   open K                attaches a session
@@ -24,7 +26,14 @@ register LABEL TYPE PORT auto|norename TXT, update TXT, or stop.";
 /// The words of a form in order: how each is called, and one that may stand there. Where both are the same, it is that very word.
 type Form = &'static [(&'static str, &'static str)];
 
-const FORMS: [Form; 15] = [
+const FORMS: [Form; 16] = [
+    &[
+        ("daemon", "daemon"),
+        ("K", "1"),
+        ("host", "host"),
+        ("LABEL", "h"),
+        ("IPV4 [IPV6]", "10.0.0.1"),
+    ],
     &[("daemon", "daemon"), ("K", "1")],
     &[("at", "at"), ("T", "0")],
     &[("word", "word"), ("W", "0")],

@@ -131,13 +131,21 @@ fn a_pipe_carries_pieces_whole(rt: HostRuntime) -> Result<(), Fail> {
 }
 
 // Lines that stop a script, and what is said of them.
-const NOTES: [(&str, &str); 8] = [
+const NOTES: [(&str, &str); 10] = [
     ("", "line 1 is bad or not built yet"),
     (
         "fly 1",
         "line 1: daemon, at, word, open, close, take, hear or call is wanted as word 1",
     ),
     ("daemon 17", "line 1: K is wanted as word 2 of `daemon K`"),
+    (
+        "daemon 1 host a.b 10.0.0.1",
+        "line 1: LABEL is wanted as word 4 of `daemon K host LABEL IPV4 [IPV6]`",
+    ),
+    (
+        "daemon 1 host h 10.0.0.1 ::1",
+        "line 1: IPV4 [IPV6] is wanted as word 5 of `daemon K host LABEL IPV4 [IPV6]`",
+    ),
     (
         "hear 1 10.0.0.9 70000 -",
         "line 1: PORT is wanted as word 4 of `hear K IPV4 PORT HEX`",

@@ -32,6 +32,20 @@ fn scripts(rt: HostRuntime) -> Result<(), Fail> {
             "@0 d1 w0 boot 10.0.0.1\nnot yet line 2\n",
             7,
         ),
+        // A host's label is text without control characters, and a bare dot doesn't stand in it.
+        ("daemon 1 host a\\009b 10.0.0.1\n", "not yet line 1\n", 7),
+        ("daemon 1 host a.b 10.0.0.1\n", "not yet line 1\n", 7),
+        ("daemon 1 host \\200 10.0.0.1\n", "not yet line 1\n", 7),
+        (
+            "daemon 1 host H\\032é 10.0.0.1\n",
+            "@0 d1 w0 boot 10.0.0.1 H\\032\\195\\169\n",
+            0,
+        ),
+        (
+            "daemon 1 host h 10.0.0.1 fe80:0000:0000:0000:0000:0000:0000:0001\ndaemon 1\n",
+            "@0 d1 w0 boot 10.0.0.1 h fe80:0000:0000:0000:0000:0000:0000:0001\nnot yet line 2\n",
+            7,
+        ),
         (
             "daemon 1\nopen 2\n",
             "@0 d1 w0 boot 10.0.0.1\nnot yet line 2\n",
