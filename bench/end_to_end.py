@@ -4,7 +4,7 @@
     python3 bench/end_to_end.py [MDNSD [DNS_SD]]
 
 Each is taken from its crate's out/ where none is given. Each wait has a limit, and what was started is ended again. The service that
-is looked for is announced by the script as a third host, since the daemon's own names aren't claimed yet. Nothing here is part of
+is looked for is announced by the script as a third host, since the daemons don't announce their own yet. Nothing here is part of
 the gate.
 """
 import os
@@ -122,7 +122,7 @@ def expect_printed(run, words, lines, status):
 
 
 def tools(dns_sd, daemons, peer):
-    """What `dns-sd` prints of a service that comes while it runs, of one that is there, and where it is refused."""
+    """What `dns-sd` prints of a service that comes while it runs, of one that is there, of one of its own, and where it is refused."""
     commands = [(["-B", "_ipp._tcp"], FOUND), (["-L", "Office", "_ipp._tcp"], RESOLVED), (["-Q", HOST], ADDRESS), (["-G", "v4", HOST], ADDRESS)]
     runs = [(tool(dns_sd, daemon, "-count", "1", *words), words, line) for daemon in daemons for words, line in commands]
     time.sleep(0.5)
@@ -131,9 +131,11 @@ def tools(dns_sd, daemons, peer):
         expect_printed(run, words, f"Add {line}\n", 0)
     for words, line in commands:
         expect_printed(tool(dns_sd, daemons[0], "-count", "1", *words), words, f"Add {line}\n", 0)
-    words = ["-R", "Hall", "_ipp._tcp", "local", "631", "a=1"]
-    expect_printed(tool(dns_sd, daemons[0], *words), words, "refused -65544\n", 3)
-    print("dns-sd prints what comes and what is there, and that a name is refused")
+    words = ["-count", "1", "-R", "Hall", "_ipp._tcp", "local", "631", "a=1"]
+    expect_printed(tool(dns_sd, daemons[0], *words), words, "Add named Hall._ipp._tcp.local.\n", 0)
+    words = ["-R", "Hall", "_ipp.tcp", "local", "631"]
+    expect_printed(tool(dns_sd, daemons[0], *words), words, "refused -65540\n", 3)
+    print("dns-sd prints what comes and what is there, the name that is claimed for a service, and that a type is refused")
 
 
 def killed(mdnsd, dns_sd, folder):
@@ -147,7 +149,7 @@ def killed(mdnsd, dns_sd, folder):
     expect_printed(run, ["-B"], "", 4)
     expect_printed(tool(dns_sd, daemon, "-B", "_ipp._tcp"), ["-B"], "", 2)
     again = Daemon(mdnsd, folder, "c", "10.0.0.3", own, [other])
-    words = [mdnsd, "serve", "--socket", again.path, "--address", "10.0.0.4", "--relay", str(other)]
+    words = [mdnsd, "serve", "--socket", again.path, "--host", "d", "--address", "10.0.0.4", "--relay", str(other)]
     refused = subprocess.run(words, capture_output=True, timeout=LIMIT)
     assert refused.returncode == 9 and refused.stdout == b"" and refused.stderr.count(b"\n") == 1, refused
     print("a socket that was left is taken over, and one in use is refused:", refused.stderr.decode().strip())

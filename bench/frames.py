@@ -123,7 +123,7 @@ class Daemon:
     def __init__(self, program, folder, name, address, relay, peers):
         self.path = os.path.join(folder, name + ".sock")
         self.process = subprocess.Popen(
-            [program, "serve", "--socket", self.path, "--address", address, "--relay", str(relay), *map(str, peers)],
+            [program, "serve", "--socket", self.path, "--host", name, "--address", address, "--relay", str(relay), *map(str, peers)],
             stdout=subprocess.PIPE)
         line = self.process.stdout.readline()
         assert line == b"serving\n", line

@@ -1,2 +1,3 @@
+pub mod HostLabels
 pub mod Options
 pub mod Plans

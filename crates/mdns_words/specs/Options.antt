@@ -1,10 +1,10 @@
 -- The words behind `serve`, one after the other.
-use Rattle.std.specs.Prelude.{ℕ, ◌^◌, ◌==◌, nat_lt, nat_le, Bool, true, false, not, ◌&&◌, List, [], ◌∷◌, ◌++◌, length, map, String, Option, Some, None, codes, if◌then◌else◌}
-use Rattle.std.specs.List.{list_all}
+use Rattle.std.specs.Prelude.{ℕ, ◌^◌, ◌==◌, Bool, false, ◌&&◌, List, [], ◌∷◌, ◌++◌, map, String, Option, Some, None, codes, if◌then◌else◌}
 use Rattle.std.specs.Str.{bytes_eq}
 use Rattle.std.specs.Global.{Global}
 use Rattle.std.specs.String.{string_bytes}
 use Rattle.mdns_base.specs.Digits.{◌>>=◌, decimal_below, ipv4_of}
+use Rattle.mdns_words.specs.HostLabels.{host_label_of}
 use Rattle.mdns_words.specs.declared.options.Options.{Options}
 
 -- words as their bytes
@@ -18,14 +18,6 @@ no_options = record { socket = None; host = None; address = None; relay = None; 
 -- a port from 1 to 65535
 abbrev pub port_of : List ℕ → Option ℕ
 port_of word = decimal_below (2 ^ 16) word >>= λ port. if port == 0 then None else Some port
-
--- bytes without ASCII control characters
-abbrev pub is_plain : List ℕ → Bool
-is_plain word = list_all (λ byte. nat_le 32 byte && not (byte == 127)) word
-
--- a host's label: 1 to 63 bytes without ASCII control characters
-abbrev pub is_label : List ℕ → Bool
-is_label word = nat_le 1 (length word) && nat_le (length word) 63 && is_plain word
 
 -- a word that names an option
 abbrev pub is_option : List ℕ → Bool
@@ -63,7 +55,7 @@ with_seed options (Some value) = Some (record options { seed = value })
 unfoldable pub put_option : Options → List ℕ → List ℕ → Option Options
 put_option options name value =
     if bytes_eq name (codes "--socket") then with_socket options (put_once options.socket (Some value))
-    else if bytes_eq name (codes "--host") then (if is_label value then with_host options (put_once options.host (Some value)) else None)
+    else if bytes_eq name (codes "--host") then with_host options (put_once options.host (host_label_of value))
     else if bytes_eq name (codes "--address") then with_address options (put_once options.address (ipv4_of value))
     else if bytes_eq name (codes "--relay") then with_relay options (put_once options.relay (port_of value))
     else if bytes_eq name (codes "--seed") then with_seed options (put_once options.seed (decimal_below (2 ^ 32) value))

@@ -14,9 +14,10 @@ seed_or_one None = 1
 abbrev pub asked_by : Options → Option Asked
 asked_by options = do
   socket ← options.socket
+  host ← options.host
   address ← options.address
   relay ← options.relay
-  Some (record { host = options.host; plan = record { socket = socket; address = address; relay = relay; seed = seed_or_one options.seed; peers = options.peers } })
+  Some (record { host = host; plan = record { socket = socket; address = address; relay = relay; seed = seed_or_one options.seed; peers = options.peers } })
 
 -- What the words behind `serve` ask for, where they are as they should be.
 abbrev pub serve_asked : List (List ℕ) → Option Asked

@@ -1,7 +1,8 @@
 // The options of `serve`, each of which is given at most once.
 ghost use Rattle.std.specs.Prelude.{◌≡◌, ◌++◌, ◌∷◌, [], None, Some, if◌then◌else◌, IfOk};
-ghost use Rattle.mdns_words.specs.Options.{no_options, put_option, put_peer, put_once, port_of, is_label, is_plain};
+ghost use Rattle.mdns_words.specs.Options.{no_options, put_option, put_peer, put_once, port_of};
 
+use crate::HostLabel;
 use mdns_base::{read_decimal_u16, read_decimal_u32, read_ipv4};
 use mdns_outside::{PathText, Ports};
 use std::alloc::{AllocError, Global};
@@ -10,7 +11,7 @@ use std::alloc::{AllocError, Global};
 #[derive(Drop)]
 pub(crate) struct Options {
     pub socket: Option<PathText>,
-    pub host: Option<PathText>,
+    pub host: Option<HostLabel>,
     pub address: Option<u32>,
     pub relay: Option<u16>,
     pub seed: Option<u32>,
@@ -41,16 +42,13 @@ impl Options {
         if name == "--socket" {
             put_text(alloc, &mut self.socket, value)
         } else if name == "--host" {
-            if !is_label(value) {
-                return Ok(false);
-            }
-            put_text(alloc, &mut self.host, value)
+            Ok(put_value(&mut self.host, HostLabel::new(value)))
         } else if name == "--address" {
-            Ok(put_number(&mut self.address, read_ipv4(value.as_bytes())))
+            Ok(put_value(&mut self.address, read_ipv4(value.as_bytes())))
         } else if name == "--relay" {
-            Ok(put_number(&mut self.relay, port(value)))
+            Ok(put_value(&mut self.relay, port(value)))
         } else if name == "--seed" {
-            Ok(put_number(&mut self.seed, read_decimal_u32(value.as_bytes())))
+            Ok(put_value(&mut self.seed, read_decimal_u32(value.as_bytes())))
         } else {
             Ok(false)
         }
@@ -82,14 +80,14 @@ fn put_text(alloc: Global, place: &mut Option<PathText>, text: &str) -> Result<b
     Ok(true)
 }
 
-// Takes a number where there was none. The answer is false where there was one, or where none is given.
-fn put_number<T: Copy>(place: &mut Option<T>, number: Option<T>) -> bool
-    ensures { put_once place.old number ≡ (if result then Some place.new else None) }
+// Takes a value where there was none. The answer is false where there was one, or where none is given.
+fn put_value<T: Drop>(place: &mut Option<T>, value: Option<T>) -> bool
+    ensures { put_once place.old value ≡ (if result then Some place.new else None) }
 {
-    if place.is_some() || number.is_none() {
+    if place.is_some() || value.is_none() {
         return false;
     }
-    *place = number;
+    *place = value;
     true
 }
 
@@ -99,19 +97,4 @@ fn port(text: &str) -> Option<u16>
 {
     let port = read_decimal_u16(text.as_bytes())?;
     if port == 0 { None } else { Some(port) }
-}
-
-// Whether a text can be a host's label: 1 to 63 bytes without ASCII control characters.
-fn is_label(text: &str) -> bool
-    ensures { result ≡ is_label text.now }
-{
-    let bytes = text.as_bytes();
-    bytes.len() >= 1 && bytes.len() <= 63 && is_plain(bytes)
-}
-
-// Whether bytes have no ASCII control characters.
-fn is_plain(bytes: &[u8]) -> bool
-    ensures { result ≡ is_plain bytes.now }
-{
-    bytes.iter().all(|byte| *byte >= 32 && *byte != 127)
 }

@@ -3,9 +3,10 @@ ghost use Rattle.std.specs.Prelude.{◌≡◌, IfOk};
 ghost use Rattle.mdns_words.specs.Options.{texts};
 ghost use Rattle.mdns_words.specs.Plans.{asked_by, serve_asked};
 
+use crate::HostLabel;
 use crate::options::Options;
 use crate::words::read_options;
-use mdns_outside::{PathText, ServePlan};
+use mdns_outside::ServePlan;
 use std::alloc::{AllocError, Global};
 
 /// The seed where none is given.
@@ -14,15 +15,15 @@ const SEED: u32 = 1;
 /// What the words of `serve` ask for.
 #[derive(Drop)]
 pub struct Asked {
-    /// The label of the host, where one is given.
-    pub host: Option<PathText>,
+    /// The label of the host.
+    pub host: HostLabel,
     /// What is served.
     pub plan: ServePlan,
 }
 
 /// What the words behind `serve` ask for; none where they aren't as the command wants them: `--socket PATH`,
-/// `--address IPV4` and `--relay PORT` once each, `--host LABEL` and `--seed N` at most once, and any number of peers' ports,
-/// in any order.
+/// `--host LABEL`, `--address IPV4` and `--relay PORT` once each, `--seed N` at most once, and any number of peers' ports, in any
+/// order.
 /// Refused only for want of memory.
 pub fn serve_words(alloc: Global, words: &[String]) -> Result<Option<Asked>, AllocError>
     ensures { IfOk result (λ asked. asked ≡ serve_asked (texts words.now)) }
@@ -46,6 +47,7 @@ fn make_asked(options: Options) -> Option<Asked>
         peers,
     } = options;
     let socket = socket?;
+    let host = host?;
     let plan = ServePlan {
         socket,
         address: address?,

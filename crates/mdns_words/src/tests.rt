@@ -11,13 +11,21 @@ fn is_asking(alloc: Global, line: &str) -> Result<bool, AllocError> {
     Ok(serve_words(alloc, words.as_slice())?.is_some())
 }
 
-const LINES: [(&str, bool); 10] = [
+const LINES: [(&str, bool); 12] = [
     ("--socket s --host h --address 10.0.0.1 --relay 5000", true),
     (
         "5001 --relay 5000 --host h --seed 7 5002 --address 10.0.0.1 --socket s",
         true,
     ),
-    ("--socket s --address 10.0.0.1 --relay 5000", true),
+    ("--socket s --address 10.0.0.1 --relay 5000", false),
+    (
+        "--socket s --host a\tb --address 10.0.0.1 --relay 5000",
+        false,
+    ),
+    (
+        "--socket s --host a.é --address 10.0.0.1 --relay 5000",
+        true,
+    ),
     ("--socket s --host h --address 10.0.0.1", false),
     (
         "--socket s --host h --address 10.0.0.256 --relay 5000",

@@ -13,18 +13,17 @@ pub const HELP: &str = "usage: mdnsd script < SCRIPT > TRANSCRIPT    plays a scr
 
 /// What can be typed behind `serve`.
 const SERVE_HELP: &str =
-    "usage: mdnsd serve --socket PATH --address IPV4 --relay PORT [--seed N] [PEER ...]
+    "usage: mdnsd serve --socket PATH --host LABEL --address IPV4 --relay PORT [--seed N] [PEER ...]
 
 Serves clients (dns-sd) at a Unix socket, and speaks Multicast DNS with its peers over UDP on this machine. When clients
 can connect, it prints the line `serving`. It runs until it is stopped.
 
   --socket PATH   where clients connect; only the user who runs mdnsd may. A socket that an earlier mdnsd left is replaced
+  --host LABEL    the name that the daemon claims for its address, under local: 1 to 63 bytes without control characters
   --address IPV4  the address that the daemon has on the link, as 10.0.0.1
   --relay PORT    its own UDP port on 127.0.0.1, from 1 to 65535
   --seed N        from what its random delays are drawn, below 4294967296; 1 where it isn't given
   PEER            the relay port of another daemon; any number of them
-
-A host's name (--host LABEL) isn't built yet, so services can be looked up but not registered.
 
 Status: 2 the words are wrong, 5 standard output failed, 6 out of memory, 9 the socket failed, 10 a thread couldn't be
 started, 11 the relay failed.";

@@ -3,44 +3,46 @@ ghost use Rattle.std.specs.Arc.{arc_value};
 ghost use Rattle.std.specs.Prelude.{◌≡◌, ◌⊎◌, ◌^◌, min, Some, IfOk, IfErr, OnOk};
 ghost use Rattle.mdns_outside.specs.Places.{MakesLink};
 ghost use Rattle.mdns_turn.specs.Models.{IsSeatOf};
-ghost use Rattle.mdnsd_serve.specs.Booting.{Boots, BootsAt, config_at};
+ghost use Rattle.mdnsd_serve.specs.Booting.{Boots, BootsAt, config_with};
 ghost use Rattle.mdnsd_serve.specs.Serving.{Serves};
 
 use crate::status::{LINK_FAULT, NO_MEMORY};
 use mdns_base::Failed;
 use mdns_core::Daemon;
-use mdns_history::Config;
-use mdns_outside::{Clock, Place, ServePlan, Words};
+use mdns_history::{Config, HostConfig};
+use mdns_outside::{Clock, Place, Words};
 use mdns_serve::Shared;
 use mdns_turn::{Seat, Turn};
+use mdns_words::{Asked, HostLabel};
 use std::alloc::{AllocError, Global};
 use std::sync::Arc;
 
 /// The last moment that there is, 2 ^ 53 milliseconds.
 const LAST_MOMENT: u64 = 9_007_199_254_740_992;
 
-/// Hands a plan to a place and boots its daemon, as threads share it: one without a host, with the address of the plan. It
-/// boots at the moment that the place's clock tells, or at 2^53 ms where that is later, with a word of the place. The answer
+/// Hands the plan of what is asked to a place and boots its daemon, as threads share it: one with that host, at the address of the
+/// plan. It boots at the moment that the place's clock tells, or at 2^53 ms where that is later, with a word of the place. The answer
 /// is the turn at the daemon and the first seat there; the error is a status:
 /// - 6: memory was refused.
 /// - 11: the link failed, so that the clock or the words couldn't be made.
 pub fn boot_plan<P: Place>(
     alloc: Global,
-    plan: ServePlan,
+    asked: Asked,
     place: &mut P,
 ) -> Result<(Arc<Turn<Shared>>, Seat<Shared>), u8>
     ensures seat { IfOk result (λ made. IsSeatOf (arc_value made.0) made.1) }
-    // The daemon that all threads share was booted with the plan's address, and nothing happened to it since.
-    ensures boots { IfOk result (λ made. BootsAt plan.address (arc_value made.0).opening) }
-    ensures place { OnOk result (P.counted place.new ≡ record (P.counted place.old) { plan = Some plan }) }
-    ensures failed { IfErr result (λ status. Serves plan (P.counted place.old) (P.counted place.new) status × ((status ≡ 6) ⊎ (status ≡ 11))) }
+    // The daemon that all threads share was booted with that host and the plan's address, and nothing happened to it since.
+    ensures boots { IfOk result (λ made. BootsAt asked.host asked.plan.address (arc_value made.0).opening) }
+    ensures place { OnOk result (P.counted place.new ≡ record (P.counted place.old) { plan = Some asked.plan }) }
+    ensures failed { IfErr result (λ status. Serves asked.plan (P.counted place.old) (P.counted place.new) status × ((status ≡ 6) ⊎ (status ≡ 11))) }
 {
+    let Asked { host, plan } = asked;
     let address = plan.address;
     place.prepare(plan);
     let Ok(boot) = boot_of(place) else {
         return Err(LINK_FAULT);
     };
-    match booted(alloc, address, boot) {
+    match booted(alloc, host, address, boot) {
         Ok(made) => Ok(made),
         Err(_) => Err(NO_MEMORY),
     }
@@ -67,18 +69,22 @@ fn boot_of<P: Place>(place: &mut P) -> Result<Boot, Failed>
     })
 }
 
-// A daemon without a host that threads share, and the first seat at its turn. Refused only for want of memory.
+// A daemon with a host that threads share, and the first seat at its turn. Refused only for want of memory.
 fn booted(
     alloc: Global,
+    host: HostLabel,
     address: u32,
     boot: Boot,
 ) -> Result<(Arc<Turn<Shared>>, Seat<Shared>), AllocError>
     ensures seat { IfOk result (λ made. IsSeatOf (arc_value made.0) made.1) }
-    ensures boots { IfOk result (λ made. Boots (config_at address) (min boot.now (2 ^ 53)) boot.word (arc_value made.0).opening) }
+    ensures boots { IfOk result (λ made. Boots (config_with host address) (min boot.now (2 ^ 53)) boot.word (arc_value made.0).opening) }
 {
     let config = Config {
         address,
-        host: None,
+        host: Some(HostConfig {
+            label: host.into_label(),
+            v6: None,
+        }),
     };
     let (daemon, _) = Daemon::new(alloc, config, boot.now.min(LAST_MOMENT), boot.word)?;
     let (turn, seat) = Turn::new(alloc, Shared::new(alloc, daemon)?)?;

@@ -1,25 +1,25 @@
 // Serving by words.
 ghost use Rattle.std.specs.Io.KnownBytes.{Appends};
-ghost use Rattle.std.specs.Prelude.{◌≡◌, ◌≢◌, ◌⊎◌, ℕ, None, Some, IfOk, take};
+ghost use Rattle.std.specs.Prelude.{◌≡◌, ◌≢◌, ◌⊎◌, ℕ, None, Some, take};
 ghost use Rattle.mdns_base.specs.Outside.{Rose};
 ghost use Rattle.mdns_outside.specs.declared.plan.ServePlan.{ServePlan};
 ghost use Rattle.mdns_server.specs.Endings.{IsServeStatus, serving_line};
 ghost use Rattle.mdns_words.specs.Options.{texts};
-ghost use Rattle.mdnsd_serve.specs.Serving.{plan_of, plan_asked, Serves};
+ghost use Rattle.mdnsd_serve.specs.Serving.{plan_of, Serves};
 
 use crate::booting::boot_plan;
 use crate::status::{NO_MEMORY, USAGE};
 use mdns_base::Sink;
-use mdns_outside::{Place, ServePlan};
+use mdns_outside::Place;
 use mdns_server::serve;
 use mdns_words::{Asked, serve_words};
-use std::alloc::{AllocError, Global};
+use std::alloc::Global;
 use std::sync::Wait;
 
 /// Serves what the words behind `serve` ask for: hands the plan to the place, boots its daemon (`boot_plan`), and serves it.
 /// The status:
 /// - 0: the door gave its last connection, and all sessions ended.
-/// - 2: the words aren't as the command wants them, or name a host, which isn't built yet. Nothing is done.
+/// - 2: the words aren't as the command wants them. Nothing is done.
 /// - 5: the output failed. Nothing was accepted.
 /// - 6: memory was refused before anything was accepted.
 /// - 9: the door failed, or couldn't be made.
@@ -44,50 +44,29 @@ pub fn serve_by_words<R: Wait + Copy + Send + 'static, P: Place, K: Sink>(
     ensures write { result ≡ 5 → Rose (K.faults output.old) (K.faults output.new) }
     ensures quiet { result ≢ 5 → K.faults output.new ≡ K.faults output.old }
 {
-    match plan_by_words(alloc, words) {
-        Ok(Some(plan)) => serve_plan(rt, alloc, plan, place, output),
+    match serve_words(alloc, words) {
+        Ok(Some(asked)) => serve_asked(rt, alloc, asked, place, output),
         Ok(None) => USAGE,
         Err(_) => NO_MEMORY,
     }
 }
 
-// The plan that words ask for, where they are as the command wants them and name no host.
-fn plan_by_words(alloc: Global, words: &[String]) -> Result<Option<ServePlan>, AllocError>
-    ensures { IfOk result (λ plan. plan ≡ plan_of (texts words.now)) }
-{
-    match serve_words(alloc, words)? {
-        Some(asked) => Ok(hostless(asked)),
-        None => Ok(None),
-    }
-}
-
-// The plan of what is asked, where no host is named.
-fn hostless(asked: Asked) -> Option<ServePlan>
-    ensures { result ≡ plan_asked asked }
-{
-    let Asked { host, plan } = asked;
-    match host {
-        None => Some(plan),
-        Some(_) => None,
-    }
-}
-
-// Boots the daemon of a plan and serves it.
-fn serve_plan<R: Wait + Copy + Send + 'static, P: Place, K: Sink>(
+// Serves what is asked.
+fn serve_asked<R: Wait + Copy + Send + 'static, P: Place, K: Sink>(
     rt: R,
     alloc: Global,
-    plan: ServePlan,
+    asked: Asked,
     place: &mut P,
     output: &mut K,
 ) -> u8
-    ensures serves { Serves plan (P.counted place.old) (P.counted place.new) result }
+    ensures serves { Serves asked.plan (P.counted place.old) (P.counted place.new) result }
     ensures status { IsServeStatus result }
     ensures put { (n : ℕ) × Appends (K.held output.old) (K.held output.new) (take n serving_line) }
     ensures whole { result ≡ 0 → Appends (K.held output.old) (K.held output.new) serving_line }
     ensures write { result ≡ 5 → Rose (K.faults output.old) (K.faults output.new) }
     ensures quiet { result ≢ 5 → K.faults output.new ≡ K.faults output.old }
 {
-    match boot_plan(alloc, plan, place) {
+    match boot_plan(alloc, asked, place) {
         Ok((turn, mut seat)) => serve(rt, alloc, &turn, &mut seat, place, output),
         Err(status) => status,
     }

@@ -3,19 +3,24 @@ use mdns_words::serve_words;
 use std::alloc::{AllocError, Global};
 
 /// How the words of the command are written.
-const FORM: &str = "mdnsd serve --socket PATH --address IPV4 --relay PORT [--seed N] [PEER ...]";
+const FORM: &str =
+    "mdnsd serve --socket PATH --host LABEL --address IPV4 --relay PORT [--seed N] [PEER ...]";
 
 /// The options: what each is called, a value that it may have, and what its value is to be.
 const OPTIONS: [(&str, &str, &str); 5] = [
     ("--socket", "s", "a path"),
-    ("--host", "h", "a label of 1 to 63 bytes"),
+    (
+        "--host",
+        "h",
+        "a name of 1 to 63 bytes without control characters",
+    ),
     ("--address", "10.0.0.1", "an IPv4 address as 10.0.0.1"),
     ("--relay", "5000", "a port from 1 to 65535"),
     ("--seed", "1", "a number below 4294967296"),
 ];
 
 /// The options that have to be given.
-const NEEDED: [&str; 3] = ["--socket", "--address", "--relay"];
+const NEEDED: [&str; 4] = ["--socket", "--host", "--address", "--relay"];
 
 /// A line that says which of the words behind `serve` isn't as it should be, and how they are written. Refused only for want
 /// of memory.
@@ -89,15 +94,12 @@ fn is_good(alloc: Global, peer: &str, option: &str, value: &str) -> Result<bool,
     Ok(serve_words(alloc, words.as_slice())?.is_some())
 }
 
-// Which option is missing, or that the host isn't built yet.
+// Which option is missing.
 fn missing(alloc: Global, words: &[String]) -> Result<String, AllocError> {
     for name in NEEDED {
         if !words.iter().any(|word| word.as_str() == name) {
             return format!(in alloc; "{name} is missing");
         }
     }
-    String::from_str(
-        alloc,
-        "--host isn't built yet, since names aren't claimed yet: leave it out",
-    )
+    String::from_str(alloc, "the words aren't as they should be")
 }

@@ -18,7 +18,16 @@ const REPLY_1: &[u8] = b"\x00\x00\x00\x0a\x40\x00\x00\x00\x01\x01\x00\x00\x00\x0
 const REPLY_2: &[u8] = b"\x00\x00\x00\x0a\x40\x00\x00\x00\x02\x01\x00\x00\x00\x00";
 
 // The words behind `serve`.
-const WORDS: [&str; 6] = ["--socket", "s", "--address", "10.0.0.1", "--relay", "5000"];
+const WORDS: [&str; 8] = [
+    "--socket",
+    "s",
+    "--host",
+    "nas",
+    "--address",
+    "10.0.0.1",
+    "--relay",
+    "5000",
+];
 
 // What comes to the place of these tests.
 type Clients<R> = Scene<MemSource, NotedSink<R>>;
