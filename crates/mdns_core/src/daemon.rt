@@ -79,7 +79,7 @@ impl Daemon {
             records: Records::new(alloc, word)?,
             claims: Claims::new(alloc, &config, when, ANNOUNCES)?,
             asking: Asking::new(alloc),
-            sessions: Sessions::new(alloc),
+            sessions: Sessions::with_key(alloc, u64::from(word)),
         };
         let entry = Entry {
             moment: now,

@@ -7,6 +7,7 @@ use std::process::Abort;
 use std::test::Fail;
 
 mod adapters;
+mod claims;
 mod large;
 mod played;
 mod program;

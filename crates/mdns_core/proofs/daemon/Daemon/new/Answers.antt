@@ -29,4 +29,4 @@ returns-clause-stands c =
     (subst (λ (l : List Held). Stands (kept c.args.now 0 [] l questions claims) (told_entry c.args.now c.args.word (event.Boot c.args.config) [] [] [] outcome.Done ∷ [])) (sym h)
     (subst (λ (l : List Tracked). Stands (kept c.args.now 0 [] [] l claims) (told_entry c.args.now c.args.word (event.Boot c.args.config) [] [] [] outcome.Done ∷ [])) (sym q)
     (stands-boot c.args.now c.args.word c.args.config claims c.requires.bound c.requires.host c.in_ok-new-2.ensures.stands c.in_ok-new-2.ensures.announces))))))) in
-    at_marks c.new-5.result c.new-6.result c.new-7.result c.new-4.result.opened c.new-4.result.sessions c.in_ok-new.field-0.held c.new-3.result.questions c.new-5.ensures c.new-6.ensures c.new-7.ensures c.new-4.ensures.opened c.new-4.ensures.sessions c.in_ok-new.ensures.held c.new-3.ensures
+    at_marks c.new-4.result c.new-5.result c.new-6.result c.with_key.result.opened c.with_key.result.sessions c.in_ok-new.field-0.held c.new-3.result.questions c.new-4.ensures c.new-5.ensures c.new-6.ensures c.with_key.ensures.opened c.with_key.ensures.sessions c.in_ok-new.ensures.held c.new-3.ensures
