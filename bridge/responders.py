@@ -133,7 +133,7 @@ class Real(unittest.TestCase):
         if not os.access(PROGRAMS["mdnsd"], os.X_OK):
             self.skipTest(f"no program at {PROGRAMS['mdnsd']}")
         self.socket = os.path.join(tempfile.mkdtemp(dir="/run"), "s")
-        daemon = Running("near", PROGRAMS["mdnsd"], "serve", "--socket", self.socket, "--address", NEAR, "--relay", str(DAEMON), str(RELAY))
+        daemon = Running("near", PROGRAMS["mdnsd"], "serve", "--socket", self.socket, "--host", "near", "--address", NEAR, "--relay", str(DAEMON), str(RELAY))
         self.addCleanup(daemon.end)
         daemon.waits_for("serving\n")
         bridge = Running("near", BRIDGE, "--interface", "link0", "--relay", str(RELAY), "--daemon", str(DAEMON))
