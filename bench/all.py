@@ -6,6 +6,7 @@
 It builds what isn't built yet, and needs valgrind. It takes some minutes, and on a fresh machine as long as the proofs
 take. Nothing here is part of the gate.
 """
+import claims
 import core
 import held
 import measure
@@ -14,4 +15,4 @@ import outbox
 from tools import table
 
 if __name__ == "__main__":
-    table(row for part in (measure, core, held, messages, outbox) for row in part.rows())
+    table(row for part in (measure, core, held, claims, messages, outbox) for row in part.rows())

@@ -208,10 +208,14 @@ def memory(program):
     yield "memory of a held record, its names too", f"{(high - low) / 32_000:,.0f} bytes", ""
 
 
+def program_of():
+    """The program, which is built where it isn't yet."""
+    subprocess.run([os.path.join(TOP, "mdnsd"), "script"], stdin=subprocess.DEVNULL, check=True)
+    return os.path.join(TOP, "crates", "mdnsd", "out", "mdnsd")
+
+
 def rows(program=None):
-    if program is None:
-        subprocess.run([os.path.join(TOP, "mdnsd"), "script"], stdin=subprocess.DEVNULL, check=True)
-        program = os.path.join(TOP, "crates", "mdnsd", "out", "mdnsd")
+    program = program or program_of()
     for part in (known, many_of_one_name, hostile, collisions, ticks, known_answers, full_table, memory):
         yield from part(program)
 
