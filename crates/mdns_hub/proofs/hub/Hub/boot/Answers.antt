@@ -1,10 +1,11 @@
-use Rattle.std.proofs.Common.{ℕ, ◌∷◌, [], ◌≡◌, Option, None, subst, take, inr, refl}
+use Rattle.std.proofs.Common.{ℕ, ◌∷◌, [], ◌≡◌, Option, None, subst, sym, take, inr, refl}
 use Rattle.std.specs.Io.KnownBytes.{Appends}
 use Rattle.mdns_history.specs.declared.entry.Entry.{Entry}
 use Rattle.mdns_history.specs.EntryText.{entry_text}
 use Rattle.mdns_core.specs.State.{Stands}
 use Rattle.mdns_hub.specs.declared.hub.Booted.{Booted}
 use Rattle.mdns_hub.specs.Hubs.{BootedFor}
+use Rattle.mdns_hub.specs.Output.{HasWriteCause}
 use Rattle.mdns_hub.proofs.Written.{on_err_from}
 use Rattle.mdns_hub.proofs.Playing.{boots, boots_part, none_from, puts_no_part}
 use Rattle.mdns_hub.proofs.hub.Hub.boot.Goals as goal
@@ -31,6 +32,10 @@ returns-in_err-put_entry-clause-part g c = on_err_from c.from_residual-in_err-pu
     let number = c.args.number in
     boots_part old new c.args.self.now.clock c.args.self.now.word number c.args.config played stands.clock stands.word booted.0 c.args.self.now.bound
     (subst (λ (e : Entry). (n : ℕ) × Appends old new (take n (entry_text number e))) c.in_ok-daemon.ensures.entry c.in_err-put_entry.ensures.part))
+
+pub returns-in_err-put_entry-clause-cause : goal.returns-in_err-put_entry-clause-cause
+returns-in_err-put_entry-clause-cause g c =
+    subst (HasWriteCause (g.K.Sink.faults c.args.output.now) (g.K.Sink.faults c.put_entry.new.output)) (sym c.from_residual-in_err-put_entry.ensures) c.in_err-put_entry.ensures.cause
 
 pub returns-in_err-daemon-clause-part : goal.returns-in_err-daemon-clause-part
 returns-in_err-daemon-clause-part g c = on_err_from c.from_residual.result (λ played stands.
