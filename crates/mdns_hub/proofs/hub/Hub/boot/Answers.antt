@@ -1,11 +1,11 @@
-use Rattle.std.proofs.Common.{ℕ, ◌∷◌, [], ◌≡◌, Option, None, subst, sym, take, inr, refl}
+use Rattle.std.proofs.Common.{ℕ, ◌∷◌, [], ◌≡◌, Option, None, subst, take, inr, refl}
+use Rattle.std.proofs.lemmas.Result.{err_from_is_err_and}
 use Rattle.std.specs.Io.KnownBytes.{Appends}
 use Rattle.mdns_history.specs.declared.entry.Entry.{Entry}
 use Rattle.mdns_history.specs.EntryText.{entry_text}
 use Rattle.mdns_core.specs.State.{Stands}
 use Rattle.mdns_hub.specs.declared.hub.Booted.{Booted}
 use Rattle.mdns_hub.specs.Hubs.{BootedFor}
-use Rattle.mdns_hub.specs.Output.{HasWriteCause}
 use Rattle.mdns_hub.proofs.Written.{on_err_from}
 use Rattle.mdns_hub.proofs.Playing.{boots, boots_part, none_from, puts_no_part}
 use Rattle.mdns_hub.proofs.hub.Hub.boot.Goals as goal
@@ -35,7 +35,8 @@ returns-in_err-put_entry-clause-part g c = on_err_from c.from_residual-in_err-pu
 
 pub returns-in_err-put_entry-clause-cause : goal.returns-in_err-put_entry-clause-cause
 returns-in_err-put_entry-clause-cause g c =
-    subst (HasWriteCause (g.K.Sink.faults c.args.output.now) (g.K.Sink.faults c.put_entry.new.output)) (sym c.from_residual-in_err-put_entry.ensures) c.in_err-put_entry.ensures.cause
+    let p = err_from_is_err_and c.from_residual-in_err-put_entry.result c.from_residual-in_err-put_entry.ensures.1 in
+    rw (p.1, p.2) c.in_err-put_entry.ensures.cause
 
 pub returns-in_err-daemon-clause-part : goal.returns-in_err-daemon-clause-part
 returns-in_err-daemon-clause-part g c = on_err_from c.from_residual.result (λ played stands.
