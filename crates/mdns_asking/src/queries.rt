@@ -11,8 +11,8 @@ use dns_record::Key;
 use mdns_base::Dest;
 use mdns_happened::{Happened, Walk, When};
 use mdns_history::{Cause, Sends, Sent};
-use mdns_known::{in_order, known_answers};
-use mdns_pack::{Messages, pack_query};
+use mdns_known::known_answers;
+use mdns_pack::{Messages, in_order, pack_query};
 use std::alloc::{AllocError, Global};
 
 /// The queries: once time has passed those of the questions that are asked, with the known answers of all of them. Refused only for

@@ -1,4 +1,3 @@
-pub mod Sorting
 pub mod Fits
 pub mod Live
 pub mod Union

@@ -4,9 +4,6 @@ use Rattle.std.specs.Prelude.{map, filter, nat_lt}
 use Rattle.std.specs.List.{All, list_any}
 use Rattle.std.specs.List.Sorted.{IsPermutation}
 use Rattle.std.specs.Ordering.{is_eq}
-use Rattle.std.specs.Cmp.{both_ways}
-use Rattle.std.specs.declared.cmp.Ordering.{Ordering}
-use Rattle.std.specs.declared.cmp.Ordering.TheVariants.{Less, Equal, Greater}
 use Rattle.std.proofs.lemmas.List.{take_more, map-append}
 use Rattle.std.proofs.lemmas.List.Elements.{All-head, All-tail, filter-append, filter_passes}
 use Rattle.std.proofs.lemmas.List.Sorted.{IsPermutation-sym}
@@ -15,7 +12,7 @@ use Rattle.dns_name.specs.Lists.{insert_by, sorted_by, each_once}
 use Rattle.dns_record.specs.declared.record.Rr.{Rr}
 use Rattle.dns_record.specs.declared.record.Key.{Key}
 use Rattle.dns_record.specs.Records.{matches, same, record_cmp}
-use Rattle.dns_record.proofs.Same.{same_tells, record_cmp_equal, record_cmp_total}
+use Rattle.dns_record.proofs.Same.{record_cmp_total}
 use Rattle.mdns_history.specs.declared.held.Held.{Held}
 use Rattle.mdns_history.specs.declared.entry.Entry.{Entry}
 use Rattle.mdns_history.specs.Hearings.{Hearing, hearings}
@@ -25,19 +22,9 @@ use Rattle.mdns_known.specs.Known.{is_listed, known_of, stand_once}
 use Rattle.mdns_known.specs.Laws.{IsOfLiveRecords, IsOrderFree}
 use Rattle.mdns_base.proofs.Permutations.{along_permutation}
 use Rattle.dns_name.proofs.InOrder.{none-filter, tied-turned, insert-swapped}
+use Rattle.mdns_pack.proofs.Found.{same-tied}
 
 -- ---- sameness and record order
-
-equal_is : (r : Ordering) → is_eq r ≡ true → r ≡ Equal
-equal_is Less e = absurd (cc)
-equal_is Equal e = refl
-equal_is Greater e = absurd (cc)
-
-same-tied : (x y : Rr) → same x y ≡ is_eq (record_cmp x y)
-same-tied x y =
-    both_ways (same x y) (is_eq (record_cmp x y))
-    (λ e. ap is_eq ((record_cmp_equal x y).1 ((same_tells x y).0 e)))
-    (λ e. (same_tells x y).1 ((record_cmp_equal x y).0 (equal_is (record_cmp x y) e)))
 
 same-turned : (x y : Rr) → same x y ≡ same y x
 same-turned x y = same-tied x y ∙ tied-turned record_cmp record_cmp_total x y ∙ sym (same-tied y x)

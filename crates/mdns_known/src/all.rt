@@ -4,10 +4,10 @@ ghost use Rattle.std.specs.List.{All};
 ghost use Rattle.mdns_known.specs.Known.{all_known_of};
 
 use crate::known::known_answers;
-use crate::order::in_order;
 use dns_message::Rrs;
 use dns_record::Key;
 use mdns_history::Held;
+use mdns_pack::in_order;
 use std::alloc::{AllocError, Global};
 
 /// The known answers of several questions at `now`, in ms: those of each of them, as `known_answers` has them, each once and

@@ -4,10 +4,10 @@ ghost use Rattle.std.specs.List.{All};
 ghost use Rattle.mdns_known.specs.Known.{known_of};
 
 use crate::listing::listing;
-use crate::order::sorted;
 use dns_message::Rrs;
 use dns_record::Key;
 use mdns_history::Held;
+use mdns_pack::sorted;
 use std::alloc::{AllocError, Global};
 
 /// The known answers of a question at `now`, in ms, as a query lists them, in record order: the held records that match

@@ -5,13 +5,11 @@ mod all;
 mod known;
 mod laws;
 mod listing;
-mod order;
 mod suppression;
 
 pub use all::all_known_answers;
 pub use known::known_answers;
 pub use laws::known_answers_of_live_records;
-pub use order::in_order;
 pub use suppression::suppresses;
 
 #[cfg(test)]

@@ -1,1 +1,4 @@
 pub mod Chains
+pub mod Sorting
+pub mod Found
+pub mod Replies

@@ -1,11 +1,19 @@
-//! How questions and records are put into messages. (RFC 6762 7.1, 7.2 and 17)
+//! How questions and records are put into messages, and records into order. (RFC 6762 6, 7.1, 7.2 and 17, RFC 6763 12)
 #![tactic(auto)]
 
 mod lists;
+mod order;
+mod plain;
 mod query;
+mod reply;
+mod wanting;
 
 pub use lists::Messages;
+pub use order::{in_order, sorted};
+pub use plain::pack_plain;
 pub use query::pack_query;
+pub use reply::pack_reply;
+pub use wanting::Wanting;
 
 #[cfg(test)]
 mod tests;

@@ -1,9 +1,12 @@
-// The list of messages.
+// The list of messages, and the length of each.
 ghost use Rattle.std.specs.Prelude.{◌≡◌, [], ◌∷◌, ◌++◌, OnOk, OnErr};
 
 use dns_message::Message;
 use std::alloc::{AllocError, Global};
 use std::marker::Model;
+
+/// The length in bytes within which records are put together in a message. (RFC 6762 17)
+pub(crate) const PACKET_LENGTH: usize = 1440;
 
 /// A list of messages.
 #[derive(Drop)]

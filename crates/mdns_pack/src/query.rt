@@ -4,13 +4,11 @@ ghost use Rattle.dns_message.specs.Packing.{fits, parts_of, query_with, bare_que
 ghost use Rattle.dns_message.specs.Drafting.{with_answer};
 
 use crate::Messages;
+use crate::lists::PACKET_LENGTH;
 use dns_message::{Draft, Rrs};
 use dns_record::{Key, Question, Rr, matches_any};
 use std::alloc::{AllocError, Global};
 use std::mem;
-
-/// The length in bytes within which records are put together in a message. (RFC 6762 17)
-const PACKET_LENGTH: usize = 1440;
 
 /// The messages that ask questions, in their order, and list those of the known answers that match one of them. As many
 /// questions as fit 1440 bytes, and at least one, make a batch; its known answers follow while the message stays within

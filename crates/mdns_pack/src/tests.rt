@@ -1,5 +1,5 @@
-// Queries that are packed: what each of their messages holds and how long it is.
-use crate::pack_query;
+// Queries and replies that are packed: what each of their messages holds and how long it is.
+use crate::{Messages, Wanting, pack_plain, pack_query, pack_reply};
 use bytes::Bytes;
 use dns_message::{Message, Rrs, write};
 use dns_name::Name;
@@ -97,6 +97,124 @@ fn a_query_lists_an_address(rt: HostRuntime) -> Result<(), Fail> {
     assert_eq!(rt; messages.len(), 1);
     let written = write(alloc, &messages[0], 1440)?;
     assert_eq!(rt; written.as_slice(), ASKED.as_slice());
+    Ok(())
+}
+
+// The answers, each with the length of its data and with the additional records that it wants; and for each reply the
+// lengths of its answers' data, `a`, and of its additional records' data, `x`, and its own. As above a header takes 12
+// bytes, a name of one letter 9 where it is the first, and then 4 or, if it was there, 2.
+const REPLIES: [(&[(char, usize, &[(char, usize)])], &str); 10] = [
+    (&[], ""),
+    // What two answers want is added once.
+    (
+        &[('g', 1, &[('i', 3)]), ('h', 2, &[('i', 3)])],
+        "a1 a2 x3 65\n",
+    ),
+    // What is an answer isn't added.
+    (
+        &[('g', 1, &[('h', 2), ('i', 3)]), ('h', 2, &[('g', 1)])],
+        "a1 a2 x3 65\n",
+    ),
+    // Record order.
+    (&[('g', 1, &[('j', 4), ('i', 3)])], "a1 x3 x4 67\n"),
+    // The packet is full, and then one byte more: that record is left out, and the next is tried.
+    (&[('g', 1, &[('h', 1394), ('i', 3)])], "a1 x1394 1440\n"),
+    (&[('g', 1, &[('h', 1395), ('i', 3)])], "a1 x3 49\n"),
+    // What was added to the first reply isn't added to the second.
+    (
+        &[('g', 100, &[('i', 3)]), ('h', 1300, &[('i', 3), ('j', 0)])],
+        "a100 x3 148\na1300 x0 1345\n",
+    ),
+    // What didn't fit the first is added to the second, which wants it, too.
+    (
+        &[('g', 1400, &[('i', 30)]), ('h', 100, &[('i', 30)])],
+        "a1400 1431\na100 x30 175\n",
+    ),
+    // An answer of the second reply isn't added to the first.
+    (
+        &[('g', 700, &[('j', 3)]), ('h', 700, &[]), ('j', 3, &[])],
+        "a700 731\na700 a3 748\n",
+    ),
+    // An answer that passes the length goes alone, with nothing beside it.
+    (&[('h', 3000, &[('i', 3)])], "a3000 3031\n"),
+];
+
+#[test]
+fn replies_are_packed(rt: HostRuntime) -> Result<(), Fail> {
+    let alloc = rt.alloc();
+    for (answers, written) in REPLIES {
+        let mut wantings = Vec::new(alloc);
+        for (letter, length, records) in answers {
+            let mut wanted = Rrs::new(alloc);
+            for (letter, length) in *records {
+                wanted.push(record_of(alloc, *letter, *length)?)?;
+            }
+            let answer = record_of(alloc, *letter, *length)?;
+            wantings.push(Wanting::new(answer, wanted))?;
+        }
+        let messages = pack_reply(alloc, wantings.as_slice())?;
+        let out = replies_of(alloc, &messages)?;
+        assert_eq!(rt; out.as_slice(), written.as_bytes(), "{written}");
+    }
+    Ok(())
+}
+
+// The same, without additional records.
+const PLAIN: [(&[(char, usize)], &str); 5] = [
+    (&[], ""),
+    (&[('h', 1), ('i', 2)], "a1 a2 48\n"),
+    (
+        &[('h', 700), ('i', 695), ('j', 1)],
+        "a700 a695 1440\na1 32\n",
+    ),
+    (
+        &[('h', 700), ('i', 700), ('j', 1)],
+        "a700 731\na700 a1 746\n",
+    ),
+    (
+        &[('h', 1), ('i', 3000), ('j', 1)],
+        "a1 32\na3000 3031\na1 32\n",
+    ),
+];
+
+#[test]
+fn goodbyes_are_packed(rt: HostRuntime) -> Result<(), Fail> {
+    let alloc = rt.alloc();
+    for (answers, written) in PLAIN {
+        let mut goodbyes = Vec::new(alloc);
+        for (letter, length) in answers {
+            let mut rr = record_of(alloc, *letter, *length)?;
+            rr.ttl = 0;
+            goodbyes.push(rr)?;
+        }
+        let messages = pack_plain(alloc, goodbyes.as_slice())?;
+        let out = replies_of(alloc, &messages)?;
+        assert_eq!(rt; out.as_slice(), written.as_bytes(), "{written}");
+    }
+    Ok(())
+}
+
+// A line for each reply.
+fn replies_of(alloc: Global, messages: &Messages) -> Result<Vec<u8>, Fail> {
+    let mut out = Vec::new(alloc);
+    for message in messages.as_slice() {
+        put_lengths(alloc, &mut out, 'a', message.answers.as_slice())?;
+        put_lengths(alloc, &mut out, 'x', message.additional.as_slice())?;
+        let written = write(alloc, message, 8972)?;
+        let line = format!(in alloc; "{}\n", written.as_slice().len())?;
+        out.extend_from_slice(line.as_bytes())?;
+    }
+    Ok(out)
+}
+
+// The lengths of records' data, each behind a letter.
+fn put_lengths(alloc: Global, out: &mut Vec<u8>, letter: char, rrs: &[Rr]) -> Result<(), Fail> {
+    for rr in rrs {
+        if let Rdata::Txt(bytes) = &rr.rdata {
+            let word = format!(in alloc; "{letter}{} ", bytes.as_slice().len())?;
+            out.extend_from_slice(word.as_bytes())?;
+        }
+    }
     Ok(())
 }
 

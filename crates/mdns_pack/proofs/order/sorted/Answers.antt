@@ -3,8 +3,8 @@ use Rattle.std.specs.Ordering.{is_lt}
 use Rattle.std.proofs.lemmas.List.Sorted.{ranks_by, answers_always}
 use Rattle.dns_record.specs.Records.{record_cmp}
 use Rattle.dns_record.proofs.Same.{record_cmp_total}
-use Rattle.mdns_known.proofs.Sorting.{sorted-stably}
-use Rattle.mdns_known.proofs.order.sorted.Goals as goal
+use Rattle.mdns_pack.proofs.Sorting.{sorted-stably}
+use Rattle.mdns_pack.proofs.order.sorted.Goals as goal
 
 pub returns : goal.returns
 returns c =

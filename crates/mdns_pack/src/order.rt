@@ -1,0 +1,68 @@
+// Records put into record order.
+ghost use Rattle.std.specs.Prelude.{◌≡◌, IfOk};
+ghost use Rattle.std.specs.List.{list_any};
+ghost use Rattle.dns_name.specs.Lists.{sorted_by, ordered};
+ghost use Rattle.dns_record.specs.Records.{record_cmp, same};
+
+use dns_message::Rrs;
+use dns_record::{Rr, record_cmp};
+use std::alloc::AllocError;
+use std::marker::Model;
+
+/// Records in record order; those that compare equal stay in the order of the list. Refused only for want of memory.
+pub fn sorted(mut records: Vec<Rr>) -> Result<Rrs, AllocError>
+    ensures { IfOk result (λ sorted. sorted ≡ sorted_by record_cmp records.items) }
+{
+    records.sort_by(|left, right| record_cmp(left, right))?;
+    Ok(Rrs::from_vec(records))
+}
+
+/// Records in record order, of those that compare equal the first alone. Refused only for want of memory.
+pub fn in_order(mut records: Vec<Rr>) -> Result<Rrs, AllocError>
+    ensures { IfOk result (λ sorted. sorted ≡ ordered record_cmp records.items) }
+{
+    records.sort_by(|left, right| record_cmp(left, right))?;
+    records.dedup_by(|later, kept| record_cmp(later, kept).is_eq());
+    Ok(Rrs::from_vec(records))
+}
+
+/// Records in record order, each once, so that one of them is soon found.
+#[derive(Drop)]
+pub(crate) struct Ordered {
+    records: Rrs,
+}
+
+impl Model for Ordered {
+    ghost use Rattle.std.specs.Prelude.{List};
+    ghost use Rattle.std.specs.List.Sorted.{IsSorted};
+    ghost use Rattle.dns_record.specs.declared.record.Rr.{Rr};
+    ghost use Rattle.dns_record.specs.Records.{record_cmp};
+
+    ghost Value = { List Rr };
+
+    ghost view = { λ o. o.records };
+
+    ghost invariant = { λ o. IsSorted record_cmp o.records };
+}
+
+impl Ordered {
+    /// Records in record order, of those that compare equal the first alone. Refused only for want of memory.
+    pub(crate) fn of(records: Vec<Rr>) -> Result<Self, AllocError>
+        ensures { IfOk result (λ kept. kept ≡ ordered record_cmp records.items) }
+    {
+        Ok(Ordered {
+            records: in_order(records)?,
+        })
+    }
+
+    /// Whether a record is the same as one of these.
+    pub(crate) fn has(&self, rr: &Rr) -> bool
+        ensures { result ≡ list_any (same rr.now) self.now }
+    {
+        let found = self
+            .records
+            .as_slice()
+            .binary_search_by(|other| record_cmp(other, rr));
+        found.is_ok()
+    }
+}
