@@ -1,0 +1,6 @@
+use Rattle.std.proofs.Common.{rules}
+use Rattle.indexmap.proofs.CallerLemmas.{filter-RetainsPairs}
+use Rattle.mdns_reply.proofs.moments.forget_old.Goals as goal
+
+pub returns-clause-lasts : goal.returns-clause-lasts
+returns-clause-lasts c = filter-RetainsPairs _ _ _ (λ k v b w g call. search rules) _ _ c.retain.ensures.filtered
