@@ -18,7 +18,7 @@ use sd_name::{RegType, full_name, renamed, types_name};
 use std::alloc::{AllocError, Global};
 
 /// The TTL of records that name a host, in seconds. (RFC 6762 10)
-const HOST_TTL: u32 = 120;
+pub(crate) const HOST_TTL: u32 = 120;
 
 /// The TTL of all other records, in seconds. (RFC 6762 10)
 const OTHER_TTL: u32 = 4500;
@@ -92,7 +92,7 @@ fn published(alloc: Global, txt: &Bytes) -> Result<Bytes, AllocError>
     }
 }
 
-fn unique_record(name: &Name, ttl: u32, rdata: Rdata) -> Rr
+pub(crate) fn unique_record(name: &Name, ttl: u32, rdata: Rdata) -> Rr
     ensures { result ≡ unique_record name.now ttl rdata }
 {
     Rr {

@@ -1,9 +1,9 @@
 // The records of hosts and services, as RFC 6762 and 6763 have them.
-use crate::{Service, host_name, host_records, service_name, service_records};
+use crate::{Service, host_name, host_records, nsec_of, service_name, service_records};
 use bytes::Bytes;
 use dns_message::Rrs;
 use dns_name::{Label, Name};
-use dns_record::put_record;
+use dns_record::{Rdata, Rr, put_record};
 use mdns_history::{Config, HostConfig};
 use sd_name::RegType;
 use std::alloc::Global;
@@ -153,4 +153,63 @@ fn services_have_records(rt: HostRuntime) -> Result<(), Fail> {
         );
     }
     Ok(())
+}
+
+// The types of a host, and those of a service: A is 1, TXT 16, AAAA 28 and SRV 33, and the first type of a byte has its highest
+// bit. (RFC 4034 4.1.2)
+#[test]
+fn types_stand_in_a_bitmap(rt: HostRuntime) -> Result<(), Fail> {
+    let alloc = rt.alloc();
+    let name = name_of("h.local")?;
+    let mut out = Vec::new(alloc);
+    put_record(&mut out, &host_nsec(alloc, &name)?)?;
+    assert_eq!(rt;
+        out.as_slice(),
+        b"h.local. 120 flush NSEC h.local. 000440000008".as_slice()
+    );
+
+    let mut out = Vec::new(alloc);
+    put_record(&mut out, &service_nsec(alloc, &name)?)?;
+    assert_eq!(rt;
+        out.as_slice(),
+        b"h.local. 120 flush NSEC h.local. 00050000800040".as_slice()
+    );
+    Ok(())
+}
+
+fn host_nsec(alloc: Global, name: &Name) -> Result<Rr, Fail> {
+    let a = Rr {
+        owner: name.copy(),
+        flush: true,
+        ttl: 120,
+        rdata: Rdata::A(0x0a00_0001),
+    };
+    let aaaa = Rr {
+        owner: name.copy(),
+        flush: true,
+        ttl: 120,
+        rdata: Rdata::Aaaa(1),
+    };
+    Ok(nsec_of(alloc, name, &[a, aaaa])?)
+}
+
+fn service_nsec(alloc: Global, name: &Name) -> Result<Rr, Fail> {
+    let txt = Rr {
+        owner: name.copy(),
+        flush: true,
+        ttl: 4500,
+        rdata: Rdata::Txt(Bytes::copy_from_slice(alloc, &[0])?),
+    };
+    let srv = Rr {
+        owner: name.copy(),
+        flush: true,
+        ttl: 120,
+        rdata: Rdata::Srv {
+            priority: 0,
+            weight: 0,
+            port: 631,
+            target: name.copy(),
+        },
+    };
+    Ok(nsec_of(alloc, name, &[txt, srv])?)
 }
