@@ -141,12 +141,12 @@ module _ (walks : List Walk) (moment : ℕ) where
   asked_walked false (Some heard) questions walked = heard_walked heard questions walked
 
 -- A plan that is made by walks is of what happened.
-pub is_plan : (told : Told) (moment : ℕ) (sessions : List Session) (questions : List Tracked) (held later : List Held) (walks : List Walk) (before : List Sent) (plan : Plan) →
-    plan.asked.items ≡ asked_by told.ticks told.heard questions walks moment → plan.sent ≡ before ++ sent_by told.ticks walks moment plan.asked.items →
+pub is_plan : (told : Told) (moment : ℕ) (sessions : List Session) (questions : List Tracked) (held later : List Held) (walks : List Walk) (before after : List Sent) (plan : Plan) →
+    plan.asked.items ≡ asked_by told.ticks told.heard questions walks moment → after ≡ before ++ sent_by told.ticks walks moment plan.asked.items →
     plan.begun.items ≡ begun_keys told.call → plan.ended.items ≡ ended_told told.call told.detached sessions →
     AreTimed held questions → AreWalks held later walks → AllLive moment later → AreEnough told moment questions held later walks →
-    IsPlan told moment sessions questions later walks before plan
-is_plan told moment sessions questions held later walks before plan asked sent begins ends are_timed are live enough = record {
+    IsPlan told moment sessions questions later walks before after plan
+is_plan told moment sessions questions held later walks before after plan asked sent begins ends are_timed are live enough = record {
   asked = asked ∙ asked_later held later walks moment are told.ticks told.heard questions live are_timed enough.known enough.asked;
   sent = sent ∙ ap (λ (queries : List Sent). before ++ queries) (sent_later held later walks moment are told.ticks plan.asked.items walked);
   begun = begins;

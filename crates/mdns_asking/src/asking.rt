@@ -87,36 +87,33 @@ impl Asking {
         Ok(())
     }
 
-    /// What an event asks, sends, begins and ends, where these are the walks of the names that `put_names` put. Its queries go
-    /// behind what else is sent. Nothing is changed. Refused only for want of memory.
+    /// What an event asks, begins and ends, where these are the walks of the names that `put_names` put. The queries that it
+    /// sends are put behind what else is sent; the questions stay as they are. Refused only for want of memory, and some of the
+    /// queries may be there then.
     pub fn plan(
         &self,
         when: When,
         happened: &Happened<'_>,
         walks: &[Walk],
         sessions: &Sessions,
-        mut sent: Sends,
+        sent: &mut Sends,
     ) -> Result<Plan, AllocError>
         requires call { IsWellFormedCall (told_by happened.now).call }
         requires heard { AreHeard when.moment walks.now }
         ensures plan { IfOk result (λ plan. (held later : List Held) → AreTimed held self.now.questions → AreWalks held later walks.now → AllLive when.moment later
             → AreEnough (told_by happened.now) when.moment self.now.questions held later walks.now
-            → IsPlan (told_by happened.now) when.moment sessions.now.sessions self.now.questions later walks.now sent plan) }
+            → IsPlan (told_by happened.now) when.moment sessions.now.sessions self.now.questions later walks.now sent.old sent.new plan) }
         ensures begun { IfOk result (λ plan. plan.begun.items ≡ begun_keys (told_by happened.now).call) }
         ensures ended { IfOk result (λ plan. plan.ended.items ≡ ended_told (told_by happened.now).call (told_by happened.now).detached sessions.now.sessions) }
         ensures gaps { HaveGaps self.now.questions }
     {
         let questions = self.asker.questions();
         let asked = asked_questions(self.alloc, questions, when, happened, walks)?;
-        send_to_all(
-            &mut sent,
-            queries(self.alloc, when, happened, walks, &asked)?,
-        )?;
+        send_to_all(sent, queries(self.alloc, when, happened, walks, &asked)?)?;
         let begun = begun_keys(self.alloc, happened)?;
         let ended = ended_keys(self.alloc, sessions, happened)?;
         Ok(Plan {
             asked,
-            sent,
             begun,
             ended,
         })

@@ -3,15 +3,13 @@ ghost use Rattle.std.specs.Prelude.{◌≡◌, ◌++◌, map, OnOk};
 ghost use Rattle.mdns_question.specs.Standing.{mark_of};
 
 use dns_record::Key;
-use mdns_history::{Cause, Mark, Marks, Sends};
+use mdns_history::{Cause, Mark, Marks};
 use std::alloc::AllocError;
 
-/// What an event makes of the questions: which are asked, each with its cause, what is sent for them, and which get a user and
-/// which lose one.
+/// What an event makes of the questions: which are asked, each with its cause, and which get a user and which lose one.
 #[derive(Drop)]
 pub struct Plan {
     pub asked: Vec<(Key, Cause)>,
-    pub sent: Sends,
     pub begun: Vec<Key>,
     pub ended: Vec<Key>,
 }

@@ -61,14 +61,14 @@ fn walks(alloc: Global, now: u64, end: u64) -> Result<Vec<Walk>, Fail>
     Ok(walks)
 }
 
-// Does one event, and answers its plan and how many names it walks.
+// Does one event, and answers its plan, how many names it walks and how many messages it sends.
 fn step(
     alloc: Global,
     asking: &mut Asking,
     now: u32,
     happened: &Happened<'_>,
     end: u64,
-) -> Result<(Plan, usize), Fail>
+) -> Result<(Plan, usize, usize), Fail>
     requires { IsWellFormedCall (told_by happened.now).call }
 {
     let when = When {
@@ -82,16 +82,11 @@ fn step(
     let mut names = Vec::new(alloc);
     asking.put_names(&mut names, when, happened, &touched)?;
     let walks = walks(alloc, when.moment, end)?;
-    let plan = asking.plan(
-        when,
-        happened,
-        &walks,
-        &Sessions::new(alloc),
-        Sends::new(alloc),
-    )?;
+    let mut sent = Sends::new(alloc);
+    let plan = asking.plan(when, happened, &walks, &Sessions::new(alloc), &mut sent)?;
     asking.reserve(&plan)?;
     asking.apply(when, &plan, &walks);
-    Ok((plan, names.len()))
+    Ok((plan, names.len(), sent.as_slice().len()))
 }
 
 // A call starts the question at 1000.
@@ -110,8 +105,11 @@ fn started(rt: &impl Abort, alloc: Global) -> Result<Asking, Fail> {
         request: &request,
         code: 0,
     };
-    let (plan, walked) = step(alloc, &mut asking, 1000, &happened, 121_000)?;
-    assert_eq!(rt; (plan.begun.len(), plan.ended.len(), walked), (1, 0, 1));
+    let (plan, walked, sent) = step(alloc, &mut asking, 1000, &happened, 121_000)?;
+    assert_eq!(rt;
+        (plan.begun.len(), plan.ended.len(), walked, sent),
+        (1, 0, 1, 0)
+    );
     Ok(asking)
 }
 
@@ -124,11 +122,8 @@ fn expect_askings(
 ) -> Result<(), Fail> {
     for (now, cause) in expected {
         assert_eq!(rt; asking.first_due(), Some(u64::from(*now)));
-        let (plan, walked) = step(alloc, asking, *now, &Happened::Ticked, 121_000)?;
-        assert_eq!(rt;
-            (plan.asked.len(), plan.sent.as_slice().len(), walked),
-            (1, 1, 1)
-        );
+        let (plan, walked, sent) = step(alloc, asking, *now, &Happened::Ticked, 121_000)?;
+        assert_eq!(rt; (plan.asked.len(), sent, walked), (1, 1, 1));
         assert!(rt; plan.asked.iter().all(|asked| asked.1 == *cause), "{now}");
         let mut marks = Marks::new(alloc);
         plan.put_askings(&mut marks)?;
@@ -151,8 +146,8 @@ fn a_touched_question_is_told_its_point(rt: HostRuntime) -> Result<(), Fail> {
     let mut asking = started(&rt, alloc)?;
     expect_askings(&rt, alloc, &mut asking, ASKINGS.split_at(7).0)?;
     assert_eq!(rt; asking.first_due(), Some(97_000));
-    let (plan, walked) = step(alloc, &mut asking, 90_000, &Happened::Ticked, 91_000)?;
-    assert_eq!(rt; (plan.asked.len(), walked), (0, 1));
+    let (plan, walked, sent) = step(alloc, &mut asking, 90_000, &Happened::Ticked, 91_000)?;
+    assert_eq!(rt; (plan.asked.len(), sent, walked), (0, 0, 1));
     assert_eq!(rt; asking.first_due(), Some(128_020));
     Ok(())
 }

@@ -190,6 +190,8 @@ impl Claims {
         plan: &'a Plan,
     ) -> Behind<'a>
         ensures before { result.groups.now ≡ self.now.contents.kept }
+        ensures moment { result.means.moment ≡ when.moment }
+        ensures happened { told_by result.means.happened.now ≡ told_by happened.now }
         ensures deed { result.deed.now ≡ plan.now.deed }
         ensures behind { groups_behind result ≡ kept_by (record { moment = when.moment; announces = self.now.contents.announces; told = told_by happened.now; marks = plan.now.marks }) self.now.contents.kept plan.now.deed }
         ensures data { IsFor self.now.contents.registered self.now.contents.kept plan.now.deed → HaveData (groups_behind result) }

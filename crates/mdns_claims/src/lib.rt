@@ -23,6 +23,8 @@ mod renewal;
 mod turns;
 
 pub use behind::Behind;
+pub use claimant::Claimant;
 pub use claims::Claims;
 pub use law::claims_follow_the_history;
 pub use plan::{Deed, Plan};
+pub use renew::ends;

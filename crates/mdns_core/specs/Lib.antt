@@ -1,5 +1,1 @@
-pub mod InForce
-pub mod Viewed
-pub mod State
-pub mod Next
 pub mod Planned

@@ -8,7 +8,7 @@ ghost use Rattle.mdns_history.specs.Sessions.{is_attached, is_cut};
 ghost use Rattle.mdns_history.specs.Items.{session_items, taken_items, queue};
 ghost use Rattle.mdns_history.specs.Replays.{answer_sets};
 ghost use Rattle.mdns_asserts.specs.Earned.{IsEarned};
-ghost use Rattle.mdns_core.specs.InForce.{in_force};
+ghost use Rattle.mdns_step.specs.InForce.{in_force};
 ghost use Rattle.mdns_history.specs.Fitting.{Fits, boot_entry, is_boot, is_host_label};
 ghost use Rattle.mdns_history.specs.Due.{NextDue};
 ghost use Rattle.dns_name.specs.Lists.{least};
@@ -21,15 +21,17 @@ use mdns_claims::Claims;
 use mdns_happened::When;
 use mdns_history::{Config, Entry, Event, Gifts, Marks, Outcome, Sends};
 use mdns_records::Records;
+use mdns_reply::Lasts;
 use sd_sessions::Sessions;
 use std::alloc::{AllocError, Global};
 use std::marker::Model;
 use std::sync::ledger::Ledger;
 
-/// Whether the daemon announces what it claims: not yet.
-const ANNOUNCES: bool = false;
+/// Whether the daemon announces what it claims. (RFC 6762 8.3)
+const ANNOUNCES: bool = true;
 
-/// A daemon: the records that it holds, the names that it claims, the questions that it asks, and its sessions.
+/// A daemon: the records that it holds, the names that it claims, the questions that it asks, its sessions, and when it last
+/// multicast records.
 #[derive(Drop)]
 pub struct Daemon {
     alloc: Global,
@@ -38,6 +40,7 @@ pub struct Daemon {
     claims: Claims,
     asking: Asking,
     sessions: Sessions,
+    lasts: Lasts,
 }
 
 impl Model for Daemon {
@@ -45,18 +48,18 @@ impl Model for Daemon {
     ghost use Rattle.mdns_history.specs.Lifetimes.{room_for_records};
     ghost use Rattle.mdns_cache.specs.Lifetimes.{AllLive, AllHeard};
     ghost use Rattle.mdns_question.specs.Refreshing.{AreTimed};
-    ghost use Rattle.mdns_core.specs.State.{State};
+    ghost use Rattle.mdns_step.specs.State.{State};
 
     ghost Value = { State };
 
-    ghost view = { λ d. record { last = d.last; opened = d.sessions.opened; sessions = d.sessions.sessions; held = d.records.held; questions = d.asking.questions; claims = d.claims.contents } };
+    ghost view = { λ d. record { last = d.last; opened = d.sessions.opened; sessions = d.sessions.sessions; held = d.records.held; questions = d.asking.questions; claims = d.claims.contents; multicasts = d.lasts.lasts } };
 
     ghost invariant = { λ d. (length d.records.held ≤ room_for_records) × AllLive d.last d.records.held × AllHeard d.last d.records.held
         × AreTimed d.records.held d.asking.questions };
 }
 
 impl Daemon {
-    ghost use Rattle.mdns_core.specs.State.{Stands, due_of};
+    ghost use Rattle.mdns_step.specs.State.{Stands, due_of};
 
     /// A daemon at its first moment `now`, in milliseconds, with an IPv4 address and maybe a host whose name it claims, and the
     /// entry of its boot. `word` is a random number. Refused only for want of memory. (RFC 6762 section 8)
@@ -80,6 +83,7 @@ impl Daemon {
             claims: Claims::new(alloc, &config, when, ANNOUNCES)?,
             asking: Asking::new(alloc),
             sessions: Sessions::with_key(alloc, u64::from(word)),
+            lasts: Lasts::new(alloc, u64::from(word)),
         };
         let entry = Entry {
             moment: now,
@@ -109,8 +113,8 @@ impl Daemon {
     }
 
     /// The next moment at which something is due, in milliseconds, and no earlier than the last entry: when a live record ends, a
-    /// question is to be asked, or a group is to be probed or is sure of its name. `None` where nothing ever is. (RFC 6762 sections
-    /// 5.2, 8.1 and 10)
+    /// question is to be asked, or a group is to be probed, is sure of its name, or is to be announced. `None` where nothing ever
+    /// is. (RFC 6762 sections 5.2, 8 and 10)
     pub fn next_due(&self) -> Option<u64>
         ensures value { result ≡ due_of self.now }
         ensures due { (history : List Entry) → Stands self.now history → NextDue in_force history result }
@@ -154,16 +158,19 @@ impl Daemon {
         let when = When { moment: now, word };
         let kept = Kept {
             alloc: self.alloc,
+            last: self.last,
             records: &self.records,
             claims: &self.claims,
             asking: &self.asking,
             sessions: &self.sessions,
+            lasts: &self.lasts,
         };
         let plan = make_plan(&kept, when, &event, steps)?;
         self.records.reserve(plan.heard.as_slice().len())?;
         self.claims.reserve(&plan.claims)?;
         self.asking.reserve(&plan.asking)?;
         self.sessions.reserve(&plan.happened, &plan.sessions)?;
+        self.lasts.reserve(&plan.multicasts)?;
         let Plan {
             happened,
             heard,
@@ -172,6 +179,8 @@ impl Daemon {
             asking,
             sessions,
             marks,
+            sent,
+            multicasts,
             given,
         } = plan;
         self.last = now;
@@ -179,13 +188,14 @@ impl Daemon {
         self.claims.apply(when, &happened, claims);
         self.asking.apply(when, &asking, &walks);
         let outcome = self.sessions.apply(&happened, sessions);
+        self.lasts.apply(now, multicasts);
         drop(happened);
         Ok(Entry {
             moment: now,
             word,
             event,
             marks,
-            sent: asking.sent,
+            sent,
             given,
             outcome,
         })

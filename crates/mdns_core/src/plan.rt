@@ -13,7 +13,9 @@ ghost use Rattle.mdns_claims.specs.Behind.{occasion_of};
 ghost use Rattle.mdns_claims.specs.Later.{groups_behind};
 ghost use Rattle.mdns_claims.specs.Owned.{own_in};
 ghost use Rattle.mdns_claims.specs.Planned as claiming;
-ghost use Rattle.mdns_core.specs.Planned.{AreEnough, IsPlan, claims_told, with_own};
+ghost use Rattle.mdns_step.specs.Enough.{AreEnough, claims_told, with_own};
+ghost use Rattle.mdns_core.specs.Planned.{IsPlan, kept_in};
+ghost use Rattle.mdns_responding.specs.Told.{announced_told};
 
 use crate::reading::{Reading, read_event};
 use dns_message::Rrs;
@@ -22,14 +24,17 @@ use mdns_asking::{Asking, Plan as AskingPlan};
 use mdns_cache::Steps;
 use mdns_claims::{Behind, Claims, Plan as ClaimsPlan};
 use mdns_happened::{Around, Happened, OwnWalk, Walk, When};
-use mdns_history::{Event, Gifts, Marks};
+use mdns_history::{Event, Gifts, Marks, Sends};
 use mdns_records::Records;
+use mdns_reply::{Lasts, multicasts};
+use mdns_responding::Responder;
 use sd_sessions::{Plan as SessionsPlan, Sessions};
 use std::alloc::{AllocError, Global};
 use std::sync::ledger::Ledger;
 
 /// What an event leads to: what happened, the records that are heard, those of the names that it concerns, before it and after
-/// it, the plans of claims, of questions (with all that is sent) and of sessions, and the marks and the gifts of the entry.
+/// it, the plans of claims, of questions and of sessions, the marks of the entry, what it sends, the records that are multicast
+/// with that, and the gifts.
 #[derive(Drop)]
 pub struct Plan<'a> {
     pub happened: Happened<'a>,
@@ -39,18 +44,22 @@ pub struct Plan<'a> {
     pub asking: AskingPlan,
     pub sessions: SessionsPlan,
     pub marks: Marks,
+    pub sent: Sends,
+    pub multicasts: Rrs,
     pub given: Gifts,
 }
 
-/// What a daemon keeps before an event: the records that it holds, the names that it claims, the questions that have users, and its
-/// sessions.
+/// What a daemon keeps before an event: its last moment, the records that it holds, the names that it claims, the questions that
+/// have users, its sessions, and when it last multicast records.
 #[derive(Drop)]
 pub struct Kept<'a> {
     pub alloc: Global,
+    pub last: u64,
     pub records: &'a Records,
     pub claims: &'a Claims,
     pub asking: &'a Asking,
     pub sessions: &'a Sessions,
+    pub lasts: &'a Lasts,
 }
 
 /// What an event leads to. Nothing is changed. Refused only for want of memory.
@@ -63,27 +72,31 @@ pub fn make_plan<'a, L: Ledger>(
     requires within { length kept.now.records.now.held ≤ room_for_records }
     requires past { AllHeard when.moment kept.now.records.now.held }
     requires timed { AreTimed kept.now.records.now.held kept.now.asking.now.questions }
-    ensures { IfOk result (λ plan. IsPlan kept.now.sessions.now.opened kept.now.sessions.now.sessions kept.now.records.now.held kept.now.asking.now.questions
-        kept.now.claims.now.contents when.moment when.word event.now plan) }
+    ensures { IfOk result (λ plan. IsPlan (kept_in kept.now) when.moment when.word event.now plan) }
 {
     let reading = read_event(kept, when, event)?;
     let claims = kept.claims.plan(when, &reading.happened)?;
     let walks = walk(kept, when, &reading, &claims, steps)?;
     let Reading { happened, heard } = reading;
-    let probes = kept.claims.probes(when, &happened)?;
+    let behind = kept.claims.behind(when, &happened, &claims);
+    let responder = Responder {
+        alloc: kept.alloc,
+        lasts: kept.lasts,
+        behind: &behind,
+    };
+    let mut sent = kept.claims.probes(when, &happened)?;
     let asking = kept
         .asking
-        .plan(when, &happened, &walks, kept.sessions, probes)?;
-    let registered = kept
-        .claims
-        .behind(when, &happened, &claims)
-        .registered(kept.alloc)?;
+        .plan(when, &happened, &walks, kept.sessions, &mut sent)?;
+    responder.put_responses(&mut sent)?;
+    let multicasts = multicasts(kept.alloc, sent.as_slice())?;
+    let registered = behind.registered(kept.alloc)?;
     let around = Around {
         walks: &walks,
         registered: &registered,
     };
     let sessions = kept.sessions.plan(&happened, &around)?;
-    let marks = make_marks(kept.alloc, &happened, &claims, &asking, &sessions)?;
+    let marks = make_marks(&responder, &claims, &asking, &sessions)?;
     let given = sessions.gifts(kept.alloc)?;
     Ok(Plan {
         happened,
@@ -93,6 +106,8 @@ pub fn make_plan<'a, L: Ledger>(
         asking,
         sessions,
         marks,
+        sent,
+        multicasts,
         given,
     })
 }
@@ -159,21 +174,24 @@ fn own_walk(
     Ok(own)
 }
 
-// The marks of an entry: that of a packet that was refused, those of claims, those of the questions that are asked, and those of the
-// sessions that are cut. Refused only for want of memory.
+// The marks of an entry: that of a packet that was refused, those of claims, those of the questions that are asked, those of the groups
+// that are announced, and those of the sessions that are cut. Refused only for want of memory.
 fn make_marks(
-    alloc: Global,
-    happened: &Happened<'_>,
+    responder: &Responder<'_>,
     claims: &ClaimsPlan,
     asking: &AskingPlan,
     sessions: &SessionsPlan,
 ) -> Result<Marks, AllocError>
-    ensures { IfOk result (λ marks. marks ≡ (told_by happened.now).refusal ++ claims.now.marks ++ map mark_of asking.now.asked.items ++ cuts_of sessions.now.changes.items) }
+    ensures { IfOk result (λ marks. marks ≡ (told_by responder.now.behind.now.means.happened.now).refusal ++ claims.now.marks ++ map mark_of asking.now.asked.items
+        ++ announced_told (told_by responder.now.behind.now.means.happened.now) responder.now.behind.now.means.moment responder.now.behind.now.groups.now
+        ++ cuts_of sessions.now.changes.items) }
 {
-    let mut marks = Marks::new(alloc);
-    put_refusal(&mut marks, happened)?;
+    let mut marks = Marks::new(responder.alloc);
+    let behind = responder.behind;
+    put_refusal(&mut marks, behind.means.happened)?;
     claims.put_marks(&mut marks)?;
     asking.put_askings(&mut marks)?;
+    responder.put_marks(&mut marks)?;
     sessions.put_cuts(&mut marks)?;
     Ok(marks)
 }

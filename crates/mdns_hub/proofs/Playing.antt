@@ -21,13 +21,14 @@ use Rattle.mdns_history.specs.Items.{served_sessions, cut_marks, given_items}
 use Rattle.mdns_history.specs.Outcomes.{early_outcome}
 use Rattle.mdns_history.specs.Claims.{claim_marks}
 use Rattle.mdns_history.specs.Probing.{probed_groups}
+use Rattle.mdns_history.specs.Announcing.{announced_groups}
 use Rattle.mdns_history.specs.Sending.{tick_sends}
 use Rattle.mdns_script.specs.declared.command.Command.{Command}
 use Rattle.mdns_script.specs.declared.command.Command.TheVariants.{Daemon, At, Attach, Event as Happening}
-use Rattle.mdns_core.specs.InForce.{in_force}
+use Rattle.mdns_step.specs.InForce.{in_force}
 use Rattle.mdns_history.specs.Fitting.{Fits, boot_entry, is_boot, is_host_label, last_moment, next_entry}
 use Rattle.mdns_history.specs.Due.{IsNextDue, NextDue, is_idle}
-use Rattle.mdns_core.specs.State.{State, Stands}
+use Rattle.mdns_step.specs.State.{State, Stands}
 use Rattle.mdns_hub.specs.declared.hub.Hub.{Hub}
 use Rattle.mdns_hub.specs.declared.hub.Booted.{Booted}
 use Rattle.mdns_hub.specs.Played.{Played, transcript, IsAt, Happens, Boots, AreTicks, IsTick, IsIdleUntil, RunsTo}
@@ -193,7 +194,7 @@ runs_to_part old new clock word until number before played now given numbered st
 
 -- a tick before the boot does nothing
 idle_at_start : (moment : ℕ) → is_idle in_force [] moment ≡ true
-unfolding is_idle next_entry early_outcome in_force tick_sends sure_groups groups registered_count served_sessions attached_sessions cut_marks given_items live_records live_of hearings registration_in pack_reply tick_askings active_questions operations pack_query claim_marks probed_groups
+unfolding is_idle next_entry early_outcome in_force tick_sends sure_groups groups registered_count served_sessions attached_sessions cut_marks given_items live_records live_of hearings registration_in pack_reply tick_askings active_questions operations pack_query claim_marks probed_groups announced_groups
 idle_at_start moment = refl
 
 -- nothing is due before the boot

@@ -2,7 +2,7 @@
 use Rattle.std.specs.Prelude.{◌≡◌, ℕ, Bool, List, [], ◌++◌, take, Option, Some, None}
 use Rattle.std.specs.Io.KnownBytes.{Appends}
 use Rattle.mdns_script.specs.declared.command.Command.{Command}
-use Rattle.mdns_core.specs.State.{Stands}
+use Rattle.mdns_step.specs.State.{Stands}
 use Rattle.mdns_hub.specs.declared.hub.Hub.{Hub}
 use Rattle.mdns_hub.specs.declared.hub.Booted.{Booted}
 use Rattle.mdns_hub.specs.Played.{Played, transcript}

@@ -5,7 +5,7 @@ use Rattle.mdns_history.specs.declared.event.Event.{Event}
 use Rattle.mdns_history.specs.declared.event.Event.TheVariants as event
 use Rattle.mdns_history.specs.declared.entry.Entry.{Entry}
 use Rattle.mdns_history.specs.EntryText.{history_text}
-use Rattle.mdns_core.specs.InForce.{in_force}
+use Rattle.mdns_step.specs.InForce.{in_force}
 use Rattle.mdns_history.specs.Fitting.{Fits, boot_entry, last_moment}
 use Rattle.mdns_history.specs.Due.{IsNextDue, NextDue}
 

@@ -7,12 +7,15 @@ use std::process::Abort;
 use std::test::Fail;
 
 mod adapters;
+mod announced;
 mod claims;
+mod held_back;
 mod large;
 mod played;
 mod program;
 mod rows;
 mod story;
+mod transcripts;
 
 // The status of a script. Want of memory is passed on; a sink of which no call is listed fails for that alone.
 fn status_of<S: Source>(

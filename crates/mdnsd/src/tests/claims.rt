@@ -1,5 +1,5 @@
 // Names that a daemon claims. What is told was written by a model of the program that shares no code with it. (RFC 6762 8 and 9)
-use crate::tests::{expect, expect_lines};
+use crate::tests::expect_lines;
 use std::alloc::{AllocError, Global};
 use std::test::Fail;
 
@@ -38,7 +38,9 @@ const CLAIMS: [(&str, &str); 8] = [
 300  ? Printer\\032(2)._ipp._tcp.local. ANY qu
 500  ? h.local. ANY qu
 550  ? Printer\\032(2)._ipp._tcp.local. ANY qu
+750 ! announced 0
 800  ? Printer\\032(2)._ipp._tcp.local. ANY qu
+1050 ! announced 1
 1050 < 1 add 1 named Printer\\032(2)._ipp._tcp.local.
 ",
     ),
@@ -53,6 +55,7 @@ const CLAIMS: [(&str, &str); 8] = [
 300 ! failed 1
 300 < 1 add 1 conflict
 500  ? h.local. ANY qu
+750 ! announced 0
 ",
     ),
     // A host's name is in use, which it has claimed: it is contested, and then gets a number.
@@ -61,12 +64,14 @@ const CLAIMS: [(&str, &str); 8] = [
         "0  ? h.local. ANY qu
 250  ? h.local. ANY qu
 500  ? h.local. ANY qu
+750 ! announced 0
 1000 ! contested 0
 1000  ? h.local. ANY qu
 1100 ! renamed 0 2
 1100  ? h-2.local. ANY qu
 1350  ? h-2.local. ANY qu
 1600  ? h-2.local. ANY qu
+1850 ! announced 0
 ",
     ),
     // A probe for the same name with a later address: the tie is lost, and the host waits a second.
@@ -77,6 +82,7 @@ const CLAIMS: [(&str, &str); 8] = [
 1100  ? h.local. ANY qu
 1350  ? h.local. ANY qu
 1600  ? h.local. ANY qu
+1850 ! announced 0
 ",
     ),
     // An equal address, and an earlier one: the tie isn't lost.
@@ -85,6 +91,8 @@ const CLAIMS: [(&str, &str); 8] = [
         "0  ? h.local. ANY qu
 250  ? h.local. ANY qu
 500  ? h.local. ANY qu
+750 ! announced 0
+1750 ! announced 0
 ",
     ),
     (
@@ -92,6 +100,8 @@ const CLAIMS: [(&str, &str); 8] = [
         "0  ? h.local. ANY qu
 250  ? h.local. ANY qu
 500  ? h.local. ANY qu
+750 ! announced 0
+1750 ! announced 0
 ",
     ),
     // A name that is held, in other letters: it is refused where it is to be kept, and else gets a number.
@@ -105,6 +115,8 @@ const CLAIMS: [(&str, &str); 8] = [
 250  ? Printer._ipp._tcp.local. ANY qu
 500  ? h.local. ANY qu
 500  ? Printer._ipp._tcp.local. ANY qu
+750 ! announced 0
+750 ! announced 1
 750 < 1 add 1 named Printer._ipp._tcp.local.
 ",
     ),
@@ -121,6 +133,9 @@ const CLAIMS: [(&str, &str); 8] = [
 500  ? h.local. ANY qu
 500  ? Printer._ipp._tcp.local. ANY qu
 500  ? printer\\032(2)._ipp._tcp.local. ANY qu
+750 ! announced 0
+750 ! announced 1
+750 ! announced 2
 750 < 1 add 1 named Printer._ipp._tcp.local.
 750 < 1 add 2 named printer\\032(2)._ipp._tcp.local.
 ",
@@ -233,7 +248,8 @@ at 10800
 hear 1 10.0.0.9 5353 00008400000000010000000004682d3134056c6f63616c0000018001000000780004c0000201
 at 16550
 ",
-        "1000 ! contested 0
+        "750 ! announced 0
+1000 ! contested 0
 1700 ! renamed 0 2
 2400 ! renamed 0 3
 3100 ! renamed 0 4
@@ -251,6 +267,7 @@ at 16550
 15800  ? h-15.local. ANY qu
 16050  ? h-15.local. ANY qu
 16300  ? h-15.local. ANY qu
+16550 ! announced 0
 ",
     ),
     (
@@ -287,7 +304,8 @@ at 11010
 hear 1 10.0.0.9 5353 00008400000000010000000004682d3134056c6f63616c0000018001000000780004c0000201
 at 11760
 ",
-        "1000 ! contested 0
+        "750 ! announced 0
+1000 ! contested 0
 1715 ! renamed 0 2
 2430 ! renamed 0 3
 3145 ! renamed 0 4
@@ -305,6 +323,7 @@ at 11760
 11010  ? h-15.local. ANY qu
 11260  ? h-15.local. ANY qu
 11510  ? h-15.local. ANY qu
+11760 ! announced 0
 ",
     ),
 ];
@@ -316,71 +335,4 @@ fn conflicts_are_slowed_down(rt: HostRuntime) -> Result<(), Fail> {
         expect_lines(&rt, rt.alloc(), script, &[" !", "  ? h-15."], told)?;
     }
     Ok(())
-}
-
-// A host with both addresses and a service with a number in its name, from the boot on.
-const WHOLE: (&str, &str) = (
-    "daemon 1 host h 10.0.0.1 fe80:0000:0000:0000:0000:0000:0000:0001
-open 1
-call 1 1 1 register Printer _ipp._tcp 631 auto -
-at 300
-hear 1 10.0.0.9 5353 000084000000000100000000075072696e746572045f697070045f746370056c6f63616c000021800100000078000f0000000000500178056c6f63616c00
-at 1050
-",
-    "@0 d1 w0 boot 10.0.0.1 h fe80:0000:0000:0000:0000:0000:0000:0001
-@0 d1 w0 open
- = opened 1
-@0 d1 w0 call 1 1 register Printer _ipp._tcp 631 auto -
- < 1 reply 1 start 0
- = code 0
-@0 d1 w0 tick
- > all query 0
-  ? h.local. ANY qu
-  n h.local. 120 - A 10.0.0.1
-  n h.local. 120 - AAAA fe80:0000:0000:0000:0000:0000:0000:0001
- > all query 0
-  ? Printer._ipp._tcp.local. ANY qu
-  n Printer._ipp._tcp.local. 4500 - TXT 00
-  n Printer._ipp._tcp.local. 120 - SRV 0 0 631 h.local.
-@250 d1 w0 tick
- > all query 0
-  ? h.local. ANY qu
-  n h.local. 120 - A 10.0.0.1
-  n h.local. 120 - AAAA fe80:0000:0000:0000:0000:0000:0000:0001
- > all query 0
-  ? Printer._ipp._tcp.local. ANY qu
-  n Printer._ipp._tcp.local. 4500 - TXT 00
-  n Printer._ipp._tcp.local. 120 - SRV 0 0 631 h.local.
-@300 d1 w0 hear 10.0.0.9 5353 000084000000000100000000075072696e746572045f697070045f746370056c6f63616c000021800100000078000f0000000000500178056c6f63616c00
- ! renamed 1 2
-@300 d1 w0 tick
- > all query 0
-  ? Printer\\032(2)._ipp._tcp.local. ANY qu
-  n Printer\\032(2)._ipp._tcp.local. 4500 - TXT 00
-  n Printer\\032(2)._ipp._tcp.local. 120 - SRV 0 0 631 h.local.
-@500 d1 w0 tick
- > all query 0
-  ? h.local. ANY qu
-  n h.local. 120 - A 10.0.0.1
-  n h.local. 120 - AAAA fe80:0000:0000:0000:0000:0000:0000:0001
-@550 d1 w0 tick
- > all query 0
-  ? Printer\\032(2)._ipp._tcp.local. ANY qu
-  n Printer\\032(2)._ipp._tcp.local. 4500 - TXT 00
-  n Printer\\032(2)._ipp._tcp.local. 120 - SRV 0 0 631 h.local.
-@750 d1 w0 tick
-@800 d1 w0 tick
- > all query 0
-  ? Printer\\032(2)._ipp._tcp.local. ANY qu
-  n Printer\\032(2)._ipp._tcp.local. 4500 - TXT 00
-  n Printer\\032(2)._ipp._tcp.local. 120 - SRV 0 0 631 h.local.
-@1050 d1 w0 tick
- < 1 add 1 named Printer\\032(2)._ipp._tcp.local.
-",
-);
-
-#[test]
-fn a_whole_transcript(rt: HostRuntime) -> Result<(), Fail> {
-    let (script, transcript) = WHOLE;
-    expect(&rt, rt.alloc(), script, transcript, 0)
 }

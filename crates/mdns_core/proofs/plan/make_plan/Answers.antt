@@ -1,4 +1,4 @@
-use Rattle.std.proofs.Common.{◌≡◌, ◌∙◌, ℕ, List, ap, subst, sym}
+use Rattle.std.proofs.Common.{◌≡◌, ◌∙◌, ◌++◌, ℕ, List, map, ap, subst, sym}
 use Rattle.mdns_history.specs.declared.entry.Sent.{Sent}
 use Rattle.mdns_history.specs.declared.held.Held.{Held}
 use Rattle.mdns_history.specs.Hearings.{counted_records}
@@ -12,6 +12,10 @@ use Rattle.mdns_records.proofs.Holding.{after-holds, after-live, after-heard}
 use Rattle.mdns_question.specs.declared.tracked.Tracked.{Tracked}
 use Rattle.mdns_probe.specs.Kept.{Kept}
 use Rattle.mdns_claims.specs.State.{Contents}
+use Rattle.mdns_reply.specs.Lasts.{Last}
+use Rattle.mdns_responding.specs.Told.{responses_told, announced_told}
+use Rattle.mdns_question.specs.Standing.{mark_of}
+use Rattle.sd_sessions.specs.Settling.{cuts_of}
 use Rattle.mdns_claims.proofs.Typed.{own_data}
 use Rattle.mdns_claims.specs.Behind.{occasion_of, probes_told}
 use Rattle.mdns_claims.specs.Later.{groups_behind}
@@ -20,11 +24,11 @@ use Rattle.mdns_asking.specs.Planned as asking
 use Rattle.mdns_asking.specs.Walked as for_asking
 use Rattle.sd_sessions.specs.Sessions.{Session}
 use Rattle.sd_sessions.specs.Walked as for_sessions
-use Rattle.mdns_core.specs.Viewed.{viewed}
-use Rattle.mdns_core.specs.Planned.{AreOwnKnown, claims_told}
-use Rattle.mdns_core.proofs.records.HeardPackets.{heard-read}
-use Rattle.mdns_core.proofs.records.Walked.{heard-walked, beside-told, then-kept}
-use Rattle.mdns_core.proofs.records.Begun.{begun-told}
+use Rattle.mdns_step.specs.Viewed.{viewed}
+use Rattle.mdns_step.specs.Enough.{AreOwnKnown, claims_told}
+use Rattle.mdns_step.proofs.records.HeardPackets.{heard-read}
+use Rattle.mdns_step.proofs.records.Walked.{heard-walked, beside-told, then-kept}
+use Rattle.mdns_step.proofs.records.Begun.{begun-told}
 use Rattle.mdns_core.proofs.plan.make_plan.Goals as goal
 
 pub plan-requires-2-clause-heard : goal.plan-requires-2-clause-heard
@@ -50,13 +54,22 @@ returns g c =
     let asked_of : c.deref.result.now ≡ walks = c.deref.ensures.value in
     let served_of : c.deref-2.result.now ≡ walks = c.deref-2.ensures.value in
     let told_of_lines : c.deref-3.result.now ≡ lines = c.deref-3.ensures.value in
-    let before_is : c.behind.result.groups.now ≡ contents.kept = c.behind.ensures.before in
-    let behind_is : groups_behind c.behind.result ≡ then.kept = c.behind.ensures.told word c.in_ok-claims.ensures.plan ∙ then-kept contents told now word in
+    let before_is : c.behind-behind.result.groups.now ≡ contents.kept = c.behind-behind.ensures.before in
+    let behind_is : groups_behind c.behind-behind.result ≡ then.kept = c.behind-behind.ensures.told word c.in_ok-claims.ensures.plan ∙ then-kept contents told now word in
     let registered : AreRegistered (λ session op. registered_answers session op contents.kept) (λ session op. registered_answers session op then.kept) c.deref-3.result.now =
     subst (AreRegistered (λ session op. registered_answers session op contents.kept) (λ session op. registered_answers session op then.kept)) (sym told_of_lines)
     (subst (λ (ks : List Kept). AreRegistered (λ session op. registered_answers session op contents.kept) (λ session op. registered_answers session op ks) lines) behind_is
-    (subst (λ (ks : List Kept). AreRegistered (λ session op. registered_answers session op ks) (λ session op. registered_answers session op (groups_behind c.behind.result)) lines) before_is
+    (subst (λ (ks : List Kept). AreRegistered (λ session op. registered_answers session op ks) (λ session op. registered_answers session op (groups_behind c.behind-behind.result)) lines) before_is
     c.in_ok-registered.ensures.are)) in
+    let lasts : List Last = c.args.kept.now.lasts.now.lasts in
+    let responses : responses_told (told_by c.behind-behind.result.means.happened.now) c.behind-behind.result.means.moment lasts c.behind-behind.result.groups.now (groups_behind c.behind-behind.result)
+    ≡ responses_told told now lasts contents.kept then.kept =
+    λ i. responses_told (c.behind-behind.ensures.happened i) (c.behind-behind.ensures.moment i) lasts (before_is i) (behind_is i) in
+    let marks_of : (told_by c.behind-behind.result.means.happened.now).refusal ++ c.in_ok-claims.claims.marks ++ map mark_of c.in_ok-asking.asking.asked.items
+    ++ announced_told (told_by c.behind-behind.result.means.happened.now) c.behind-behind.result.means.moment c.behind-behind.result.groups.now ++ cuts_of c.in_ok-sessions.sessions.changes.items
+    ≡ told.refusal ++ c.in_ok-claims.claims.marks ++ map mark_of c.in_ok-asking.asking.asked.items ++ announced_told told now contents.kept ++ cuts_of c.in_ok-sessions.sessions.changes.items =
+    λ i. (c.behind-behind.ensures.happened i).refusal ++ c.in_ok-claims.claims.marks ++ map mark_of c.in_ok-asking.asking.asked.items
+    ++ announced_told (c.behind-behind.ensures.happened i) (c.behind-behind.ensures.moment i) (before_is i) ++ cuts_of c.in_ok-sessions.sessions.changes.items in
     record {
       told = c.in_ok-reading.ensures.told;
       heard = λ past before since holds.
@@ -70,8 +83,9 @@ returns g c =
       fits = c.in_ok-claims.ensures.fits;
       owned = own_data contents.kept c.in_ok-claims.ensures.data;
       walks = c.in_ok-walks.ensures;
-      asking = subst (λ (ws : List Walk). asking.IsPlan told now sessions questions later ws (probes_told told.ticks contents.kept now) c.in_ok-asking.asking) asked_of
-          (subst (λ (sent : List Sent). asking.IsPlan told now sessions questions later c.deref.result.now sent c.in_ok-asking.asking) c.in_ok-probes.ensures
+      queried = c.plan-2.new.sent;
+      asking = subst (λ (ws : List Walk). asking.IsPlan told now sessions questions later ws (probes_told told.ticks contents.kept now) c.plan-2.new.sent c.in_ok-asking.asking) asked_of
+          (subst (λ (sent : List Sent). asking.IsPlan told now sessions questions later c.deref.result.now sent c.plan-2.new.sent c.in_ok-asking.asking) c.in_ok-sent.ensures
           (c.in_ok-asking.ensures.plan held later c.requires.timed (subst (AreWalks held later) (sym asked_of) c.in_ok-walks.ensures.records)
           (after-live now word c.in_ok-reading.reading.heard held)
           (subst (for_asking.AreEnough told now questions held later) (sym asked_of) c.in_ok-walks.ensures.asking)));
@@ -87,7 +101,9 @@ returns g c =
           ap (registered_answers session op) (sym behind_is)
           ∙ c.in_ok-registered.ensures.rest session op (ap (λ (ls : List Registered). is_told ls session op) (sym told_of_lines) ∙ unheard)
           ∙ ap (registered_answers session op) before_is)
-          (λ call e registers. ap (λ (ls : List Registered). is_told ls call.session call.op) told_of_lines ∙ begun-told contents (occasion_of contents told now word) c.in_ok-claims.claims c.behind.result.deed.now lines c.in_ok-claims.ensures.plan c.behind.ensures.deed c.in_ok-registered.ensures.begun call e registers));
-      marks = c.in_ok-marks.ensures;
+          (λ call e registers. ap (λ (ls : List Registered). is_told ls call.session call.op) told_of_lines ∙ begun-told contents (occasion_of contents told now word) c.in_ok-claims.claims c.behind-behind.result.deed.now lines c.in_ok-claims.ensures.plan c.behind-behind.ensures.deed c.in_ok-registered.ensures.begun call e registers));
+      marks = c.in_ok-marks.ensures ∙ marks_of;
+      sent = c.in_ok-put_responses.ensures ∙ ap (λ (rs : List Sent). c.plan-2.new.sent ++ rs) responses;
+      multicasts = λ entry same. c.in_ok-multicasts.ensures.entry entry (same ∙ sym c.as_slice.ensures);
       given = c.in_ok-given.ensures;
     }

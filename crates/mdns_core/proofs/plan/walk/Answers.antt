@@ -12,9 +12,9 @@ use Rattle.mdns_claims.specs.Later.{groups_behind}
 use Rattle.mdns_claims.specs.Owned.{own_in}
 use Rattle.sd_sessions.specs.Sessions.{Session}
 use Rattle.sd_sessions.specs.Walked as for_sessions
-use Rattle.mdns_core.specs.Planned.{AreEnough, claims_told}
-use Rattle.mdns_core.proofs.records.HeardPackets.{ok_with}
-use Rattle.mdns_core.proofs.records.Walked.{among-none, enough-owned}
+use Rattle.mdns_step.specs.Enough.{AreEnough, claims_told}
+use Rattle.mdns_step.proofs.records.HeardPackets.{ok_with}
+use Rattle.mdns_step.proofs.records.Walked.{among-none, enough-owned}
 use Rattle.mdns_core.proofs.plan.walk.Goals as goal
 
 pub returns : goal.returns

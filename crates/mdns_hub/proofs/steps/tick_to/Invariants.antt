@@ -3,7 +3,7 @@ use Rattle.mdns_history.specs.declared.entry.Entry.{Entry}
 use Rattle.std.specs.Option.{option_map_or}
 use Rattle.std.specs.Io.KnownBytes.{Appends}
 use Rattle.mdns_history.specs.EntryText.{history_text}
-use Rattle.mdns_core.specs.State.{Stands, due_of}
+use Rattle.mdns_step.specs.State.{Stands, due_of}
 use Rattle.mdns_hub.specs.Played.{AreTicks}
 use Rattle.mdns_hub.proofs.steps.tick_to.Given as goal
 

@@ -4,10 +4,9 @@ use Rattle.std.specs.List.Sorted.{IsPermutation}
 use Rattle.std.specs.Option.{unwrap_or}
 use Rattle.mdns_history.specs.declared.held.Held.{Held}
 use Rattle.mdns_asserts.proofs.Earned.{are_earned}
-use Rattle.mdns_question.specs.declared.tracked.Tracked.{Tracked}
 use Rattle.mdns_question.specs.Refreshing.{AreTimed}
 use Rattle.mdns_cache.specs.Lifetimes.{AllHeard}
-use Rattle.mdns_happened.specs.Told.{Told, told_by}
+use Rattle.mdns_happened.specs.Told.{Told}
 use Rattle.mdns_records.specs.After.{held_after}
 use Rattle.mdns_records.proofs.Holding.{after-live}
 use Rattle.sd_sessions.specs.declared.change.SessionChange.{SessionChange}
@@ -18,14 +17,17 @@ use Rattle.sd_sessions.specs.Settling.{shifted_told, outcome_told, sessions_told
 use Rattle.mdns_claims.specs.State.{Contents}
 use Rattle.mdns_claims.proofs.Typed.{own_data}
 use Rattle.mdns_claims.specs.Planned as claims
-use Rattle.mdns_core.specs.Viewed.{viewed}
-use Rattle.mdns_core.specs.Planned.{claims_told}
-use Rattle.mdns_core.specs.InForce.{in_force}
-use Rattle.mdns_core.specs.State.{State, Stands}
-use Rattle.mdns_core.proofs.step.Standing.{replayed-stands, queued-stands}
+use Rattle.mdns_reply.specs.Lasts as lasts
+use Rattle.mdns_step.specs.Viewed.{viewed}
+use Rattle.mdns_step.specs.Enough.{claims_told}
+use Rattle.mdns_step.specs.InForce.{in_force}
+use Rattle.mdns_step.specs.State.{State, Stands}
+use Rattle.mdns_step.proofs.step.Standing.{replayed-stands, queued-stands}
 use Rattle.mdns_asking.proofs.Timed.{are_timed}
-use Rattle.mdns_core.proofs.step.Moved.{timed-moved, heard-since}
-use Rattle.mdns_core.proofs.step.Plans.{IsMade, asked_of_plan, applied, claimed, carried-plan, ticked-plan}
+use Rattle.mdns_step.proofs.step.Moved.{timed-moved, heard-since}
+use Rattle.mdns_core.specs.Planned.{told_in}
+use Rattle.mdns_core.proofs.Plans.{IsMade, asked_of_plan, applied, claimed, carried-plan, ticked-plan}
+use Rattle.mdns_core.proofs.Refused.{if_ok_refused, on_ok_refused, on_err_refused}
 use Rattle.mdns_core.proofs.daemon.Daemon.step.Goals as goal
 
 pub apply-requires-clause-fits : goal.apply-requires-clause-fits
@@ -40,37 +42,50 @@ pub apply-outcome-requires-clause-planned : goal.apply-outcome-requires-clause-p
 apply-outcome-requires-clause-planned g c =
     let contents : Contents = c.self.inside.claims.contents in
     let earlier : Answering = answered (viewed contents c.self.inside.records.held) in
-    let later : Answering = answered (viewed (claims_told contents (told_by c.in_ok-plan.plan.happened) c.args.now c.args.word) (held_after c.args.now c.args.word c.in_ok-plan.plan.heard c.self.inside.records.held)) in (
+    let later : Answering = answered (viewed (claims_told contents (told_in c.in_ok-plan.plan) c.args.now c.args.word) (held_after c.args.now c.args.word c.in_ok-plan.plan.heard c.self.inside.records.held)) in (
       earlier,
       later,
-      subst (λ (ss : List Session). sessions.IsPlan (told_by c.in_ok-plan.plan.happened) earlier later ss c.in_ok-plan.plan.sessions) (sym c.reserve-4.ensures.sessions) c.in_ok-plan.ensures.sessions,
+      subst (λ (ss : List Session). sessions.IsPlan (told_in c.in_ok-plan.plan) earlier later ss c.in_ok-plan.plan.sessions) (sym c.reserve-4.ensures.sessions) c.in_ok-plan.ensures.sessions,
     )
 
 pub returns-clause-fits : goal.returns-clause-fits
 returns-clause-fits g c = λ history stands.
     let held : List Held = c.self.inside.records.held in
     let later : List Held = held_after c.args.now c.args.word c.in_ok-plan.plan.heard held in
-    let ss : List Session = c.self.inside.sessions.sessions in
-    let questions : List Tracked = c.self.inside.asking.questions in
-    let contents : Contents = c.self.inside.claims.contents in
-    let told : Told = told_by c.in_ok-plan.plan.happened in
+    let before : State = record {
+      last = c.self.inside.last;
+      opened = c.self.inside.sessions.opened;
+      sessions = c.self.inside.sessions.sessions;
+      held = held;
+      questions = c.self.inside.asking.questions;
+      claims = c.self.inside.claims.contents;
+      multicasts = c.self.inside.lasts.lasts;
+    } in
+    let then : State = record {
+      last = c.args.now;
+      opened = c.apply-outcome.new.self.opened;
+      sessions = c.apply-outcome.new.self.sessions;
+      held = c.apply.new.self.held;
+      questions = c.apply-3.new.self.questions;
+      claims = c.apply-2.new.self.contents;
+      multicasts = c.apply-4.new.self.lasts;
+    } in
+    let told : Told = told_in c.in_ok-plan.plan in
     let changes : List SessionChange = c.in_ok-plan.plan.sessions.changes.items in
-    let moved : IsPermutation c.apply.new.self.held later =
-    subst (λ (hs : List Held). IsPermutation c.apply.new.self.held (held_after c.args.now c.args.word c.in_ok-plan.plan.heard hs)) c.reserve.ensures.held c.apply.ensures.held in
-    let made : IsMade c.self.inside.sessions.opened ss held later questions contents c.args.now c.args.word c.args.event c.in_ok-plan.plan c.in_ok-plan.ensures
-    c.apply-outcome.result c.apply-outcome.new.self.opened c.apply-outcome.new.self.sessions c.apply-3.new.self.questions c.apply-2.new.self.contents =
+    let made : IsMade before later c.args.now c.args.word c.args.event c.in_ok-plan.plan c.in_ok-plan.ensures c.apply-outcome.result then =
     record {
       went = c.apply-outcome.ensures.outcome ∙ ap (λ (xs : List Session). outcome_told told.taking told.outcome (shifted_told told xs changes)) c.reserve-4.ensures.sessions;
-      remain = c.apply-outcome.ensures.sessions ∙ ap (λ (xs : List Session). sessions_told told.taking (shifted_told told xs changes)) c.reserve-4.ensures.sessions;
       counted = c.apply-outcome.ensures.opened ∙ ap (λ (n : ℕ). unwrap_or told.opened n) c.reserve-4.ensures.opened;
-      follow = applied c.self.inside.sessions.opened ss held later questions contents c.args.now c.args.word c.args.event c.in_ok-plan.plan c.in_ok-plan.ensures
+      remain = c.apply-outcome.ensures.sessions ∙ ap (λ (xs : List Session). sessions_told told.taking (shifted_told told xs changes)) c.reserve-4.ensures.sessions;
+      moved = subst (λ (hs : List Held). IsPermutation c.apply.new.self.held (held_after c.args.now c.args.word c.in_ok-plan.plan.heard hs)) c.reserve.ensures.held c.apply.ensures.held;
+      follow = applied before later c.args.now c.args.word c.args.event c.in_ok-plan.plan c.in_ok-plan.ensures
           c.deref.result.now c.reserve-3.new.self.questions c.apply-3.new.self.questions c.deref.ensures.value c.reserve-3.ensures.questions c.self.invariant.3 c.apply-3.ensures;
-      claimed = claimed c.self.inside.sessions.opened ss held later questions contents c.args.now c.args.word c.args.event c.in_ok-plan.plan c.in_ok-plan.ensures
+      claimed = claimed before later c.args.now c.args.word c.args.event c.in_ok-plan.plan c.in_ok-plan.ensures
           c.reserve-2.new.self.contents c.apply-2.new.self.contents c.reserve-2.ensures.contents c.apply-2.ensures.contents;
       owned = own_data c.apply-2.new.self.contents.kept c.apply-2.ensures.data;
+      lasting = λ entry past at since sends stands. c.apply-4.ensures.stands entry past at since sends (subst (λ (ls : List lasts.Last). lasts.Stands ls past) (sym c.reserve-5.ensures.lasts) stands);
     } in
-    carried-plan c.self.inside.sessions.opened ss held later questions contents c.args.now c.args.word c.args.event c.in_ok-plan.plan c.in_ok-plan.ensures
-    c.self.inside.last c.apply-outcome.result c.apply-outcome.new.self.opened c.apply-outcome.new.self.sessions c.apply-3.new.self.questions c.apply-2.new.self.contents c.apply.new.self.held made moved
+    carried-plan before later c.args.now c.args.word c.args.event c.in_ok-plan.plan c.in_ok-plan.ensures c.apply-outcome.result then made
     (subst (λ (s : State). s.last ≤ c.args.now) (sym c.self.view_is) c.requires.later) c.requires.bound c.requires.no_boot history (subst (λ (s : State). Stands s history) (sym c.self.view_is) stands)
 
 pub returns-clause-replayed : goal.returns-clause-replayed
@@ -90,31 +105,105 @@ pub invariant_of-self-2 : goal.invariant_of-self-2
 invariant_of-self-2 g c =
     let held : List Held = c.self.inside.records.held in
     let later : List Held = held_after c.args.now c.args.word c.in_ok-plan.plan.heard held in
-    let questions : List Tracked = c.self.inside.asking.questions in
-    let contents : Contents = c.self.inside.claims.contents in
-    let moved : IsPermutation c.apply.new.self.held later =
-    subst (λ (hs : List Held). IsPermutation c.apply.new.self.held (held_after c.args.now c.args.word c.in_ok-plan.plan.heard hs)) c.reserve.ensures.held c.apply.ensures.held in (
-      subst (λ (n : ℕ). n ≤ 32768) (length_permutation c.apply.new.self.held later moved) c.in_ok-plan.ensures.within,
+    let before : State = record {
+      last = c.self.inside.last;
+      opened = c.self.inside.sessions.opened;
+      sessions = c.self.inside.sessions.sessions;
+      held = held;
+      questions = c.self.inside.asking.questions;
+      claims = c.self.inside.claims.contents;
+      multicasts = c.self.inside.lasts.lasts;
+    } in
+    let then : State = record {
+      last = c.args.now;
+      opened = c.apply-outcome.new.self.opened;
+      sessions = c.apply-outcome.new.self.sessions;
+      held = c.apply.new.self.held;
+      questions = c.apply-3.new.self.questions;
+      claims = c.apply-2.new.self.contents;
+      multicasts = c.apply-4.new.self.lasts;
+    } in
+    let told : Told = told_in c.in_ok-plan.plan in
+    let changes : List SessionChange = c.in_ok-plan.plan.sessions.changes.items in
+    let made : IsMade before later c.args.now c.args.word c.args.event c.in_ok-plan.plan c.in_ok-plan.ensures c.apply-outcome.result then =
+    record {
+      went = c.apply-outcome.ensures.outcome ∙ ap (λ (xs : List Session). outcome_told told.taking told.outcome (shifted_told told xs changes)) c.reserve-4.ensures.sessions;
+      counted = c.apply-outcome.ensures.opened ∙ ap (λ (n : ℕ). unwrap_or told.opened n) c.reserve-4.ensures.opened;
+      remain = c.apply-outcome.ensures.sessions ∙ ap (λ (xs : List Session). sessions_told told.taking (shifted_told told xs changes)) c.reserve-4.ensures.sessions;
+      moved = subst (λ (hs : List Held). IsPermutation c.apply.new.self.held (held_after c.args.now c.args.word c.in_ok-plan.plan.heard hs)) c.reserve.ensures.held c.apply.ensures.held;
+      follow = applied before later c.args.now c.args.word c.args.event c.in_ok-plan.plan c.in_ok-plan.ensures
+          c.deref.result.now c.reserve-3.new.self.questions c.apply-3.new.self.questions c.deref.ensures.value c.reserve-3.ensures.questions c.self.invariant.3 c.apply-3.ensures;
+      claimed = claimed before later c.args.now c.args.word c.args.event c.in_ok-plan.plan c.in_ok-plan.ensures
+          c.reserve-2.new.self.contents c.apply-2.new.self.contents c.reserve-2.ensures.contents c.apply-2.ensures.contents;
+      owned = own_data c.apply-2.new.self.contents.kept c.apply-2.ensures.data;
+      lasting = λ entry past at since sends stands. c.apply-4.ensures.stands entry past at since sends (subst (λ (ls : List lasts.Last). lasts.Stands ls past) (sym c.reserve-5.ensures.lasts) stands);
+    } in (
+      subst (λ (n : ℕ). n ≤ 32768) (length_permutation c.apply.new.self.held later made.moved) c.in_ok-plan.ensures.within,
       c.apply.ensures.live,
       c.apply.ensures.heard (subst (AllHeard c.args.now) (sym c.reserve.ensures.held)
           (heard-since c.self.inside.last c.args.now (subst (λ (s : State). s.last ≤ c.args.now) (sym c.self.view_is) c.requires.later) held c.self.invariant.2)),
-      timed-moved c.apply.new.self.held later moved c.apply-3.new.self.questions
-          (subst (AreTimed later) (sym (applied c.self.inside.sessions.opened c.self.inside.sessions.sessions held later questions contents c.args.now c.args.word c.args.event c.in_ok-plan.plan c.in_ok-plan.ensures
-          c.deref.result.now c.reserve-3.new.self.questions c.apply-3.new.self.questions c.deref.ensures.value c.reserve-3.ensures.questions c.self.invariant.3 c.apply-3.ensures))
-          (are_timed later (asked_of_plan c.self.inside.sessions.opened c.self.inside.sessions.sessions held later questions contents c.args.now c.args.word c.args.event c.in_ok-plan.plan c.in_ok-plan.ensures questions))),
+      timed-moved c.apply.new.self.held later made.moved c.apply-3.new.self.questions
+          (subst (AreTimed later) (sym made.follow)
+          (are_timed later (asked_of_plan before later c.args.now c.args.word c.args.event c.in_ok-plan.plan c.in_ok-plan.ensures before.questions))),
     )
 
 pub returns-clause-ticked : goal.returns-clause-ticked
 returns-clause-ticked g c = λ tick.
     let held : List Held = c.self.inside.records.held in
     let later : List Held = held_after c.args.now c.args.word c.in_ok-plan.plan.heard held in
-    let contents : Contents = c.self.inside.claims.contents in
-    let moved : IsPermutation c.apply.new.self.held later =
-    subst (λ (hs : List Held). IsPermutation c.apply.new.self.held (held_after c.args.now c.args.word c.in_ok-plan.plan.heard hs)) c.reserve.ensures.held c.apply.ensures.held in
-    ticked-plan c.self.inside.sessions.opened c.self.inside.sessions.sessions held later c.self.inside.asking.questions contents c.args.now c.args.word c.args.event c.in_ok-plan.plan c.in_ok-plan.ensures
-    c.apply-outcome.new.self.opened c.apply-outcome.new.self.sessions c.apply-3.new.self.questions c.apply-2.new.self.contents c.apply.new.self.held
-    (applied c.self.inside.sessions.opened c.self.inside.sessions.sessions held later c.self.inside.asking.questions contents c.args.now c.args.word c.args.event c.in_ok-plan.plan c.in_ok-plan.ensures
-    c.deref.result.now c.reserve-3.new.self.questions c.apply-3.new.self.questions c.deref.ensures.value c.reserve-3.ensures.questions c.self.invariant.3 c.apply-3.ensures)
-    (claimed c.self.inside.sessions.opened c.self.inside.sessions.sessions held later c.self.inside.asking.questions contents c.args.now c.args.word c.args.event c.in_ok-plan.plan c.in_ok-plan.ensures
-    c.reserve-2.new.self.contents c.apply-2.new.self.contents c.reserve-2.ensures.contents c.apply-2.ensures.contents)
-    moved (after-live c.args.now c.args.word c.in_ok-plan.plan.heard held) tick
+    let before : State = record {
+      last = c.self.inside.last;
+      opened = c.self.inside.sessions.opened;
+      sessions = c.self.inside.sessions.sessions;
+      held = held;
+      questions = c.self.inside.asking.questions;
+      claims = c.self.inside.claims.contents;
+      multicasts = c.self.inside.lasts.lasts;
+    } in
+    let then : State = record {
+      last = c.args.now;
+      opened = c.apply-outcome.new.self.opened;
+      sessions = c.apply-outcome.new.self.sessions;
+      held = c.apply.new.self.held;
+      questions = c.apply-3.new.self.questions;
+      claims = c.apply-2.new.self.contents;
+      multicasts = c.apply-4.new.self.lasts;
+    } in
+    let told : Told = told_in c.in_ok-plan.plan in
+    let changes : List SessionChange = c.in_ok-plan.plan.sessions.changes.items in
+    let made : IsMade before later c.args.now c.args.word c.args.event c.in_ok-plan.plan c.in_ok-plan.ensures c.apply-outcome.result then =
+    record {
+      went = c.apply-outcome.ensures.outcome ∙ ap (λ (xs : List Session). outcome_told told.taking told.outcome (shifted_told told xs changes)) c.reserve-4.ensures.sessions;
+      counted = c.apply-outcome.ensures.opened ∙ ap (λ (n : ℕ). unwrap_or told.opened n) c.reserve-4.ensures.opened;
+      remain = c.apply-outcome.ensures.sessions ∙ ap (λ (xs : List Session). sessions_told told.taking (shifted_told told xs changes)) c.reserve-4.ensures.sessions;
+      moved = subst (λ (hs : List Held). IsPermutation c.apply.new.self.held (held_after c.args.now c.args.word c.in_ok-plan.plan.heard hs)) c.reserve.ensures.held c.apply.ensures.held;
+      follow = applied before later c.args.now c.args.word c.args.event c.in_ok-plan.plan c.in_ok-plan.ensures
+          c.deref.result.now c.reserve-3.new.self.questions c.apply-3.new.self.questions c.deref.ensures.value c.reserve-3.ensures.questions c.self.invariant.3 c.apply-3.ensures;
+      claimed = claimed before later c.args.now c.args.word c.args.event c.in_ok-plan.plan c.in_ok-plan.ensures
+          c.reserve-2.new.self.contents c.apply-2.new.self.contents c.reserve-2.ensures.contents c.apply-2.ensures.contents;
+      owned = own_data c.apply-2.new.self.contents.kept c.apply-2.ensures.data;
+      lasting = λ entry past at since sends stands. c.apply-4.ensures.stands entry past at since sends (subst (λ (ls : List lasts.Last). lasts.Stands ls past) (sym c.reserve-5.ensures.lasts) stands);
+    } in
+    ticked-plan before later c.args.now c.args.word c.args.event c.in_ok-plan.plan c.in_ok-plan.ensures c.apply-outcome.result then made (after-live c.args.now c.args.word c.in_ok-plan.plan.heard held) tick
+
+pub returns-in_err-reserve-5-clause-fits : goal.returns-in_err-reserve-5-clause-fits
+returns-in_err-reserve-5-clause-fits g c = if_ok_refused _ _ c.from_residual-in_err-reserve-5.result c.from_residual-in_err-reserve-5.ensures.1
+
+pub returns-in_err-reserve-5-clause-last : goal.returns-in_err-reserve-5-clause-last
+returns-in_err-reserve-5-clause-last g c = on_ok_refused _ _ c.from_residual-in_err-reserve-5.result c.from_residual-in_err-reserve-5.ensures.1
+
+pub returns-in_err-reserve-5-clause-ticked : goal.returns-in_err-reserve-5-clause-ticked
+returns-in_err-reserve-5-clause-ticked g c = on_ok_refused _ _ c.from_residual-in_err-reserve-5.result c.from_residual-in_err-reserve-5.ensures.1
+
+pub returns-in_err-reserve-5-clause-err : goal.returns-in_err-reserve-5-clause-err
+returns-in_err-reserve-5-clause-err g c = on_err_refused _ c.from_residual-in_err-reserve-5.result (
+    (λ i. record {
+      last = c.self.inside.last;
+      opened = c.reserve-4.ensures.opened i;
+      sessions = c.reserve-4.ensures.sessions i;
+      held = c.reserve.ensures.held i;
+      questions = c.reserve-3.ensures.questions i;
+      claims = c.reserve-2.ensures.contents i;
+      multicasts = c.reserve-5.ensures.lasts i;
+    })
+    ∙ c.self.view_is)

@@ -3,7 +3,7 @@ use Rattle.std.proofs.lemmas.Result.{err_from_is_err_and}
 use Rattle.std.specs.Io.KnownBytes.{Appends}
 use Rattle.mdns_history.specs.declared.entry.Entry.{Entry}
 use Rattle.mdns_history.specs.EntryText.{entry_text}
-use Rattle.mdns_core.specs.State.{Stands}
+use Rattle.mdns_step.specs.State.{Stands}
 use Rattle.mdns_hub.specs.declared.hub.Booted.{Booted}
 use Rattle.mdns_hub.specs.Hubs.{BootedFor}
 use Rattle.mdns_hub.proofs.Written.{on_err_from}

@@ -1,0 +1,3 @@
+mod Wanted
+mod Ended
+pub mod Following

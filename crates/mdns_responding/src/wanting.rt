@@ -1,0 +1,109 @@
+// What answers want beside them. (RFC 6763 12)
+ghost use Rattle.std.specs.Prelude.{IfOk, OnOk, filter, map, ◌==◌, ◌++◌, ◌≡◌};
+ghost use Rattle.std.specs.List.{flat_map};
+ghost use Rattle.dns_record.specs.Records.{kind_of};
+ghost use Rattle.mdns_claims.specs.Later.{groups_behind};
+ghost use Rattle.mdns_claims.specs.Owned.{of_name, own_in};
+ghost use Rattle.mdns_history.specs.Sending.{addresses_of, own_of, srv_addresses, wanted_by};
+ghost use Rattle.mdns_responding.specs.Told.{is_free_by, wanted_told};
+
+use crate::responder::Responder;
+use dns_message::Rrs;
+use dns_name::Name;
+use dns_record::{Rdata, Rr};
+use mdns_pack::Wanting;
+use std::alloc::AllocError;
+
+/// The types of records. (RFC 1035 3.2.2, RFC 2782, RFC 3596 2.1)
+const A: u16 = 1;
+
+const TXT: u16 = 16;
+
+const AAAA: u16 = 28;
+
+const SRV: u16 = 33;
+
+impl Responder<'_> {
+    /// Answers, each with what it wants. Refused only for want of memory.
+    pub fn wanting(&self, answers: Rrs) -> Result<Vec<Wanting>, AllocError>
+        ensures { IfOk result (λ wanting. wanting.items ≡ map (λ rr. (rr, wanted_told self.now.lasts.now.lasts self.now.behind.now.means.moment (own_in (groups_behind self.now.behind.now)) rr)) answers) }
+    {
+        let mut wanting = Vec::new(self.alloc);
+        for answer in answers.into_vec() {
+            let wanted = self.wanted_by(&answer.rdata)?;
+            wanting.push(Wanting::new(answer, wanted))?;
+        }
+        Ok(wanting)
+    }
+
+    // What an answer wants that wasn't multicast less than a second ago: for PTR the SRV, TXT and addresses of its target, for SRV the
+    // addresses of its target. Refused only for want of memory.
+    fn wanted_by(&self, rdata: &Rdata) -> Result<Rrs, AllocError>
+        ensures { IfOk result (λ wanted. wanted ≡ filter (is_free_by self.now.lasts.now.lasts self.now.behind.now.means.moment) (wanted_by (own_in (groups_behind self.now.behind.now)) rdata.now)) }
+    {
+        let mut wanted = Rrs::new(self.alloc);
+        match rdata {
+            Rdata::Ptr(target) => self.put_service(&mut wanted, target)?,
+            Rdata::Srv { target, .. } => self.put_addresses(&mut wanted, target)?,
+            _ => {}
+        }
+        Ok(wanted)
+    }
+
+    // Puts the SRV and TXT records of a service behind others, and the addresses of its host.
+    fn put_service(&self, wanted: &mut Rrs, name: &Name) -> Result<(), AllocError>
+        ensures { OnOk result (wanted.new ≡ wanted.old ++ filter (is_free_by self.now.lasts.now.lasts self.now.behind.now.means.moment)
+            (own_of (own_in (groups_behind self.now.behind.now)) 33 name.now ++ own_of (own_in (groups_behind self.now.behind.now)) 16 name.now
+            ++ flat_map (λ rr. srv_addresses (own_in (groups_behind self.now.behind.now)) rr.rdata) (own_of (own_in (groups_behind self.now.behind.now)) 33 name.now))) }
+    {
+        let own = self.own_of(name)?;
+        self.put_kind(wanted, own.as_slice(), SRV)?;
+        self.put_kind(wanted, own.as_slice(), TXT)?;
+        self.put_targets(wanted, own.as_slice())?;
+        Ok(())
+    }
+
+    // Puts the addresses of the targets of SRV records behind others.
+    fn put_targets(&self, wanted: &mut Rrs, own: &[Rr]) -> Result<(), AllocError>
+        ensures { OnOk result (wanted.new ≡ wanted.old ++ filter (is_free_by self.now.lasts.now.lasts self.now.behind.now.means.moment)
+            (flat_map (λ rr. srv_addresses (own_in (groups_behind self.now.behind.now)) rr.rdata) own.now)) }
+    {
+        for rr in own {
+            if let Rdata::Srv { target, .. } = &rr.rdata {
+                self.put_addresses(wanted, target)?;
+            }
+        }
+        Ok(())
+    }
+
+    // Puts the addresses of a name behind others.
+    fn put_addresses(&self, wanted: &mut Rrs, name: &Name) -> Result<(), AllocError>
+        ensures { OnOk result (wanted.new ≡ wanted.old ++ filter (is_free_by self.now.lasts.now.lasts self.now.behind.now.means.moment) (addresses_of (own_in (groups_behind self.now.behind.now)) name.now)) }
+    {
+        let own = self.own_of(name)?;
+        self.put_kind(wanted, own.as_slice(), A)?;
+        self.put_kind(wanted, own.as_slice(), AAAA)?;
+        Ok(())
+    }
+
+    // Puts those of several records behind others that have a type and weren't multicast less than a second ago.
+    fn put_kind(&self, wanted: &mut Rrs, own: &[Rr], kind: u16) -> Result<(), AllocError>
+        ensures { OnOk result (wanted.new ≡ wanted.old ++ filter (is_free_by self.now.lasts.now.lasts self.now.behind.now.means.moment) (filter (λ rr. kind_of rr.rdata == kind) own.now)) }
+    {
+        for rr in own {
+            if rr.rdata.kind() == kind && self.lasts.is_free(rr, self.behind.means.moment) {
+                wanted.push(rr.copy()?)?;
+            }
+        }
+        Ok(())
+    }
+
+    // The own records of a name, as they are behind the event.
+    fn own_of(&self, name: &Name) -> Result<Rrs, AllocError>
+        ensures { IfOk result (λ own. own ≡ of_name name.now (own_in (groups_behind self.now.behind.now))) }
+    {
+        let mut own = Rrs::new(self.alloc);
+        self.behind.put_own(&mut own, name)?;
+        Ok(own)
+    }
+}

@@ -1,0 +1,4 @@
+pub mod records
+pub mod asking
+pub mod ticks
+pub mod step

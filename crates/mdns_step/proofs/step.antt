@@ -1,0 +1,10 @@
+pub mod Stage
+pub mod ClaimMarks
+pub mod Duties
+pub mod Answered
+pub mod Claiming
+pub mod Responding
+pub mod Standing
+pub mod Moved
+pub mod Stepped
+pub mod Carried

@@ -1,0 +1,6 @@
+pub mod InForce
+pub mod Viewed
+pub mod State
+pub mod Next
+pub mod Enough
+pub mod Laws
