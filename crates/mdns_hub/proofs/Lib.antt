@@ -1,2 +1,12 @@
 pub mod Written
-mod Playing
+pub mod Placing
+pub mod Fitness
+pub mod Slotted
+pub mod Spreading
+pub mod Standing
+pub mod Happening
+pub mod Dues
+pub mod Runs
+pub mod Goodness
+pub mod Determined
+pub mod Legal

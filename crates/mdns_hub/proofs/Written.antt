@@ -31,3 +31,7 @@ history_text-append number (entry ∷ more) history =
 pub on_err_from : {T E P : Type 0} (r : Result T E) → P → OnErr r P
 on_err_from (Ok x) p = tt
 on_err_from (Err e) p = p
+
+-- a text that was put is a beginning of itself
+pub all_is_part : (old new : Option (List ℕ)) (text : List ℕ) → Appends old new text → (n : ℕ) × Appends old new (take n text)
+all_is_part old new text whole = (length text, subst (λ (l : List ℕ). Appends old new l) (sym (take-length text)) whole)

@@ -1,4 +1,11 @@
+pub mod Links
 pub mod Played
+pub mod Slots
 pub mod Plays
+pub mod Once
 pub mod Output
+pub mod Order
+pub mod Stepped
+pub mod Kept
 pub mod Hubs
+pub mod Running

@@ -4,8 +4,8 @@ use std::alloc::AllocError;
 /// Why a command could not be done.
 #[derive(Clone, Copy, Debug, PartialEq, Eq)]
 pub enum HubError {
-    /// The command isn't built at this place of the script. Nothing was done.
-    NotYet,
+    /// The command is bad at this place of the script. Nothing was done.
+    BadCommand,
     /// The sink failed.
     WriteFault,
     /// Memory was refused.

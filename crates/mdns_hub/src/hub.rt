@@ -1,17 +1,21 @@
-// A script's commands, done on a daemon.
-ghost use Rattle.std.specs.Prelude.{◌≡◌, ◌≤◌, ◌^◌, IsTrue};
-ghost use Rattle.std.specs.Option.{ForSome};
+// A script's commands, done on daemons and the link between them.
+ghost use Rattle.std.specs.Prelude.{◌≡◌, ◌≤◌, ◌^◌, ◌&&◌, ◌||◌, nat_le, not, IsTrue, true, false};
 ghost use Rattle.std.specs.Str.{is_utf8};
 ghost use Rattle.mdns_history.specs.Fitting.{is_boot, is_host_label};
+ghost use Rattle.mdns_hub.specs.Slots.{is_kept, AreBehind};
+ghost use Rattle.mdns_hub.specs.Order.{AreFit, AreFit-prop};
 
 use crate::HubError;
-use crate::steps::{put_entry, step, tick_to};
+use crate::daemons::{Booted, Daemons};
+use crate::link::Link;
+use crate::steps::put_entry;
 use mdns_base::Sink;
 use mdns_core::Daemon;
+use mdns_draw::{SeedWords, Words};
 use mdns_history::{Config, Event, HostConfig};
 use mdns_script::Command;
 use sd_name::is_service_label;
-use std::alloc::Global;
+use std::alloc::{AllocError, Global};
 
 /// A day in milliseconds: the furthest that one command runs ahead.
 const MOST_AHEAD: u64 = 86_400_000;
@@ -19,32 +23,27 @@ const MOST_AHEAD: u64 = 86_400_000;
 /// The last moment that there is, 2 ^ 53 milliseconds.
 const LAST_MOMENT: u64 = 9_007_199_254_740_992;
 
-/// A daemon and its number.
-#[derive(Drop)]
-pub struct Booted {
-    pub number: u32,
-    pub daemon: Daemon,
-}
-
-/// What a script runs on: the current moment in milliseconds, the random word of the events to come, and the daemon where
-/// one was booted.
+/// What a script runs on: the current moment in milliseconds, the random words of the events to come, the link, and the daemons
+/// that were booted.
 #[derive(Drop)]
 pub struct Hub {
-    alloc: Global,
-    clock: u64,
-    word: u32,
-    booted: Option<Booted>,
+    pub(crate) alloc: Global,
+    pub(crate) clock: u64,
+    pub(crate) words: Words,
+    pub(crate) link: Link,
+    pub(crate) daemons: Daemons,
     ghost bound: { clock ≤ 2 ^ 53 },
-    ghost behind: { ForSome booted (λ b. b.daemon.last ≤ clock) },
+    ghost behind: { AreBehind clock daemons.slots.items },
+    ghost fit: { AreFit clock (is_kept daemons.slots.items) link.under_way.items } by { AreFit-prop clock (is_kept daemons.slots.items) link.under_way.items },
 }
 
 impl Hub {
-    ghost use Rattle.std.specs.Prelude.{◌≡◌, ◌↔◌, true, false, None, Err, is_none, is_some, OnOk, OnErr};
-    ghost use Rattle.mdns_hub.specs.Played.{Played, start, Happens, Boots, RunsTo};
-    ghost use Rattle.mdns_hub.specs.Plays.{is_ready, may_run_to, Does, Plays};
-    ghost use Rattle.mdns_history.specs.Sessions.{is_number};
+    ghost use Rattle.std.specs.Prelude.{◌≡◌, ◌↔◌, true, false, Err, OnOk, OnErr};
+    ghost use Rattle.mdns_hub.specs.Played.{Played, start};
+    ghost use Rattle.mdns_hub.specs.Links.{most_daemons};
+    ghost use Rattle.mdns_hub.specs.Plays.{is_out_of_reach, is_setting, set_by, is_bad, Boots, Happens, Does, Plays};
     ghost use Rattle.mdns_hub.specs.Output.{HasWriteCause, DoesPart, PlaysPart, OrNothing};
-    ghost use Rattle.mdns_hub.specs.Hubs.{StandsFor, Advances, BreaksIn, number_of, hub_ready};
+    ghost use Rattle.mdns_hub.specs.Hubs.{StandsFor, Advances, BreaksIn, is_bad_for};
 
     /// A hub on which nothing was played. It takes no memory.
     pub fn new(alloc: Global) -> Self
@@ -53,145 +52,156 @@ impl Hub {
         Hub {
             alloc,
             clock: 0,
-            word: 0,
-            booted: None,
+            words: Words::Same { word: 0 },
+            link: Link::new(alloc),
+            daemons: Daemons::new(alloc),
         }
     }
 
-    /// Does a command, and puts the print of each entry. After `NotYet` the hub and the output are as
-    /// before; after another error a beginning of what was to be put was put, and the hub still has its daemon. `WriteFault`
-    /// exactly where the sink failed.
+    /// Does a command, and puts the print of each entry as one piece. After `BadCommand`, which comes exactly where the command is bad
+    /// at this place of the script, the hub and the output are as before; after another error a beginning of what was to be put was put,
+    /// and the hub isn't to be used again. `WriteFault` exactly where the sink failed.
     pub fn run<K: Sink>(&mut self, command: Command, output: &mut K) -> Result<(), HubError>
         ensures done { OnOk result (Advances (Plays command) self.old self.new (K.held output.old) (K.held output.new)) }
 
-        ensures not_yet { (played : Played) → StandsFor self.old played
-            → (result ≡ Err HubError.NotYet) ↔ (is_ready played command ≡ false) }
-        ensures undone { result ≡ Err HubError.NotYet → (self.new ≡ self.old) × (output.new ≡ output.old) }
+        ensures bad { (played : Played) → StandsFor self.old played
+            → (result ≡ Err HubError.BadCommand) ↔ (is_bad played command ≡ true) }
+        ensures undone { result ≡ Err HubError.BadCommand → (self.new ≡ self.old) × (output.new ≡ output.old) }
         ensures part { OnErr result (BreaksIn (PlaysPart command) self.old (K.held output.old) (K.held output.new)) }
         ensures cause { HasWriteCause (K.faults output.old) (K.faults output.new) result }
     {
-        if self.is_ready(&command) {
-            self.play(command, output)
+        if self.is_bad(&command) {
+            Err(HubError::BadCommand)
         } else {
-            Err(HubError::NotYet)
+            self.play(command, output)
         }
     }
 
-    // Whether the command is built at this place of the script.
-    #[tactic(auto, unfolding(crate::specs::Plays::is_ready_at))]
-    fn is_ready(&self, command: &Command) -> bool
-        ensures { result ≡ hub_ready self.now command.now }
+    // Whether the command is bad at this place of the script.
+    #[tactic(auto, unfolding(crate::specs::Plays::is_bad_at))]
+    fn is_bad(&self, command: &Command) -> bool
+        ensures { result ≡ is_bad_for self.now command.now }
     {
         match command {
-            Command::Pass => true,
-            Command::Daemon { config, .. } => {
-                self.booted.is_none() && is_host_label(&config.host)
+            Command::Pass | Command::Word { .. } | Command::Seed { .. } | Command::Lose { .. } => {
+                false
             }
-            Command::At { moment } => self.may_run_to(*moment),
-            Command::Word { .. } => true,
-            Command::Attach { daemon } => self.is_booted(*daemon),
-            Command::Event { daemon, event } => self.is_booted(*daemon) && !is_boot(event),
+            Command::Daemon { number, config } => self.is_bad_boot(*number, &config.host),
+            Command::At { moment } => self.is_out_of_reach(*moment),
+            Command::Delay { ms } => !(1 <= *ms && *ms <= 10_000),
+            Command::Part { left, right } => {
+                !self.daemons.has(*left) || !self.daemons.has(*right) || *left == *right
+            }
+            Command::Meet { left, right } => !self.daemons.has(*left) || !self.daemons.has(*right),
+            Command::Attach { daemon } => !self.daemons.has(*daemon),
+            Command::Event { daemon, event } => !self.daemons.has(*daemon) || is_boot(event),
         }
     }
 
-    fn may_run_to(&self, moment: u64) -> bool
-        ensures { result ≡ may_run_to self.now.clock moment }
+    // Whether a daemon can't be booted: its number is none, it was booted, or its host has a label that isn't text or has control characters.
+    fn is_bad_boot(&self, number: u32, host: &Option<HostConfig>) -> bool
+        ensures { result ≡ (not (nat_le 1 number && nat_le number most_daemons) || is_kept self.now.daemons.slots.items number || not (is_host_label host.now)) }
     {
-        self.clock <= moment && moment <= LAST_MOMENT && moment - self.clock <= MOST_AHEAD
+        !(1 <= number && number <= 16) || self.daemons.has(number) || !is_host_label(host)
     }
 
-    // Whether the daemon of a number is the one that was booted.
-    fn is_booted(&self, number: u32) -> bool
-        ensures { result ≡ is_number number (number_of self.now.booted) }
+    fn is_out_of_reach(&self, moment: u64) -> bool
+        ensures { result ≡ is_out_of_reach self.now.clock moment }
     {
-        match &self.booted {
-            Some(booted) => booted.number == number,
-            None => false,
-        }
+        moment < self.clock || LAST_MOMENT < moment || self.clock + MOST_AHEAD < moment
     }
 
-    // Does a command that is ready.
+    // Does a command that isn't bad.
     fn play<K: Sink>(&mut self, command: Command, output: &mut K) -> Result<(), HubError>
-        requires { hub_ready self.old command ≡ true }
+        requires { is_bad_for self.old command ≡ false }
 
         ensures done { OnOk result (Advances (Does command) self.old self.new (K.held output.old) (K.held output.new)) }
         ensures part { OnErr result (BreaksIn (DoesPart command) self.old (K.held output.old) (K.held output.new)) }
         ensures cause { HasWriteCause (K.faults output.old) (K.faults output.new) result }
-        ensures ready { result ≡ Err HubError.NotYet → ⊥ }
+        ensures good { result ≡ Err HubError.BadCommand → ⊥ }
     {
         match command {
-            Command::Pass => Ok(()),
             Command::Daemon { number, config } => self.boot(number, config, output),
             Command::At { moment } => self.run_to(moment, output),
-            Command::Word { word } => {
-                self.word = word;
+            Command::Attach { daemon } => self.happen_now(daemon, Event::Attach, output),
+            Command::Event { daemon, event } => self.happen_now(daemon, event, output),
+            setting => {
+                self.set(setting)?;
                 Ok(())
             }
-            Command::Attach { .. } => self.happen(Event::Attach, output),
-            Command::Event { event, .. } => self.happen(event, output),
+        }
+    }
+
+    // Sets what a command sets that isn't bad and does nothing to a daemon. Refused only for want of memory; then nothing was set.
+    fn set(&mut self, command: Command) -> Result<(), AllocError>
+        requires good { is_bad_for self.old command ≡ false }
+        requires sets { is_setting command ≡ true }
+        ensures sets { is_setting command ≡ true }
+        ensures done { OnOk result ((played : Played) → StandsFor self.old played → StandsFor self.new (set_by command played)) }
+    {
+        match command {
+            Command::Word { word } => {
+                self.words = Words::Same { word };
+                Ok(())
+            }
+            Command::Seed { seed } => {
+                let words = SeedWords::new(seed);
+                self.words = Words::Seeded { words };
+                Ok(())
+            }
+            Command::Delay { ms } => {
+                self.link.set_delay(ms);
+                Ok(())
+            }
+            Command::Lose { count } => {
+                self.link.set_losses(count);
+                Ok(())
+            }
+            Command::Part { left, right } => self.link.part(left, right),
+            Command::Meet { left, right } => {
+                self.link.meet(left, right);
+                Ok(())
+            }
+            _ => Ok(()),
         }
     }
 
     fn boot<K: Sink>(&mut self, number: u32, config: Config, output: &mut K) -> Result<(), HubError>
-        requires free { is_none self.old.booted ≡ true }
+        requires low { 1 ≤ number }
+        requires high { number ≤ 16 }
+        requires free { is_kept self.old.daemons.slots.items number ≡ false }
         requires host { IsTrue (is_host_label config.host) }
 
         ensures done { OnOk result (Advances (Boots number config) self.old self.new (K.held output.old) (K.held output.new)) }
         ensures part { OnErr result (BreaksIn (OrNothing (Boots number config)) self.old (K.held output.old) (K.held output.new)) }
         ensures cause { HasWriteCause (K.faults output.old) (K.faults output.new) result }
-        ensures ready { result ≡ Err HubError.NotYet → ⊥ }
+        ensures good { result ≡ Err HubError.BadCommand → ⊥ }
     {
-        let (daemon, entry) = Daemon::new(self.alloc, config, self.clock, self.word)?;
+        let word = self.words.take();
+        let address = config.address;
+        let (daemon, entry) = Daemon::new(self.alloc, config, self.clock, word)?;
+        self.daemons.boot(number, Booted { address, daemon })?;
         put_entry(self.alloc, number, &entry, output)?;
-        self.booted = Some(Booted { number, daemon });
         Ok(())
     }
 
-    fn run_to<K: Sink>(&mut self, moment: u64, output: &mut K) -> Result<(), HubError>
-        requires { may_run_to self.old.clock moment ≡ true }
-
-        ensures done { OnOk result (Advances (RunsTo moment) self.old self.new (K.held output.old) (K.held output.new)) }
-        ensures part { OnErr result (BreaksIn (DoesPart (Command.At moment)) self.old (K.held output.old) (K.held output.new)) }
-        ensures cause { HasWriteCause (K.faults output.old) (K.faults output.new) result }
-        ensures ready { result ≡ Err HubError.NotYet → ⊥ }
-    {
-        let clock = self.clock;
-        self.clock = moment;
-        match &mut self.booted {
-            Some(booted) => tick_to(
-                self.alloc,
-                booted.number,
-                &mut booted.daemon,
-                clock,
-                self.word,
-                moment,
-                output,
-            ),
-            None => Ok(()),
-        }
-    }
-
-    fn happen<K: Sink>(&mut self, event: Event, output: &mut K) -> Result<(), HubError>
-        requires some { is_some self.old.booted ≡ true }
+    // An event of a daemon at the current moment.
+    fn happen_now<K: Sink>(
+        &mut self,
+        number: u32,
+        event: Event,
+        output: &mut K,
+    ) -> Result<(), HubError>
+        requires kept { is_kept self.old.daemons.slots.items number ≡ true }
         requires no_boot { is_boot event ≡ false }
 
-        ensures done { OnOk result (Advances (Happens event) self.old self.new (K.held output.old) (K.held output.new)) }
-        ensures part { OnErr result (BreaksIn (OrNothing (Happens event)) self.old (K.held output.old) (K.held output.new)) }
+        ensures done { OnOk result (Advances (Happens number event) self.old self.new (K.held output.old) (K.held output.new)) }
+        ensures part { OnErr result (BreaksIn (OrNothing (Happens number event)) self.old (K.held output.old) (K.held output.new)) }
         ensures cause { HasWriteCause (K.faults output.old) (K.faults output.new) result }
-        ensures ready { result ≡ Err HubError.NotYet → ⊥ }
+        ensures good { result ≡ Err HubError.BadCommand → ⊥ }
     {
-        match &mut self.booted {
-            Some(booted) => step(
-                self.alloc,
-                booted.number,
-                &mut booted.daemon,
-                self.clock,
-                self.word,
-                event,
-                output,
-            ),
-            None => unreachable!(),
-        }
+        let now = self.clock;
+        self.happen(number, now, event, output)
     }
 }
 

@@ -1,11 +1,15 @@
-//! The scripted run: commands of a script, done on a daemon, with the print of each entry.
-//!
-//! So far there is one daemon without a host.
+//! The scripted run: commands of a script, done on up to sixteen daemons and the link between them, with the print of each entry.
 #![tactic(auto)]
 
+mod daemons;
+mod delivery;
 mod error;
 mod hub;
+mod law;
+mod link;
+mod running;
 mod steps;
 
 pub use error::HubError;
 pub use hub::Hub;
+pub use law::scripts_are_played_once;

@@ -1,4 +1,5 @@
 pub mod Tokens
 pub mod Requests
 pub mod Boots
+pub mod Links
 pub mod Lines

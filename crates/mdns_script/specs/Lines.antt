@@ -1,6 +1,6 @@
--- What the lines of a script say: which are built so far, which aren't yet, and which are no lines.
-use Rattle.std.specs.Prelude.{ℕ, ◌==◌, ◌^◌, nat_le, not, ◌&&◌, ◌||◌, Bool, false, if◌then◌else◌, List, [], ◌∷◌, Option, Some, None, codes}
-use Rattle.std.specs.Option.{option_map}
+-- What the lines of a script say, and which are no lines.
+use Rattle.std.specs.Prelude.{ℕ, ◌==◌, ◌^◌, nat_le, not, ◌&&◌, Bool, false, if◌then◌else◌, List, [], ◌∷◌, Option, Some, None, codes}
+use Rattle.std.specs.Option.{option_map, option_or}
 use Rattle.std.specs.Str.{bytes_eq}
 use Rattle.mdns_base.specs.Cut.{cut_of}
 use Rattle.mdns_base.specs.declared.host.Host.{Host}
@@ -8,6 +8,7 @@ use Rattle.mdns_base.specs.Digits.{◌>>=◌, decimal_of, decimal_below, ipv4_of
 use Rattle.mdns_history.specs.declared.event.Event.TheVariants as event
 use Rattle.mdns_script.specs.Tokens.{when}
 use Rattle.mdns_script.specs.Boots.{daemon_of, daemon_command}
+use Rattle.mdns_script.specs.Links.{number_in, two_daemons}
 use Rattle.mdns_script.specs.Requests.{request_of}
 use Rattle.mdns_script.specs.declared.command.Command.{Command}
 use Rattle.mdns_script.specs.declared.command.Command.TheVariants as commands
@@ -74,42 +75,40 @@ call_command text = do
   request ← request_of words.3
   Some (commands.Event words.0 (event.Call words.1 words.2 request))
 
--- a first word and what follows it
-abbrev pub command_of_words : List ℕ → List ℕ → Option Command
-command_of_words word rest =
+-- a first word that boots a daemon, passes time, sets the words to come or changes the link, and what follows it
+abbrev pub setting_of_words : List ℕ → List ℕ → Option Command
+setting_of_words word rest =
     if bytes_eq word (codes "daemon") then daemon_command rest
-    else if bytes_eq word (codes "open") then option_map (λ n. commands.Attach n) (daemon_of rest)
     else if bytes_eq word (codes "at") then option_map (λ n. commands.At n) (decimal_of rest)
     else if bytes_eq word (codes "word") then option_map (λ w. commands.Word w) (decimal_below (2 ^ 32) rest)
-    else if bytes_eq word (codes "call") then call_command rest
-    else if bytes_eq word (codes "hear") then hear_command rest
-    else if bytes_eq word (codes "close") then close_command rest
-    else if bytes_eq word (codes "take") then take_command rest
+    else if bytes_eq word (codes "seed") then option_map (λ s. commands.Seed s) (decimal_below (2 ^ 32) rest)
+    else if bytes_eq word (codes "delay") then option_map (λ n. commands.Delay n) (number_in 1 10000 rest)
+    else if bytes_eq word (codes "lose") then option_map (λ n. commands.Lose n) (number_in 0 1000000 rest)
+    else if bytes_eq word (codes "part") then option_map (λ pair. commands.Part pair.0 pair.1) (two_daemons rest)
+    else if bytes_eq word (codes "meet") then option_map (λ pair. commands.Meet pair.0 pair.1) (two_daemons rest)
     else None
 
--- the command of a line of a form that is built
+-- a first word that lets something happen to a daemon, and what follows it
+abbrev pub event_of_words : List ℕ → List ℕ → Option Command
+event_of_words word rest =
+    if bytes_eq word (codes "open") then option_map (λ n. commands.Attach n) (daemon_of rest)
+    else if bytes_eq word (codes "close") then close_command rest
+    else if bytes_eq word (codes "take") then take_command rest
+    else if bytes_eq word (codes "hear") then hear_command rest
+    else if bytes_eq word (codes "call") then call_command rest
+    else None
+
+-- a first word and what follows it
+abbrev pub command_of_words : List ℕ → List ℕ → Option Command
+command_of_words word rest = option_or (setting_of_words word rest) (event_of_words word rest)
+
+-- the command of a line of one of the forms
 abbrev pub command_of : List ℕ → Option Command
 command_of line = cut_of 32 line >>= λ words. command_of_words words.0 words.1
 
--- the first words of lines of all forms, built or not
-abbrev pub is_known : List ℕ → Bool
-is_known word =
-    bytes_eq word (codes "daemon") || bytes_eq word (codes "at") || bytes_eq word (codes "word") || bytes_eq word (codes "seed")
-    || bytes_eq word (codes "delay") || bytes_eq word (codes "lose") || bytes_eq word (codes "part") || bytes_eq word (codes "meet")
-    || bytes_eq word (codes "hear") || bytes_eq word (codes "open") || bytes_eq word (codes "close") || bytes_eq word (codes "take")
-    || bytes_eq word (codes "call")
-
--- what stands before the first space, or the whole line
-abbrev pub first_of : List ℕ → List ℕ
-first_of line = at_cut line (cut_of 32 line)
-  where
-    at_cut : List ℕ → Option (List ℕ × List ℕ) → List ℕ
-    at_cut line None = line
-    at_cut line (Some words) = words.0
-
--- a line of a known form: its command, or not yet
+-- the line of a command, or a bad one
 abbrev pub command_line : Option Command → Line
-command_line None = lines.NotYet
+command_line None = lines.Bad
 command_line (Some command) = lines.Command command
 
 -- neither empty nor a comment
@@ -117,9 +116,6 @@ abbrev pub is_read : List ℕ → Bool
 is_read [] = false
 is_read (first ∷ rest) = not (first == 35)
 
--- A line is passed over, is bad, is of a form that isn't built yet, or has a command.
+-- A line is passed over, has a command, or is bad.
 unfoldable pub line_of : List ℕ → Line
-line_of line =
-    if not (is_read line) then lines.Command commands.Pass
-    else if not (is_known (first_of line)) then lines.Bad
-    else command_line (command_of line)
+line_of line = if not (is_read line) then lines.Command commands.Pass else command_line (command_of line)

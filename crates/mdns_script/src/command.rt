@@ -11,6 +11,16 @@ pub enum Command {
     At { moment: u64 },
     /// Gives every later event this random word.
     Word { word: u32 },
+    /// Gives every later event the next random word of a seed, from its first on.
+    Seed { seed: u32 },
+    /// Lets packets that are sent from now on arrive so many milliseconds later.
+    Delay { ms: u64 },
+    /// Lets so many of the next packets that are sent be lost, whatever is left of an earlier count.
+    Lose { count: u64 },
+    /// Parts two daemons: neither hears what the other sends from now on.
+    Part { left: u32, right: u32 },
+    /// Lets two daemons hear each other again.
+    Meet { left: u32, right: u32 },
     /// Attaches a session to a daemon.
     Attach { daemon: u32 },
     /// Lets an event happen to a daemon.
@@ -22,8 +32,6 @@ pub enum Command {
 pub enum Line {
     /// A line of no form.
     Bad,
-    /// A line of a form that isn't built yet.
-    NotYet,
     /// A line that asks for something.
     Command(Command),
 }

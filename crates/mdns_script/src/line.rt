@@ -1,10 +1,11 @@
 ghost use Rattle.std.specs.Prelude.{◌≡◌, ◌^◌, Ok, IfOk};
 ghost use Rattle.std.specs.Option.{option_map};
 ghost use Rattle.mdns_base.specs.Digits.{decimal_of, decimal_below};
-ghost use Rattle.mdns_script.specs.Lines.{line_of, is_read, first_of, is_known, command_of, command_of_words, close_command, take_command, max_of, hear_command, hear_words, call_command, call_words};
+ghost use Rattle.mdns_script.specs.Lines.{line_of, is_read, command_of, command_of_words, setting_of_words, event_of_words, close_command, take_command, max_of, hear_command, hear_words, call_command, call_words};
 ghost use Rattle.mdns_script.specs.Boots.{daemon_of};
 
 use crate::boot::{daemon_command, daemon_number};
+use crate::link::{delay_command, lose_command, meet_command, part_command};
 use crate::requests::request;
 use crate::{Command, Line};
 use bytes::Bytes;
@@ -23,12 +24,9 @@ pub fn read_line(alloc: Global, line: &[u8]) -> Result<Line, AllocError>
     if !is_read(line) {
         return Ok(Line::Command(Command::Pass));
     }
-    if !is_known(first(line)) {
-        return Ok(Line::Bad);
-    }
     match command_of(alloc, line)? {
         Some(command) => Ok(Line::Command(command)),
-        None => Ok(Line::NotYet),
+        None => Ok(Line::Bad),
     }
 }
 
@@ -42,35 +40,6 @@ fn is_read(line: &[u8]) -> bool
     }
 }
 
-// The first word.
-fn first(line: &[u8]) -> &[u8]
-    ensures { result.now ≡ first_of line.now }
-{
-    match cut_at(line, b' ') {
-        Some((word, _)) => word,
-        None => line,
-    }
-}
-
-// Whether the word begins lines of some form, built or not.
-fn is_known(word: &[u8]) -> bool
-    ensures { result ≡ is_known word.now }
-{
-    is_same(word, b"daemon")
-        || is_same(word, b"at")
-        || is_same(word, b"word")
-        || is_same(word, b"seed")
-        || is_same(word, b"delay")
-        || is_same(word, b"lose")
-        || is_same(word, b"part")
-        || is_same(word, b"meet")
-        || is_same(word, b"hear")
-        || is_same(word, b"open")
-        || is_same(word, b"close")
-        || is_same(word, b"take")
-        || is_same(word, b"call")
-}
-
 fn command_of(alloc: Global, line: &[u8]) -> Result<Option<Command>, AllocError>
     ensures { IfOk result (λ found. found ≡ command_of line.now) }
 {
@@ -80,32 +49,59 @@ fn command_of(alloc: Global, line: &[u8]) -> Result<Option<Command>, AllocError>
     }
 }
 
+// What a first word and the text behind it ask for.
 fn command_of_words(alloc: Global, word: &[u8], rest: &[u8]) -> Result<Option<Command>, AllocError>
     ensures { IfOk result (λ found. found ≡ command_of_words word.now rest.now) }
 {
-    if is_same(word, b"daemon") {
-        return Ok(daemon_command(rest));
+    match setting_of_words(word, rest) {
+        Some(command) => Ok(Some(command)),
+        None => Ok(event_of_words(alloc, word, rest)?),
     }
+}
+
+// The lines that take no memory: they boot a daemon, pass time, set the words to come, or change the link.
+fn setting_of_words(word: &[u8], rest: &[u8]) -> Option<Command>
+    ensures { result ≡ setting_of_words word.now rest.now }
+{
+    if is_same(word, b"daemon") {
+        daemon_command(rest)
+    } else if is_same(word, b"at") {
+        at_command(rest)
+    } else if is_same(word, b"word") {
+        word_command(rest)
+    } else if is_same(word, b"seed") {
+        seed_command(rest)
+    } else if is_same(word, b"delay") {
+        delay_command(rest)
+    } else if is_same(word, b"lose") {
+        lose_command(rest)
+    } else if is_same(word, b"part") {
+        part_command(rest)
+    } else if is_same(word, b"meet") {
+        meet_command(rest)
+    } else {
+        None
+    }
+}
+
+// The lines that let something happen to a daemon.
+fn event_of_words(alloc: Global, word: &[u8], rest: &[u8]) -> Result<Option<Command>, AllocError>
+    ensures { IfOk result (λ found. found ≡ event_of_words word.now rest.now) }
+{
     if is_same(word, b"open") {
         return Ok(open_command(rest));
-    }
-    if is_same(word, b"at") {
-        return Ok(at_command(rest));
-    }
-    if is_same(word, b"word") {
-        return Ok(word_command(rest));
-    }
-    if is_same(word, b"call") {
-        return Ok(call_command(alloc, rest)?);
-    }
-    if is_same(word, b"hear") {
-        return Ok(hear_command(alloc, rest)?);
     }
     if is_same(word, b"close") {
         return Ok(close_command(rest));
     }
     if is_same(word, b"take") {
         return Ok(take_command(rest));
+    }
+    if is_same(word, b"hear") {
+        return Ok(hear_command(alloc, rest)?);
+    }
+    if is_same(word, b"call") {
+        return Ok(call_command(alloc, rest)?);
     }
     Ok(None)
 }
@@ -115,6 +111,13 @@ fn word_command(text: &[u8]) -> Option<Command>
 {
     let word = read_decimal_u32(text)?;
     Some(Command::Word { word })
+}
+
+fn seed_command(text: &[u8]) -> Option<Command>
+    ensures { result ≡ option_map (λ s. Command.Seed s) (decimal_below (2 ^ 32) text.now) }
+{
+    let seed = read_decimal_u32(text)?;
+    Some(Command::Seed { seed })
 }
 
 fn open_command(text: &[u8]) -> Option<Command>

@@ -1,13 +1,12 @@
 -- How far a script has run, and what that says where it ends or stops.
 use Rattle.std.proofs.Common.{◌≡◌, ℕ, ◌+◌, ◌++◌, ◌∙◌, length, List, [], ◌∷◌, Option, Some, None, Result, Ok, Err, refl, sym, ap, subst, arith, append_assoc, append-nil, length-append}
 use Rattle.std.proofs.Common.{inl, inr, take}
-use Rattle.std.specs.Prelude.{codes}
 use Rattle.std.specs.Result.{OnOk}
 use Rattle.std.specs.Io.KnownBytes.{Appends}
 use Rattle.std.proofs.KnownBytes.{Appends-nil, Appends-trans}
 use Rattle.mdns_script.specs.Lines.{line_of}
 use Rattle.mdns_script.specs.declared.command.Line.{Line}
-use Rattle.mdns_script.specs.declared.command.Line.TheVariants.{Bad, NotYet, Command as CommandLine}
+use Rattle.mdns_script.specs.declared.command.Line.TheVariants.{Bad, Command as CommandLine}
 use Rattle.mdns_history.specs.declared.entry.Entry.{Entry}
 use Rattle.mdns_step.specs.InForce.{in_force}
 use Rattle.mdns_history.specs.Fitting.{IsLegal}
@@ -15,16 +14,17 @@ use Rattle.mdns_history.specs.Replays.{IsReplayed, IsQueued}
 use Rattle.mdns_history.specs.Calls.{GoodCallsSucceed}
 use Rattle.mdns_asserts.specs.Earned.{AssertionsAreEarned}
 use Rattle.mdns_hub.specs.declared.hub.Hub.{Hub}
-use Rattle.mdns_hub.specs.declared.hub.Booted.{Booted}
-use Rattle.mdns_hub.specs.Played.{Played, start, transcript}
-use Rattle.mdns_hub.specs.Hubs.{StandsFor, BootedFor, BreaksIn}
+use Rattle.mdns_hub.specs.declared.daemons.Booted.{Booted}
+use Rattle.mdns_hub.specs.Played.{Played, start, history_of, transcript}
+use Rattle.mdns_hub.specs.Slots.{slot_at}
+use Rattle.mdns_hub.specs.Hubs.{StandsFor, SlotStands, BreaksIn}
 use Rattle.mdns_hub.proofs.Written.{part_nothing, part_then}
 use Rattle.mdnsd.specs.declared.stop.Stop.{Stop}
 use Rattle.mdnsd.specs.declared.stop.Stop.TheVariants as stop
 use Rattle.mdnsd.specs.Stops.{status_of}
-use Rattle.mdnsd.specs.Scripts.{lines_of, PlaysLine, PlaysAll, IsNotYet, note_text}
+use Rattle.mdnsd.specs.Scripts.{lines_of, PlaysLine, PlaysAll, note_text}
 use Rattle.mdnsd.specs.Histories.{AreServedThroughout, CallsSucceedThroughout, AreEarnedThroughout}
-use Rattle.mdnsd.specs.Statuses.{ReadAll, PlaysScript, Stops, PlaysPartOfLine, MayPrint, BreaksOff}
+use Rattle.mdnsd.specs.Statuses.{ReadAll, PlaysScript, Stops, IsBadLine, PlaysPartOfLine, MayPrint, BreaksOff}
 use Rattle.mdnsd.proofs.Lawful.{are_served, calls_succeed, are_earned}
 use Rattle.mdnsd.specs.Lines.{RanLine, StopsAt, BreaksAt, TakesLine}
 
@@ -59,13 +59,13 @@ ran_next script rest line after number before next old mid new ran takes one =
       gains = subst (λ (text : List ℕ). Appends old new text) (sym o.3.1) (Appends-trans old mid new (transcript ran.played) o.3.0 ran.gains o.3.2);
     }
 
--- what holds of every legal history, and of none, holds of what a hub stands for
-legal_or_none : (P : List Entry → Type 0) (hub : Hub) (played : Played) → StandsFor hub played → P [] → ((history : List Entry) → IsLegal in_force history → P history) → P played.history
-legal_or_none P hub played stands none holds = at_booted hub.booted stands.booted
+-- what holds of every legal history, and of none, holds of each that a hub stands for
+legal_or_none : (P : List Entry → Type 0) (hub : Hub) (played : Played) → StandsFor hub played → P [] → ((history : List Entry) → IsLegal in_force history → P history) → (daemon : ℕ) → P (history_of daemon played.told)
+legal_or_none P hub played stands none holds daemon = at_slot (slot_at hub.daemons.slots.items daemon) (history_of daemon played.told) (stands.slots daemon)
   where
-    at_booted : (b : Option Booted) → BootedFor b played → P played.history
-    at_booted None h = subst P (sym h.1) none
-    at_booted (Some booted) h = holds played.history h.1.legal
+    at_slot : (slot : Option Booted) (history : List Entry) → SlotStands slot history → P history
+    at_slot None history h = subst P (sym h) none
+    at_slot (Some booted) history h = holds history h.0.legal
 
 pub ran_whole : (script rest : List ℕ) (number : ℕ) (hub : Hub) (old new : Option (List ℕ)) → IsReplayed → IsQueued → GoodCallsSucceed → AssertionsAreEarned
     → Ran script rest number hub old new → lines_of rest ≡ [] → PlaysScript script old new
@@ -78,9 +78,9 @@ ran_whole script rest number hub old new replayed queued succeed earned ran none
   asserts = legal_or_none (λ history. AreEarnedThroughout history) hub ran.played ran.stands tt (are_earned earned);
 }
 
-pub ran_stops : (script rest line after : List ℕ) (number : ℕ) (hub : Hub) (old mid new : Option (List ℕ)) (words : List ℕ) (is_cause : Played → List ℕ → Type 0)
-    → Ran script rest number hub old mid → TakesLine rest line after → StopsAt words is_cause hub line number mid new → Stops script words is_cause old new
-ran_stops script rest line after number hub old mid new words is_cause ran takes stops =
+pub ran_stops : (script rest line after : List ℕ) (number : ℕ) (hub : Hub) (old mid new : Option (List ℕ))
+    → Ran script rest number hub old mid → TakesLine rest line after → StopsAt hub line number mid new → Stops script old new
+ran_stops script rest line after number hub old mid new ran takes stops =
     let s = stops ran.played ran.stands in
     record {
       done = ran.done;
@@ -90,8 +90,8 @@ ran_stops script rest line after number hub old mid new words is_cause ran takes
       played = ran.played;
       plays = ran.plays;
       cause = s.0;
-      gains = subst (λ (n : ℕ). Appends old new (transcript ran.played ++ note_text words n)) ran.count
-          (Appends-trans old mid new (transcript ran.played) (note_text words number) ran.gains s.1);
+      gains = subst (λ (n : ℕ). Appends old new (transcript ran.played ++ note_text n)) ran.count
+          (Appends-trans old mid new (transcript ran.played) (note_text number) ran.gains s.1);
     }
 
 pub ran_breaks : (script rest line after : List ℕ) (number : ℕ) (hub : Hub) (old mid new : Option (List ℕ)) → Ran script rest number hub old mid → TakesLine rest line after
@@ -116,7 +116,6 @@ ran_breaks script rest line after number hub old mid new ran takes breaks =
 -- nothing of a line is a part of it
 pub part_none : (played : Played) (line : Line) → PlaysPartOfLine line played played
 part_none played Bad = refl
-part_none played NotYet = refl
 part_none played (CommandLine command) = inl refl
 
 pub breaks_nothing : (hub : Hub) (line : List ℕ) (o : Option (List ℕ)) → BreaksIn (PlaysPartOfLine (line_of line)) hub o o
@@ -128,22 +127,13 @@ breaks_played hub line number old new part = λ played stands.
     let p = part played stands in
     (transcript p.0, inl (p.0, p.1, refl), p.2)
 
--- a line that is no line, as it was named
-pub breaks_bad : (hub : Hub) (line : List ℕ) (number : ℕ) (old same new : Option (List ℕ)) → (line_of line ≡ Bad) × (same ≡ old)
-    → (n : ℕ) × Appends same new (take n (note_text (codes "bad line ") number)) → BreaksAt hub line number old new
+-- a line that is bad, as it was named
+pub breaks_bad : (hub : Hub) (line : List ℕ) (number : ℕ) (old same new : Option (List ℕ)) → ((played : Played) → StandsFor hub played → IsBadLine played line × (same ≡ old))
+    → (n : ℕ) × Appends same new (take n (note_text number)) → BreaksAt hub line number old new
 breaks_bad hub line number old same new bad put = λ played stands.
-    let note = note_text (codes "bad line ") number in
-    let part = subst (λ (o : Option (List ℕ)). (n : ℕ) × Appends o new (take n note)) bad.1 put in
-    (transcript played ++ note, inr (inl (bad.0, refl)), (note, refl, part))
-
--- a line that isn't built at its place, as it was named
-pub breaks_not_yet : (hub : Hub) (line : List ℕ) (number : ℕ) (old same new : Option (List ℕ)) → ((played : Played) → StandsFor hub played → IsNotYet played (line_of line) × (same ≡ old))
-    → (n : ℕ) × Appends same new (take n (note_text (codes "not yet line ") number)) → BreaksAt hub line number old new
-breaks_not_yet hub line number old same new not_yet put = λ played stands.
-    let cause = not_yet played stands in
-    let note = note_text (codes "not yet line ") number in
-    let part = subst (λ (o : Option (List ℕ)). (n : ℕ) × Appends o new (take n note)) cause.1 put in
-    (transcript played ++ note, inr (inr (cause.0, refl)), (note, refl, part))
+    let cause = bad played stands in
+    let part = subst (λ (o : Option (List ℕ)). (n : ℕ) × Appends o new (take n (note_text number))) cause.1 put in
+    (transcript played ++ note_text number, inr (cause.0, refl), (note_text number, refl, part))
 
 pub stopped : {T : Type 0} {x y : Stop} → x ≡ y → ◌≡◌ {A = Result T Stop} (Err x) (Err y)
 stopped {T} e = let err : Stop → Result T Stop = λ stop. Err stop in ap err e
@@ -161,34 +151,23 @@ read_as old new all P read holds = λ script told.
 pub from_done : {T P : Type 0} (ran : Result T Stop) → OnOk ran P → status_of ran ≡ 0 → P
 from_done (Ok x) p status = p
 from_done (Err stop.BadLine) p status = absurd (omega arith)
-from_done (Err stop.NotYet) p status = absurd (omega arith)
 from_done (Err stop.WriteFault) p status = absurd (omega arith)
 from_done (Err stop.NoMemory) p status = absurd (omega arith)
 
 pub from_bad : {T : Type 0} (ran : Result T Stop) → status_of ran ≡ 3 → ran ≡ Err stop.BadLine
 from_bad (Ok x) status = absurd (omega arith)
 from_bad (Err stop.BadLine) status = refl
-from_bad (Err stop.NotYet) status = absurd (omega arith)
 from_bad (Err stop.WriteFault) status = absurd (omega arith)
 from_bad (Err stop.NoMemory) status = absurd (omega arith)
-
-pub from_not_yet : {T : Type 0} (ran : Result T Stop) → status_of ran ≡ 7 → ran ≡ Err stop.NotYet
-from_not_yet (Ok x) status = absurd (omega arith)
-from_not_yet (Err stop.BadLine) status = absurd (omega arith)
-from_not_yet (Err stop.NotYet) status = refl
-from_not_yet (Err stop.WriteFault) status = absurd (omega arith)
-from_not_yet (Err stop.NoMemory) status = absurd (omega arith)
 
 pub from_write_fault : {T : Type 0} (ran : Result T Stop) → status_of ran ≡ 5 → ran ≡ Err stop.WriteFault
 from_write_fault (Ok x) status = absurd (omega arith)
 from_write_fault (Err stop.BadLine) status = absurd (omega arith)
-from_write_fault (Err stop.NotYet) status = absurd (omega arith)
 from_write_fault (Err stop.WriteFault) status = refl
 from_write_fault (Err stop.NoMemory) status = absurd (omega arith)
 
 pub from_no_memory : {T : Type 0} (ran : Result T Stop) → status_of ran ≡ 6 → ran ≡ Err stop.NoMemory
 from_no_memory (Ok x) status = absurd (omega arith)
 from_no_memory (Err stop.BadLine) status = absurd (omega arith)
-from_no_memory (Err stop.NotYet) status = absurd (omega arith)
 from_no_memory (Err stop.WriteFault) status = absurd (omega arith)
 from_no_memory (Err stop.NoMemory) status = refl

@@ -8,7 +8,7 @@ use Rattle.mdns_script.specs.Lines.{line_of}
 use Rattle.mdnsd.specs.declared.stop.Stop.{Stop}
 use Rattle.mdnsd.specs.declared.stop.Stop.TheVariants.{WriteFault, NoMemory}
 use Rattle.mdnsd.specs.Scripts.{PlaysLine, note_text, lines_of}
-use Rattle.mdnsd.specs.Statuses.{MayPrint}
+use Rattle.mdnsd.specs.Statuses.{IsBadLine, MayPrint}
 
 -- a run was broken off: the sink failed, or memory was refused
 abbrev pub IsFault : {T : Type 0} → Result T Stop → Type 0
@@ -18,10 +18,10 @@ IsFault result = (result ≡ Err WriteFault) ⊎ (result ≡ Err NoMemory)
 abbrev pub RanLine : Hub → List ℕ → Hub → Option (List ℕ) → Option (List ℕ) → Type 0
 RanLine before line after old new = Advances (PlaysLine (line_of line)) before after old new
 
--- the line stopped the script for a cause, and a line that names it was put
-abbrev pub StopsAt : List ℕ → (Played → List ℕ → Type 0) → Hub → List ℕ → ℕ → Option (List ℕ) → Option (List ℕ) → Type 0
-StopsAt words IsCause hub line number old new =
-    (played : Played) → StandsFor hub played → IsCause played line × Appends old new (note_text words number)
+-- the line is bad and stopped the script, and a line that names it was put
+abbrev pub StopsAt : Hub → List ℕ → ℕ → Option (List ℕ) → Option (List ℕ) → Type 0
+StopsAt hub line number old new =
+    (played : Played) → StandsFor hub played → IsBadLine played line × Appends old new (note_text number)
 
 -- the line was broken off, and a beginning of what it may add to the transcript was put
 abbrev pub BreaksAt : Hub → List ℕ → ℕ → Option (List ℕ) → Option (List ℕ) → Type 0

@@ -1,11 +1,11 @@
 -- Scripts: their lines, and what it is for entries to play them.
-use Rattle.std.specs.Prelude.{◌≡◌, ℕ, ◌==◌, ◌-◌, false, if◌then◌else◌, List, [], ◌∷◌, ◌++◌, length, take, slice_index, decimal}
+use Rattle.std.specs.Prelude.{◌≡◌, ℕ, ◌==◌, ◌-◌, if◌then◌else◌, List, [], ◌∷◌, ◌++◌, length, take, slice_index, decimal, codes}
 use Rattle.std.specs.List.{slice_split}
 use Rattle.mdns_script.specs.declared.command.Line.{Line}
-use Rattle.mdns_script.specs.declared.command.Line.TheVariants.{Bad, NotYet, Command as CommandLine}
+use Rattle.mdns_script.specs.declared.command.Line.TheVariants.{Bad, Command as CommandLine}
 use Rattle.mdns_script.specs.Lines.{line_of}
 use Rattle.mdns_hub.specs.Played.{Played}
-use Rattle.mdns_hub.specs.Plays.{Plays, is_ready}
+use Rattle.mdns_hub.specs.Plays.{Plays}
 
 -- one carriage return at the end of a line is dropped
 abbrev pub without_return : List ℕ → List ℕ
@@ -29,7 +29,6 @@ lines_of script = lines_from (slice_split (λ b. b == 10) script)
 -- a line is played: it has a command, and that is played
 abbrev pub PlaysLine : Line → Played → Played → Type 0
 PlaysLine Bad before after = ⊥
-PlaysLine NotYet before after = ⊥
 PlaysLine (CommandLine command) before after = Plays command before after
 
 -- Lines are played one after another.
@@ -37,12 +36,6 @@ abbrev pub PlaysAll : Played → List (List ℕ) → Played → Type 0
 PlaysAll before [] after = after ≡ before
 PlaysAll before (line ∷ lines) after = (between : Played) × PlaysLine (line_of line) before between × PlaysAll between lines after
 
--- a line is of a form that isn't built, or not built at this place
-abbrev pub IsNotYet : Played → Line → Type 0
-IsNotYet played Bad = ⊥
-IsNotYet played NotYet = Unit {0}
-IsNotYet played (CommandLine command) = is_ready played command ≡ false
-
 -- a line that says which line stopped the script
-abbrev pub note_text : List ℕ → ℕ → List ℕ
-note_text words line = words ++ decimal line ++ 10 ∷ []
+abbrev pub note_text : ℕ → List ℕ
+note_text line = codes "bad line " ++ decimal line ++ 10 ∷ []

@@ -1,13 +1,14 @@
 -- What each status of a script says of its input and output.
-use Rattle.std.specs.Prelude.{◌⊎◌, ◌≡◌, ℕ, ◌+◌, ◌<◌, ◌≤◌, ◌++◌, List, [], ◌∷◌, length, take, Option, Some, codes}
+use Rattle.std.specs.Prelude.{◌⊎◌, ◌≡◌, ℕ, ◌+◌, ◌<◌, ◌≤◌, ◌++◌, true, List, [], ◌∷◌, length, take, Option, Some}
 use Rattle.std.specs.Io.KnownBytes.{Appends}
 use Rattle.mdns_script.specs.declared.command.Line.{Line}
-use Rattle.mdns_script.specs.declared.command.Line.TheVariants.{Bad, NotYet, Command as CommandLine}
+use Rattle.mdns_script.specs.declared.command.Line.TheVariants.{Bad, Command as CommandLine}
 use Rattle.mdns_script.specs.Lines.{line_of}
-use Rattle.mdns_hub.specs.Played.{Played, start, transcript}
+use Rattle.mdns_hub.specs.Played.{Played, start, history_of, transcript}
+use Rattle.mdns_hub.specs.Plays.{is_bad}
 use Rattle.mdns_hub.specs.Output.{PlaysPart}
 use Rattle.mdnsd.specs.Histories.{AreServedThroughout, CallsSucceedThroughout, AreEarnedThroughout}
-use Rattle.mdnsd.specs.Scripts.{lines_of, PlaysAll, IsNotYet, note_text}
+use Rattle.mdnsd.specs.Scripts.{lines_of, PlaysAll, note_text}
 
 -- the most bytes that a script may have
 abbrev pub most_bytes : ℕ
@@ -29,47 +30,46 @@ IsTooLarge old new = Took old new (λ count. most_bytes < count)
 abbrev pub IsWithin : Option (List ℕ) → Option (List ℕ) → Type 0
 IsWithin old new = Took old new (λ count. count ≤ most_bytes)
 
--- The whole script was played and the sink gained its transcript. At each moment the items replay to the answers, calls that are as they
--- should be succeed, and what is asserted is earned.
+-- The whole script was played and the sink gained its transcript. Of each daemon, at each moment, the items replay to the answers, calls that are
+-- as they should be succeed, and what is asserted is earned.
 pub record PlaysScript (script : List ℕ) (old new : Option (List ℕ)) : Type 0 where
   pub played : Played
   pub plays : PlaysAll start (lines_of script) played
   pub gains : Appends old new (transcript played)
-  pub replays : AreServedThroughout played.history
-  pub calls : CallsSucceedThroughout played.history
-  pub asserts : AreEarnedThroughout played.history
+  pub replays : (daemon : ℕ) → AreServedThroughout (history_of daemon played.told)
+  pub calls : (daemon : ℕ) → CallsSucceedThroughout (history_of daemon played.told)
+  pub asserts : (daemon : ℕ) → AreEarnedThroughout (history_of daemon played.told)
 
--- Where the script stopped: the lines before were played, this one is the cause, and a line that names it was put.
-pub record Stops (script : List ℕ) (words : List ℕ) (IsCause : Played → List ℕ → Type 0) (old new : Option (List ℕ)) : Type 0 where
+-- a line is none, or has a command that is bad at its place
+abbrev pub IsBadAt : Played → Line → Type 0
+IsBadAt played Bad = Unit {0}
+IsBadAt played (CommandLine command) = is_bad played command ≡ true
+
+-- a line that is bad
+abbrev pub IsBadLine : Played → List ℕ → Type 0
+IsBadLine played line = IsBadAt played (line_of line)
+
+-- Where the script stopped: the lines before were played, this one is bad, and a line that names it was put.
+pub record Stops (script : List ℕ) (old new : Option (List ℕ)) : Type 0 where
   pub done : List (List ℕ)
   pub line : List ℕ
   pub more : List (List ℕ)
   pub lines : lines_of script ≡ done ++ line ∷ more
   pub played : Played
   pub plays : PlaysAll start done played
-  pub cause : IsCause played line
-  pub gains : Appends old new (transcript played ++ note_text words (length done + 1))
-
--- a line that is no line
-abbrev pub IsBadLine : Played → List ℕ → Type 0
-IsBadLine played line = line_of line ≡ Bad
-
--- a line that isn't built yet at its place
-abbrev pub IsNotYetLine : Played → List ℕ → Type 0
-IsNotYetLine played line = IsNotYet played (line_of line)
+  pub cause : IsBadLine played line
+  pub gains : Appends old new (transcript played ++ note_text (length done + 1))
 
 -- what a line that was broken off had played
 abbrev pub PlaysPartOfLine : Line → Played → Played → Type 0
 PlaysPartOfLine Bad before after = after ≡ before
-PlaysPartOfLine NotYet before after = after ≡ before
 PlaysPartOfLine (CommandLine command) before after = PlaysPart command before after
 
 -- What may be printed once a line is begun: the entries of a part of it, or the line that says that it stopped the script.
 abbrev pub MayPrint : Played → List ℕ → ℕ → List ℕ → Type 0
 MayPrint played line number whole =
     ((reached : Played) × PlaysPartOfLine (line_of line) played reached × (whole ≡ transcript reached))
-    ⊎ (IsBadLine played line × (whole ≡ transcript played ++ note_text (codes "bad line ") number))
-    ⊎ (IsNotYetLine played line × (whole ≡ transcript played ++ note_text (codes "not yet line ") number))
+    ⊎ (IsBadLine played line × (whole ≡ transcript played ++ note_text number))
 
 -- the same of the first of the lines that are left
 abbrev pub FirstMayPrint : Played → List (List ℕ) → ℕ → List ℕ → Type 0
@@ -93,4 +93,4 @@ pub record BreaksOff (script : List ℕ) (old new : Option (List ℕ)) : Type 0 
 
 -- the statuses of a script
 abbrev pub IsScriptStatus : ℕ → Type 0
-IsScriptStatus status = (status ≡ 0) ⊎ (status ≡ 3) ⊎ (status ≡ 4) ⊎ (status ≡ 5) ⊎ (status ≡ 6) ⊎ (status ≡ 7) ⊎ (status ≡ 8)
+IsScriptStatus status = (status ≡ 0) ⊎ (status ≡ 3) ⊎ (status ≡ 4) ⊎ (status ≡ 5) ⊎ (status ≡ 6) ⊎ (status ≡ 8)

@@ -11,10 +11,9 @@ status_of (Ok done) = 0
 status_of (Err stop.BadLine) = 3
 status_of (Err stop.WriteFault) = 5
 status_of (Err stop.NoMemory) = 6
-status_of (Err stop.NotYet) = 7
 
 -- why a command that was refused stops the script
 abbrev pub stop_of : HubError → Stop
-stop_of hub.NotYet = stop.NotYet
+stop_of hub.BadCommand = stop.BadLine
 stop_of hub.WriteFault = stop.WriteFault
 stop_of hub.NoMemory = stop.NoMemory

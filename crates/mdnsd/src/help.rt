@@ -5,7 +5,8 @@ use crate::notes::SCRIPT_HELP;
 const VERSION: &str = "mdnsd 0.1";
 
 /// The commands.
-pub const HELP: &str = "usage: mdnsd script < SCRIPT > TRANSCRIPT    plays a script for one daemon
+pub const HELP: &str =
+    "usage: mdnsd script < SCRIPT > TRANSCRIPT    plays a script for up to sixteen daemons
        mdnsd serve OPTIONS                  serves clients until it is stopped
        mdnsd script --help                  the lines of a script
        mdnsd serve --help                   the options of serve

@@ -7,13 +7,18 @@ use std::alloc::{AllocError, Global};
 /// The lines of a script.
 pub const SCRIPT_HELP: &str = "usage: mdnsd script < SCRIPT > TRANSCRIPT
 
-Plays a script for one daemon, and prints what the daemon does. The lines of a script:
+Plays a script for up to sixteen daemons on a link, and prints what they do. The lines of a script:
 
   daemon K              boots daemon K (1 to 16) without a host, at the address 10.0.0.K
   daemon K host LABEL IPV4 [IPV6]
                         boots daemon K with a host of that name under local
   at T                  runs all that is due up to T milliseconds
   word W                gives every later event the random word W
+  seed S                gives every later event the next random word of the seed S
+  delay D               lets packets that are sent from now on arrive D milliseconds later (1 to 10000)
+  lose N                lets the next N packets be lost
+  part A B              parts the daemons A and B
+  meet A B              lets them hear each other again
   open K                attaches a session
   close K S             detaches session S
   take K S N            takes at most N items of session S
@@ -26,7 +31,7 @@ register LABEL TYPE PORT auto|norename TXT, update TXT, or stop.";
 /// The words of a form in order: how each is called, and one that may stand there. Where both are the same, it is that very word.
 type Form = &'static [(&'static str, &'static str)];
 
-const FORMS: [Form; 16] = [
+const FORMS: [Form; 21] = [
     &[
         ("daemon", "daemon"),
         ("K", "1"),
@@ -37,6 +42,11 @@ const FORMS: [Form; 16] = [
     &[("daemon", "daemon"), ("K", "1")],
     &[("at", "at"), ("T", "0")],
     &[("word", "word"), ("W", "0")],
+    &[("seed", "seed"), ("S", "0")],
+    &[("delay", "delay"), ("D", "1")],
+    &[("lose", "lose"), ("N", "0")],
+    &[("part", "part"), ("A", "1"), ("B", "2")],
+    &[("meet", "meet"), ("A", "1"), ("B", "2")],
     &[("open", "open"), ("K", "1")],
     &[("close", "close"), ("K", "1"), ("S", "1")],
     &[("take", "take"), ("K", "1"), ("S", "1"), ("N", "1")],
@@ -130,7 +140,7 @@ pub fn note_on(alloc: Global, script: &[u8], number: u64) -> Result<String, Allo
         }
         rest = after;
     }
-    format!(in alloc; "line {number} is bad or not built yet")
+    format!(in alloc; "line {number} is bad")
 }
 
 // What was wanted in a line.
@@ -143,7 +153,7 @@ fn wanted(alloc: Global, line: &[u8]) -> Result<String, AllocError> {
     }
     String::from_str(
         alloc,
-        "daemon, at, word, open, close, take, hear or call is wanted as word 1",
+        "daemon, at, word, seed, delay, lose, part, meet, open, close, take, hear or call is wanted as word 1",
     )
 }
 

@@ -86,7 +86,7 @@ pub struct Output<W: Write> {
     stopped_at: Option<u64>,
 }
 
-// The number at the end of `bad line N` and `not yet line N`. A line with an entry begins with `@`.
+// The number at the end of `bad line N`. A line with an entry begins with `@`.
 fn line_named(piece: &[u8]) -> Option<u64> {
     let mut rest = piece.strip_suffix(b"\n")?;
     if rest.first() == Some(&b'@') {

@@ -1,12 +1,12 @@
 // A script, run line by line.
-ghost use Rattle.std.specs.Prelude.{ℕ, ◌≡◌, ◌≢◌, ◌⊎◌, ◌≤◌, Err, take, OnOk, OnErr, IfOk, codes, length};
+ghost use Rattle.std.specs.Prelude.{ℕ, ◌≡◌, ◌≢◌, ◌⊎◌, ◌≤◌, Err, take, OnOk, OnErr, IfOk, length};
 ghost use Rattle.std.specs.Io.KnownBytes.{Appends};
 ghost use Rattle.mdns_base.specs.Outside.{Rose};
 ghost use Rattle.mdns_script.specs.Lines.{line_of};
 ghost use Rattle.mdns_hub.specs.Played.{Played};
 ghost use Rattle.mdns_hub.specs.Hubs.{StandsFor, BreaksIn};
-ghost use Rattle.mdnsd.specs.Scripts.{note_text, IsNotYet};
-ghost use Rattle.mdnsd.specs.Statuses.{ReadAll, IsTooLarge, IsWithin, PlaysScript, Stops, IsBadLine, IsNotYetLine, BreaksOff, PlaysPartOfLine, IsScriptStatus};
+ghost use Rattle.mdnsd.specs.Scripts.{note_text};
+ghost use Rattle.mdnsd.specs.Statuses.{ReadAll, IsTooLarge, IsWithin, PlaysScript, Stops, IsBadLine, BreaksOff, PlaysPartOfLine, IsScriptStatus};
 ghost use Rattle.mdnsd.specs.Lines.{RanLine, StopsAt, BreaksAt, IsFault};
 
 use crate::input::{ReadError, read_all};
@@ -21,19 +21,16 @@ use std::alloc::{AllocError, Global};
 
 /// Reads the script to its end and runs it line by line. The answer is the status of the program:
 /// - 0: all lines were played, and the print of every entry was put.
-/// - 3: the first word of a line begins no line. The print of the lines before it was put, and a line that names it.
+/// - 3: a line is bad, or bad at its place. The print of the lines before it was put, and a line that names it.
 /// - 4: exactly where the source failed. Nothing is put.
 /// - 5: exactly where the sink failed. A beginning of what was to be put was put.
 /// - 6: memory was refused. What was put is as with 5.
-/// - 7: a line isn't built yet, or not at its place. What was put is as with 3.
 /// - 8: there are more than 67,108,864 bytes. Nothing is put.
 pub fn run_script<S: Source, K: Sink>(alloc: Global, input: &mut S, output: &mut K) -> u8
     ensures done { result ≡ 0 → ReadAll (S.left input.old) (S.left input.new)
         (λ script. PlaysScript script (K.held output.old) (K.held output.new)) }
     ensures bad { result ≡ 3 → ReadAll (S.left input.old) (S.left input.new)
-        (λ script. Stops script (codes "bad line ") IsBadLine (K.held output.old) (K.held output.new)) }
-    ensures not_yet { result ≡ 7 → ReadAll (S.left input.old) (S.left input.new)
-        (λ script. Stops script (codes "not yet line ") IsNotYetLine (K.held output.old) (K.held output.new)) }
+        (λ script. Stops script (K.held output.old) (K.held output.new)) }
 
     ensures read { result ≡ 4 → Rose (S.faults input.old) (S.faults input.new)
         × IsWithin (S.left input.old) (S.left input.new) × (output.new ≡ output.old) }
@@ -62,10 +59,7 @@ pub fn run_script<S: Source, K: Sink>(alloc: Global, input: &mut S, output: &mut
 fn run_lines<K: Sink>(alloc: Global, script: &[u8], output: &mut K) -> Result<(), Stop>
     requires { length script.now ≤ 67108864 }
     ensures done { OnOk result (PlaysScript script.now (K.held output.old) (K.held output.new)) }
-    ensures bad { result ≡ Err Stop.BadLine
-        → Stops script.now (codes "bad line ") IsBadLine (K.held output.old) (K.held output.new) }
-    ensures not_yet { result ≡ Err Stop.NotYet
-        → Stops script.now (codes "not yet line ") IsNotYetLine (K.held output.old) (K.held output.new) }
+    ensures bad { result ≡ Err Stop.BadLine → Stops script.now (K.held output.old) (K.held output.new) }
     ensures broken { IsFault result → BreaksOff script.now (K.held output.old) (K.held output.new) }
     ensures write { result ≡ Err Stop.WriteFault → Rose (K.faults output.old) (K.faults output.new) }
     ensures quiet { result ≢ Err Stop.WriteFault → K.faults output.new ≡ K.faults output.old }
@@ -85,7 +79,7 @@ fn run_lines<K: Sink>(alloc: Global, script: &[u8], output: &mut K) -> Result<()
     Ok(())
 }
 
-// Runs the line of a number. One whose first word begins no line, or that isn't built, is named in the output.
+// Runs the line of a number. One that is bad is named in the output.
 fn run_numbered<K: Sink>(
     alloc: Global,
     hub: &mut Hub,
@@ -95,17 +89,14 @@ fn run_numbered<K: Sink>(
 ) -> Result<(), Stop>
     ensures ran { OnOk result (RanLine hub.old line.now hub.new (K.held output.old) (K.held output.new)) }
     ensures bad { result ≡ Err Stop.BadLine
-        → StopsAt (codes "bad line ") IsBadLine hub.old line.now number (K.held output.old) (K.held output.new) }
-    ensures not_yet { result ≡ Err Stop.NotYet
-        → StopsAt (codes "not yet line ") IsNotYetLine hub.old line.now number (K.held output.old) (K.held output.new) }
+        → StopsAt hub.old line.now number (K.held output.old) (K.held output.new) }
     ensures broken { IsFault result → BreaksAt hub.old line.now number (K.held output.old) (K.held output.new) }
     ensures write { result ≡ Err Stop.WriteFault → Rose (K.faults output.old) (K.faults output.new) }
     ensures quiet { result ≢ Err Stop.WriteFault → K.faults output.new ≡ K.faults output.old }
     ensures later { K.faults output.old ≤ K.faults output.new }
 {
     match run_line(alloc, hub, line, output) {
-        Err(Stop::BadLine) => put_note(alloc, b"bad line ", number, Stop::BadLine, output),
-        Err(Stop::NotYet) => put_note(alloc, b"not yet line ", number, Stop::NotYet, output),
+        Err(Stop::BadLine) => put_note(alloc, number, output),
         ran => ran,
     }
 }
@@ -113,10 +104,8 @@ fn run_numbered<K: Sink>(
 // Runs a line, and puts the print of what it leads to.
 fn run_line<K: Sink>(alloc: Global, hub: &mut Hub, line: &[u8], output: &mut K) -> Result<(), Stop>
     ensures ran { OnOk result (RanLine hub.old line.now hub.new (K.held output.old) (K.held output.new)) }
-    ensures bad { result ≡ Err Stop.BadLine
-        → (line_of line.now ≡ Line.Bad) × (K.held output.new ≡ K.held output.old) }
-    ensures not_yet { result ≡ Err Stop.NotYet → (played : Played) → StandsFor hub.old played
-        → IsNotYet played (line_of line.now) × (K.held output.new ≡ K.held output.old) }
+    ensures bad { result ≡ Err Stop.BadLine → (played : Played) → StandsFor hub.old played
+        → IsBadLine played line.now × (K.held output.new ≡ K.held output.old) }
     ensures broken { IsFault result
         → BreaksIn (PlaysPartOfLine (line_of line.now)) hub.old (K.held output.old) (K.held output.new) }
     ensures write { result ≡ Err Stop.WriteFault → Rose (K.faults output.old) (K.faults output.new) }
@@ -125,7 +114,6 @@ fn run_line<K: Sink>(alloc: Global, hub: &mut Hub, line: &[u8], output: &mut K) 
 {
     match read_line(alloc, line)? {
         Line::Bad => Err(Stop::BadLine),
-        Line::NotYet => Err(Stop::NotYet),
         Line::Command(command) => {
             hub.run(command, output)?;
             Ok(())
@@ -133,35 +121,28 @@ fn run_line<K: Sink>(alloc: Global, hub: &mut Hub, line: &[u8], output: &mut K) 
     }
 }
 
-// Puts the line that names the line that stopped the script; the answer is why it stopped.
-fn put_note<K: Sink>(
-    alloc: Global,
-    words: &[u8],
-    number: u64,
-    stop: Stop,
-    output: &mut K,
-) -> Result<(), Stop>
-    requires { (stop ≡ Stop.BadLine) ⊎ (stop ≡ Stop.NotYet) }
-    ensures put { result ≡ Err stop → Appends (K.held output.old) (K.held output.new) (note_text words.now number) }
+// Puts the line that names the bad line; the answer is that there is one.
+fn put_note<K: Sink>(alloc: Global, number: u64, output: &mut K) -> Result<(), Stop>
+    ensures put { result ≡ Err Stop.BadLine → Appends (K.held output.old) (K.held output.new) (note_text number) }
     ensures part { IsFault result → (n : ℕ)
-        × Appends (K.held output.old) (K.held output.new) (take n (note_text words.now number)) }
-    ensures others { (result ≡ Err stop) ⊎ IsFault result }
+        × Appends (K.held output.old) (K.held output.new) (take n (note_text number)) }
+    ensures others { (result ≡ Err Stop.BadLine) ⊎ IsFault result }
     ensures write { result ≡ Err Stop.WriteFault → Rose (K.faults output.old) (K.faults output.new) }
     ensures quiet { result ≢ Err Stop.WriteFault → K.faults output.new ≡ K.faults output.old }
     ensures later { K.faults output.old ≤ K.faults output.new }
 {
-    let note = note(alloc, words, number)?;
+    let note = note(alloc, number)?;
     match output.put(note.as_slice()) {
-        Ok(()) => Err(stop),
+        Ok(()) => Err(Stop::BadLine),
         Err(_) => Err(Stop::WriteFault),
     }
 }
 
-fn note(alloc: Global, words: &[u8], number: u64) -> Result<Vec<u8>, AllocError>
-    ensures { IfOk result (λ text. text.items ≡ note_text words.now number) }
+fn note(alloc: Global, number: u64) -> Result<Vec<u8>, AllocError>
+    ensures { IfOk result (λ text. text.items ≡ note_text number) }
 {
     let mut out = Vec::new(alloc);
-    out.extend_from_slice(words)?;
+    out.extend_from_slice(b"bad line ")?;
     put_decimal(&mut out, number)?;
     out.extend_from_slice(b"\n")?;
     Ok(out)

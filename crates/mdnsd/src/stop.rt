@@ -11,7 +11,7 @@ pub const DONE: u8 = 0;
 /// The words are no command.
 pub const USAGE: u8 = 2;
 
-/// The first word of a line begins no line.
+/// A line is bad, or bad at its place.
 pub const BAD_LINE: u8 = 3;
 
 /// The source failed.
@@ -22,9 +22,6 @@ pub const WRITE_FAULT: u8 = 5;
 
 /// Memory was refused.
 pub const NO_MEMORY: u8 = 6;
-
-/// A line of the script isn't built yet.
-pub const NOT_YET: u8 = 7;
 
 /// The input has more than 67,108,864 bytes.
 pub const TOO_LARGE: u8 = 8;
@@ -41,10 +38,8 @@ pub const LINK_FAULT: u8 = 11;
 /// Why a script stopped before its end.
 #[derive(Clone, Copy, Debug, PartialEq, Eq)]
 pub enum Stop {
-    /// The first word of a line begins no line.
+    /// A line is bad, or bad at its place.
     BadLine,
-    /// A line isn't built yet, or not at its place.
-    NotYet,
     /// The sink failed.
     WriteFault,
     /// Memory was refused.
@@ -58,7 +53,6 @@ pub fn status_of(ran: Result<(), Stop>) -> u8
     match ran {
         Ok(()) => DONE,
         Err(Stop::BadLine) => BAD_LINE,
-        Err(Stop::NotYet) => NOT_YET,
         Err(Stop::WriteFault) => WRITE_FAULT,
         Err(Stop::NoMemory) => NO_MEMORY,
     }
@@ -79,7 +73,7 @@ impl From<HubError> for Stop {
 
     fn from(error: HubError) -> Self {
         match error {
-            HubError::NotYet => Stop::NotYet,
+            HubError::BadCommand => Stop::BadLine,
             HubError::WriteFault => Stop::WriteFault,
             HubError::NoMemory => Stop::NoMemory,
         }

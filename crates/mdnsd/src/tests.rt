@@ -11,6 +11,7 @@ mod announced;
 mod claims;
 mod held_back;
 mod large;
+mod linked;
 mod played;
 mod program;
 mod rows;

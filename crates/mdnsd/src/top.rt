@@ -1,11 +1,11 @@
 // The call that the program makes.
 ghost use Rattle.std.specs.Io.KnownBytes.{Appends};
-ghost use Rattle.std.specs.Prelude.{◌≡◌, ◌⊎◌, ◌≢◌, ℕ, codes, take};
+ghost use Rattle.std.specs.Prelude.{◌≡◌, ◌⊎◌, ◌≢◌, ℕ, take};
 ghost use Rattle.mdns_base.specs.Outside.{Rose};
 ghost use Rattle.mdns_outside.specs.declared.plan.ServePlan.{ServePlan};
 ghost use Rattle.mdns_server.specs.Endings.{IsServeStatus, serving_line};
 ghost use Rattle.mdnsd_serve.specs.Serving.{Serves};
-ghost use Rattle.mdnsd.specs.Statuses.{Stops, IsBadLine, IsNotYetLine, PlaysScript, BreaksOff, ReadAll, IsTooLarge, IsWithin, IsScriptStatus};
+ghost use Rattle.mdnsd.specs.Statuses.{Stops, PlaysScript, BreaksOff, ReadAll, IsTooLarge, IsWithin, IsScriptStatus};
 ghost use Rattle.mdnsd.specs.Words.{AreNoCommand, AreScript, AskFor, LackMemory};
 
 use crate::command::{is_script, serve_words, words_of};
@@ -43,9 +43,7 @@ pub fn mdnsd<R: Wait + Copy + Send + 'static, S: Source, K: Sink, P: Place>(
     ensures done { AreScript args → result ≡ 0 → ReadAll (S.left input.old) (S.left input.new)
         (λ script. PlaysScript script (K.held output.old) (K.held output.new)) }
     ensures bad { result ≡ 3 → ReadAll (S.left input.old) (S.left input.new)
-        (λ script. Stops script (codes "bad line ") IsBadLine (K.held output.old) (K.held output.new)) }
-    ensures not_yet { result ≡ 7 → ReadAll (S.left input.old) (S.left input.new)
-        (λ script. Stops script (codes "not yet line ") IsNotYetLine (K.held output.old) (K.held output.new)) }
+        (λ script. Stops script (K.held output.old) (K.held output.new)) }
     ensures read { result ≡ 4 → Rose (S.faults input.old) (S.faults input.new)
         × IsWithin (S.left input.old) (S.left input.new) × (output.new ≡ output.old) }
     ensures quiet_source { result ≢ 4 → S.faults input.new ≡ S.faults input.old }

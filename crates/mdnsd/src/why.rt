@@ -2,8 +2,8 @@
 use crate::help::HELP;
 use crate::notes::note_on;
 use crate::stop::{
-    BAD_LINE, DOOR_FAULT, LINK_FAULT, NO_MEMORY, NOT_YET, READ_FAULT, SPAWN_FAULT, TOO_LARGE,
-    USAGE, WRITE_FAULT,
+    BAD_LINE, DOOR_FAULT, LINK_FAULT, NO_MEMORY, READ_FAULT, SPAWN_FAULT, TOO_LARGE, USAGE,
+    WRITE_FAULT,
 };
 use mdns_real::Trouble;
 use mdnsd_serve::say_wrong;
@@ -22,7 +22,7 @@ pub fn why(
 ) -> Result<String, AllocError> {
     match status {
         USAGE => wrong_words(alloc, words),
-        BAD_LINE | NOT_YET => match stopped {
+        BAD_LINE => match stopped {
             Some((script, line)) => note_on(alloc, script, line),
             None => String::from_str(alloc, "the script has a bad line"),
         },

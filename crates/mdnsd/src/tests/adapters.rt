@@ -131,11 +131,11 @@ fn a_pipe_carries_pieces_whole(rt: HostRuntime) -> Result<(), Fail> {
 }
 
 // Lines that stop a script, and what is said of them.
-const NOTES: [(&str, &str); 10] = [
-    ("", "line 1 is bad or not built yet"),
+const NOTES: [(&str, &str); 12] = [
+    ("", "line 1 is bad"),
     (
         "fly 1",
-        "line 1: daemon, at, word, open, close, take, hear or call is wanted as word 1",
+        "line 1: daemon, at, word, seed, delay, lose, part, meet, open, close, take, hear or call is wanted as word 1",
     ),
     ("daemon 17", "line 1: K is wanted as word 2 of `daemon K`"),
     (
@@ -159,6 +159,8 @@ const NOTES: [(&str, &str); 10] = [
         "call 1 1 1 ask",
         "line 1: REQUEST is wanted as word 5 of `call K S OP REQUEST`",
     ),
+    ("delay 0", "line 1: D is wanted as word 2 of `delay D`"),
+    ("part 1 17", "line 1: B is wanted as word 3 of `part A B`"),
     ("open 2", "line 1: `open K` isn't in place here"),
 ];
 

@@ -22,20 +22,20 @@ fn scripts(rt: HostRuntime) -> Result<(), Fail> {
         ("# daemon 1\n\nat 5\r\n", "", 0),
         (
             "daemon 1\nhear 2 10.0.0.9 5353 -\n",
-            "@0 d1 w0 boot 10.0.0.1\nnot yet line 2\n",
-            7,
+            "@0 d1 w0 boot 10.0.0.1\nbad line 2\n",
+            3,
         ),
-        ("open 1\n", "not yet line 1\n", 7),
-        ("at 86400001\n", "not yet line 1\n", 7),
+        ("open 1\n", "bad line 1\n", 3),
+        ("at 86400001\n", "bad line 1\n", 3),
         (
             "daemon 1\ndaemon 1\n",
-            "@0 d1 w0 boot 10.0.0.1\nnot yet line 2\n",
-            7,
+            "@0 d1 w0 boot 10.0.0.1\nbad line 2\n",
+            3,
         ),
         // A host's label is text without control characters, and a bare dot doesn't stand in it.
-        ("daemon 1 host a\\009b 10.0.0.1\n", "not yet line 1\n", 7),
-        ("daemon 1 host a.b 10.0.0.1\n", "not yet line 1\n", 7),
-        ("daemon 1 host \\200 10.0.0.1\n", "not yet line 1\n", 7),
+        ("daemon 1 host a\\009b 10.0.0.1\n", "bad line 1\n", 3),
+        ("daemon 1 host a.b 10.0.0.1\n", "bad line 1\n", 3),
+        ("daemon 1 host \\200 10.0.0.1\n", "bad line 1\n", 3),
         (
             "daemon 1 host H\\032é 10.0.0.1\n",
             "@0 d1 w0 boot 10.0.0.1 H\\032\\195\\169\n",
@@ -43,20 +43,41 @@ fn scripts(rt: HostRuntime) -> Result<(), Fail> {
         ),
         (
             "daemon 1 host h 10.0.0.1 fe80:0000:0000:0000:0000:0000:0000:0001\ndaemon 1\n",
-            "@0 d1 w0 boot 10.0.0.1 h fe80:0000:0000:0000:0000:0000:0000:0001\nnot yet line 2\n",
-            7,
+            "@0 d1 w0 boot 10.0.0.1 h fe80:0000:0000:0000:0000:0000:0000:0001\nbad line 2\n",
+            3,
         ),
         (
             "daemon 1\nopen 2\n",
-            "@0 d1 w0 boot 10.0.0.1\nnot yet line 2\n",
-            7,
+            "@0 d1 w0 boot 10.0.0.1\nbad line 2\n",
+            3,
         ),
         (
             "daemon 1\nat 5\nopen 1\nat 4\n",
-            "@0 d1 w0 boot 10.0.0.1\n@5 d1 w0 open\n = opened 1\nnot yet line 4\n",
-            7,
+            "@0 d1 w0 boot 10.0.0.1\n@5 d1 w0 open\n = opened 1\nbad line 4\n",
+            3,
         ),
         ("daemon 1\nfly", "@0 d1 w0 boot 10.0.0.1\nbad line 2\n", 3),
+        (
+            "daemon 1\ndaemon 16\npart 1 16\nmeet 16 1\nmeet 1 1\npart 1 1\n",
+            "@0 d1 w0 boot 10.0.0.1\n@0 d16 w0 boot 10.0.0.16\nbad line 6\n",
+            3,
+        ),
+        (
+            "daemon 1\npart 1 2\n",
+            "@0 d1 w0 boot 10.0.0.1\nbad line 2\n",
+            3,
+        ),
+        (
+            "delay 10000\nlose 1000000\nlose 1000001\n",
+            "bad line 3\n",
+            3,
+        ),
+        (
+            "seed 0\ndaemon 1\nopen 1\nword 7\nopen 1\nseed 0\nopen 1\n",
+            "@0 d1 w804192318 boot 10.0.0.1\n@0 d1 w3594542985 open\n = opened 1\n\
+             @0 d1 w7 open\n = opened 2\n@0 d1 w804192318 open\n = opened 3\n",
+            0,
+        ),
     ] {
         expect(&rt, rt.alloc(), script, output, status)?;
     }

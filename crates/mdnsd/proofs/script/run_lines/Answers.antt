@@ -1,8 +1,6 @@
 use Rattle.std.proofs.Common.{◌∙◌, arith, ap}
-use Rattle.std.specs.Prelude.{codes}
 use Rattle.std.proofs.lemmas.Result.{err_from_is_err_and}
 use Rattle.mdnsd.specs.Scripts.{lines_of}
-use Rattle.mdnsd.specs.Statuses.{IsBadLine, IsNotYetLine}
 use Rattle.mdnsd.proofs.Taking.{no_lines}
 use Rattle.mdnsd.proofs.Running.{ran_next, ran_whole, ran_stops, ran_breaks}
 use Rattle.mdnsd.proofs.script.run_lines.Goals as goal
@@ -24,12 +22,7 @@ returns-clause-done g c =
 pub returns-in_err-run_numbered-clause-bad : goal.returns-in_err-run_numbered-clause-bad
 returns-in_err-run_numbered-clause-bad g c = let p = err_from_is_err_and c.from_residual.result c.from_residual.ensures.1 in rw (p.1, p.2) (λ stop.
     ran_stops c.args.script.now c.lines.rest.now c.in-Some.line.now c.in-Some.after.now c.lines.number c.lines.hub
-    (g.K.Sink.held c.args.output.now) (g.K.Sink.held c.lines.output) (g.K.Sink.held c.run_numbered.new.output) (codes "bad line ") IsBadLine c.lines.invariant.ran c.in-Some.ensures (c.in_err-run_numbered.ensures.bad stop))
-
-pub returns-in_err-run_numbered-clause-not_yet : goal.returns-in_err-run_numbered-clause-not_yet
-returns-in_err-run_numbered-clause-not_yet g c = let p = err_from_is_err_and c.from_residual.result c.from_residual.ensures.1 in rw (p.1, p.2) (λ stop.
-    ran_stops c.args.script.now c.lines.rest.now c.in-Some.line.now c.in-Some.after.now c.lines.number c.lines.hub
-    (g.K.Sink.held c.args.output.now) (g.K.Sink.held c.lines.output) (g.K.Sink.held c.run_numbered.new.output) (codes "not yet line ") IsNotYetLine c.lines.invariant.ran c.in-Some.ensures (c.in_err-run_numbered.ensures.not_yet stop))
+    (g.K.Sink.held c.args.output.now) (g.K.Sink.held c.lines.output) (g.K.Sink.held c.run_numbered.new.output) c.lines.invariant.ran c.in-Some.ensures (c.in_err-run_numbered.ensures.bad stop))
 
 pub returns-in_err-run_numbered-clause-broken : goal.returns-in_err-run_numbered-clause-broken
 returns-in_err-run_numbered-clause-broken g c = let p = err_from_is_err_and c.from_residual.result c.from_residual.ensures.1 in rw (p.1, p.2) (λ fault.

@@ -1,7 +1,6 @@
 use Rattle.std.proofs.Common.{◌∙◌, inl, inr, sym}
-use Rattle.std.specs.Prelude.{codes}
-use Rattle.mdnsd.specs.Statuses.{PlaysScript, Stops, IsBadLine, IsNotYetLine, BreaksOff}
-use Rattle.mdnsd.proofs.Running.{read_as, from_done, from_bad, from_not_yet, from_write_fault, from_no_memory}
+use Rattle.mdnsd.specs.Statuses.{PlaysScript, Stops, BreaksOff}
+use Rattle.mdnsd.proofs.Running.{read_as, from_done, from_bad, from_write_fault, from_no_memory}
 use Rattle.mdnsd.proofs.script.run_script.Goals as goal
 
 pub returns-in-Ok-clause-done : goal.returns-in-Ok-clause-done
@@ -11,13 +10,8 @@ returns-in-Ok-clause-done g c = λ status. let old = g.K.Sink.held c.args.output
 
 pub returns-in-Ok-clause-bad : goal.returns-in-Ok-clause-bad
 returns-in-Ok-clause-bad g c = λ status. let old = g.K.Sink.held c.args.output.now in let new = g.K.Sink.held c.run_lines.new.output in
-    read_as (g.S.Source.left c.args.input.now) (g.S.Source.left c.read_all.new.input) c.in-Ok.script.items (λ script. Stops script (codes "bad line ") IsBadLine old new) c.in-Ok.ensures.all
+    read_as (g.S.Source.left c.args.input.now) (g.S.Source.left c.read_all.new.input) c.in-Ok.script.items (λ script. Stops script old new) c.in-Ok.ensures.all
     (rw c.as_slice.ensures.value at (c.run_lines.ensures.bad (from_bad c.run_lines.result (sym c.status_of.ensures ∙ status))))
-
-pub returns-in-Ok-clause-not_yet : goal.returns-in-Ok-clause-not_yet
-returns-in-Ok-clause-not_yet g c = λ status. let old = g.K.Sink.held c.args.output.now in let new = g.K.Sink.held c.run_lines.new.output in
-    read_as (g.S.Source.left c.args.input.now) (g.S.Source.left c.read_all.new.input) c.in-Ok.script.items (λ script. Stops script (codes "not yet line ") IsNotYetLine old new) c.in-Ok.ensures.all
-    (rw c.as_slice.ensures.value at (c.run_lines.ensures.not_yet (from_not_yet c.run_lines.result (sym c.status_of.ensures ∙ status))))
 
 pub returns-in-Ok-clause-broken : goal.returns-in-Ok-clause-broken
 returns-in-Ok-clause-broken g c = λ status. let old = g.K.Sink.held c.args.output.now in let new = g.K.Sink.held c.run_lines.new.output in

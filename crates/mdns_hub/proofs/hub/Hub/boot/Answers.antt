@@ -1,43 +1,54 @@
-use Rattle.std.proofs.Common.{ℕ, ◌∷◌, [], ◌≡◌, Option, None, subst, take, inr, refl}
 use Rattle.std.proofs.lemmas.Result.{err_from_is_err_and}
-use Rattle.std.specs.Io.KnownBytes.{Appends}
-use Rattle.mdns_history.specs.declared.entry.Entry.{Entry}
-use Rattle.mdns_history.specs.EntryText.{entry_text}
-use Rattle.mdns_step.specs.State.{Stands}
-use Rattle.mdns_hub.specs.declared.hub.Booted.{Booted}
-use Rattle.mdns_hub.specs.Hubs.{BootedFor}
+use Rattle.std.proofs.Common.{◌≡◌, ◌∙◌, ℕ, true, List, Option, ap, refl, sym, arith}
+use Rattle.std.specs.Option.{is_some}
+use Rattle.mdns_hub.specs.declared.daemons.Booted.{Booted}
+use Rattle.mdns_hub.specs.Slots.{is_kept}
+use Rattle.mdns_hub.proofs.Slotted.{done_or_not, behind_boot, behind_same, kept_boot}
+use Rattle.mdns_hub.proofs.Fitness.{fit_kept}
 use Rattle.mdns_hub.proofs.Written.{on_err_from}
-use Rattle.mdns_hub.proofs.Playing.{boots, boots_part, none_from, puts_no_part}
+use Rattle.mdns_hub.proofs.Happening.{breaks_at_once, boot_done, boot_broke}
+use Rattle.mdns_hub.specs.Plays.{Boots}
 use Rattle.mdns_hub.proofs.hub.Hub.boot.Goals as goal
 
-pub returns-clause-done : goal.returns-clause-done
-returns-clause-done g c = λ played stands.
-    let empty : c.args.self.now.booted ≡ None = none_from c.args.self.now.booted c.requires.free in
-    let booted = subst (λ (b : Option Booted). BootedFor b played) empty stands.booted in
-    let old = g.K.Sink.held c.args.output.now in
-    let new = g.K.Sink.held c.put_entry.new.output in
-    let number = c.args.number in
-    let entry = c.in_ok-daemon.ensures.entry in
-    let next = boots old new c.args.self.now.clock c.args.self.now.word number c.args.config c.in_ok-daemon.daemon played stands.clock stands.word booted.0 c.args.self.now.bound
-    (subst (λ (e : Entry). Stands c.in_ok-daemon.daemon (e ∷ [])) entry c.in_ok-daemon.ensures.stands)
-    (subst (λ (e : Entry). Appends old new (entry_text number e)) entry c.in_ok-put_entry.ensures.text) in
-    (next.0, next.1, record { clock = next.2; word = next.3; booted = (next.4, next.5) }, next.6)
+pub returns-in_err-daemon-clause-part : goal.returns-in_err-daemon-clause-part
+returns-in_err-daemon-clause-part g c = on_err_from c.from_residual.result
+    (breaks_at_once (Boots c.args.number c.args.config) c.args.self.now (g.K.Sink.held c.args.output.now) (g.K.Sink.held c.args.output.now) refl)
+
+pub invariant_of-self-2-clause-bound : goal.invariant_of-self-2-clause-bound
+invariant_of-self-2-clause-bound g c = c.args.self.now.bound
+
+pub invariant_of-self-2-clause-behind : goal.invariant_of-self-2-clause-behind
+invariant_of-self-2-clause-behind g c =
+    let daemon : Booted = record { address = c.args.config.address; daemon = c.in_ok-daemon.daemon } in
+    done_or_not c.boot.result c.boot.ensures.done c.boot.ensures.err
+    (λ put. behind_boot c.args.number c.args.self.now.clock c.args.self.now.daemons.slots.items c.boot.new.self.slots.items daemon put (omega (arith, c.in_ok-daemon.ensures.last)) c.args.self.now.behind)
+    (λ same. behind_same c.args.self.now.clock c.args.self.now.daemons.slots.items c.boot.new.self.slots.items same c.args.self.now.behind)
+
+pub invariant_of-self-2-clause-fit : goal.invariant_of-self-2-clause-fit
+invariant_of-self-2-clause-fit g c =
+    let daemon : Booted = record { address = c.args.config.address; daemon = c.in_ok-daemon.daemon } in
+    let slots : List (Option Booted) = c.args.self.now.daemons.slots.items in
+    let more : (other : ℕ) → is_kept slots other ≡ true → is_kept c.boot.new.self.slots.items other ≡ true = done_or_not c.boot.result c.boot.ensures.done c.boot.ensures.err
+    (λ put. kept_boot c.args.number slots c.boot.new.self.slots.items daemon put)
+    (λ same other h. ap is_some (same other) ∙ h) in
+    fit_kept c.args.self.now.clock (is_kept slots) (is_kept c.boot.new.self.slots.items) more c.args.self.now.link.under_way.items c.args.self.now.fit
+
+pub returns-in_err-boot-clause-part : goal.returns-in_err-boot-clause-part
+returns-in_err-boot-clause-part g c = on_err_from c.from_residual-in_err-boot.result
+    (breaks_at_once (Boots c.args.number c.args.config) c.args.self.now (g.K.Sink.held c.args.output.now) (g.K.Sink.held c.args.output.now) refl)
 
 pub returns-in_err-put_entry-clause-part : goal.returns-in_err-put_entry-clause-part
-returns-in_err-put_entry-clause-part g c = on_err_from c.from_residual-in_err-put_entry.result (λ played stands.
-    let empty : c.args.self.now.booted ≡ None = none_from c.args.self.now.booted c.requires.free in
-    let booted = subst (λ (b : Option Booted). BootedFor b played) empty stands.booted in
-    let old = g.K.Sink.held c.args.output.now in
-    let new = g.K.Sink.held c.put_entry.new.output in
-    let number = c.args.number in
-    boots_part old new c.args.self.now.clock c.args.self.now.word number c.args.config played stands.clock stands.word booted.0 c.args.self.now.bound
-    (subst (λ (e : Entry). (n : ℕ) × Appends old new (take n (entry_text number e))) c.in_ok-daemon.ensures.entry c.in_err-put_entry.ensures.part))
+returns-in_err-put_entry-clause-part g c = on_err_from c.from_residual-in_err-put_entry.result
+    (boot_broke c.args.number c.take-word.result c.args.config c.in_ok-daemon.entry c.args.self.now (g.K.Sink.held c.args.output.now) (g.K.Sink.held c.put_entry.new.output) c.args.self.now.bound c.requires.free
+    c.take-word.ensures.word c.in_ok-daemon.ensures.entry c.in_err-put_entry.ensures.part)
 
 pub returns-in_err-put_entry-clause-cause : goal.returns-in_err-put_entry-clause-cause
 returns-in_err-put_entry-clause-cause g c =
     let p = err_from_is_err_and c.from_residual-in_err-put_entry.result c.from_residual-in_err-put_entry.ensures.1 in
     rw (p.1, p.2) c.in_err-put_entry.ensures.cause
 
-pub returns-in_err-daemon-clause-part : goal.returns-in_err-daemon-clause-part
-returns-in_err-daemon-clause-part g c = on_err_from c.from_residual.result (λ played stands.
-    (played, inr refl, puts_no_part (g.K.Sink.held c.args.output.now) (g.K.Sink.held c.args.output.now) played refl))
+pub returns-clause-done : goal.returns-clause-done
+returns-clause-done g c =
+    boot_done c.args.number c.take-word.result c.args.config c.in_ok-daemon.entry c.args.self.now _ (record { address = c.args.config.address; daemon = c.in_ok-daemon.daemon })
+    (g.K.Sink.held c.args.output.now) (g.K.Sink.held c.put_entry.new.output) c.args.self.now.bound c.requires.free c.take-word.ensures.word c.in_ok-boot.ensures.done refl c.in_ok-daemon.ensures.entry
+    c.in_ok-daemon.ensures.stands refl c.take-word.ensures.after refl c.in_ok-put_entry.ensures.text

@@ -1,32 +1,39 @@
-use Rattle.std.proofs.Common.{Option, refl, sym, subst}
-use Rattle.std.proofs.lemmas.Result.{on_ok_weaker, on_err_weaker}
-use Rattle.mdns_hub.specs.declared.hub.Booted.{Booted}
-use Rattle.mdns_hub.specs.Played.{Played}
-use Rattle.mdns_hub.specs.Hubs.{BootedFor}
-use Rattle.mdns_hub.proofs.Playing.{puts_nothing, runs_to, runs_to-none, runs_to_part}
+use Rattle.std.proofs.Common.{◌≡◌, ◌∙◌, ◌+◌, ◌≤◌, ◌<◌, ℕ, Option, IfSome, refl, sym, subst, arith}
+use Rattle.mdns_hub.specs.Running.{ComesFrom}
+use Rattle.mdns_hub.proofs.Written.{on_err_from}
+use Rattle.mdns_hub.proofs.Runs.{advances_then, advances_later, breaks_then, breaks_later, run_advances}
 use Rattle.mdns_hub.proofs.hub.Hub.run_to.Goals as goal
+use Rattle.mdns_hub.proofs.hub.Hub.run_to.Goals.{in-Some+then-moment-until, in_default}
 
-pub returns-in-Some-clause-done : goal.returns-in-Some-clause-done
-returns-in-Some-clause-done g c = on_ok_weaker c.tick_to.result (λ done played stands.
-    let booted = subst (λ (b : Option Booted). BootedFor b played) c.in-Some.is stands.booted in
-    let next = runs_to (g.K.Sink.held c.args.output.now) (g.K.Sink.held c.tick_to.new.output) c.args.self.now.clock c.args.self.now.word c.args.moment c.in-Some.booted.number
-    c.in-Some.booted.daemon c.tick_to.new.daemon played stands.clock stands.word booted.0 booted.1 done in
-    (next.0, next.1, record { clock = next.2; word = next.3; booted = (next.4, next.5) }, next.6))
-    c.tick_to.ensures.done
+pub pass-requires-clause-first : goal.pass-requires-clause-first
+pass-requires-clause-first g c =
+    let from : c.moments.self.clock ≤ c.in-Some.moment = subst (λ (o : Option ℕ). IfSome o (λ first. c.moments.self.clock ≤ first)) c.in-Some.is c.moments.invariant.from in
+    let same : c.in-Some.moment ≤ c.in-Some.moment = omega arith in
+    c.moments.invariant.first c.in-Some.moment from (subst (λ (o : Option ℕ). IfSome o (λ first. c.in-Some.moment ≤ first)) (sym c.in-Some.is) same)
 
-pub returns-in-Some-clause-part : goal.returns-in-Some-clause-part
-returns-in-Some-clause-part g c = on_err_weaker c.tick_to.result (λ part played stands.
-    let booted = subst (λ (b : Option Booted). BootedFor b played) c.in-Some.is stands.booted in
-    runs_to_part (g.K.Sink.held c.args.output.now) (g.K.Sink.held c.tick_to.new.output) c.args.self.now.clock c.args.self.now.word c.args.moment c.in-Some.booted.number
-    c.in-Some.booted.daemon played stands.clock stands.word booted.0 booted.1 part)
-    c.tick_to.ensures.part
+pub returns-in_err-pass-clause-part : goal.returns-in_err-pass-clause-part
+returns-in_err-pass-clause-part g c = on_err_from c.from_residual.result
+    (breaks_then c.args.until c.args.self.now c.moments.self (g.K.Sink.held c.args.output.now) (g.K.Sink.held c.moments.output) (g.K.Sink.held c.pass.new.output) c.moments.invariant.ran
+    (breaks_later c.in-Some.moment c.args.until c.moments.self (g.K.Sink.held c.moments.output) (g.K.Sink.held c.pass.new.output) c.if-moment-until.false c.in_err-pass.ensures.part))
 
-pub returns-in-None-clause-done : goal.returns-in-None-clause-done
-returns-in-None-clause-done g c = λ played stands.
-    let booted = subst (λ (b : Option Booted). BootedFor b played) c.in-None.is stands.booted in
-    let next : Played = record played { clock = c.args.moment } in (
-      next,
-      runs_to-none c.args.moment played booted.1,
-      record { clock = refl; word = stands.word; booted = subst (λ (b : Option Booted). BootedFor b next) (sym c.in-None.is) (booted.0, booted.1) },
-      puts_nothing (g.K.Sink.held c.args.output.now) played next refl,
-    )
+pub moments-preserved : goal.moments-preserved
+moments-preserved g c = record {
+  clock = omega (arith, c.in_ok-pass.ensures.clock, c.if-moment-until.false);
+  ran = advances_then c.args.until c.args.self.now c.moments.self c.pass.new.self (g.K.Sink.held c.args.output.now) (g.K.Sink.held c.moments.output) (g.K.Sink.held c.pass.new.output) c.moments.invariant.ran
+      (advances_later c.in-Some.moment c.args.until c.moments.self c.pass.new.self (g.K.Sink.held c.moments.output) (g.K.Sink.held c.pass.new.output) c.if-moment-until.false c.in_ok-pass.ensures.done);
+  from = c.next_moment-next-in-Some.ensures.from;
+  first = c.next_moment-next-in-Some.ensures.first;
+  quiet = c.in_ok-pass.ensures.cause.quiet (λ e. cc) ∙ c.moments.invariant.quiet;
+}
+
+pub returns-clause-done : goal.returns-clause-done
+returns-clause-done g c =
+    let over : IfSome c.moments.next (λ first. c.args.until + 1 ≤ first) = elim c.match-next.branch [
+      | in-Some+then-moment-until w ↦
+          let late : c.args.until + 1 ≤ w.in-Some.moment = omega (arith, w.if-moment-until.true) in
+          subst (λ (o : Option ℕ). IfSome o (λ first. c.args.until + 1 ≤ first)) (sym w.in-Some.is) late
+      | in_default w ↦ subst (λ (o : Option ℕ). IfSome o (λ first. c.args.until + 1 ≤ first)) (sym w.in_default.is) tt
+    ] in
+    let from : ComesFrom (c.args.until + 1) c.moments.self = c.moments.invariant.first (c.args.until + 1) (omega (arith, c.moments.invariant.clock)) over in
+    run_advances c.steps_follow_the_history.ensures.due c.args.until c.args.self.now c.moments.self _ (g.K.Sink.held c.args.output.now) (g.K.Sink.held c.moments.output) from c.moments.invariant.clock
+    refl refl refl refl c.moments.invariant.ran
