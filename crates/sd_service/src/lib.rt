@@ -7,7 +7,7 @@ mod order;
 mod service;
 
 pub use host::{host_name, host_records};
-pub use nsec::{nsec_of, unique_records_have_a_bitmap};
+pub use nsec::{is_nsec_of, nsec_of, unique_records_have_a_bitmap};
 pub use service::{Service, service_name, service_records, shared_records};
 
 #[cfg(test)]

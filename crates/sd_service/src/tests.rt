@@ -1,5 +1,8 @@
 // The records of hosts and services, as RFC 6762 and 6763 have them.
-use crate::{Service, host_name, host_records, nsec_of, service_name, service_records};
+ghost use Rattle.std.specs.Prelude.{IfOk, IsTrue};
+ghost use Rattle.sd_service.specs.Bitmaps.{have_bitmap};
+
+use crate::{Service, host_name, host_records, is_nsec_of, nsec_of, service_name, service_records};
 use bytes::Bytes;
 use dns_message::Rrs;
 use dns_name::{Label, Name};
@@ -177,7 +180,28 @@ fn types_stand_in_a_bitmap(rt: HostRuntime) -> Result<(), Fail> {
     Ok(())
 }
 
+// A record is the NSEC record of its own name and types alone, whatever its flush bit and TTL.
+#[test]
+fn an_nsec_record_is_known_again(rt: HostRuntime) -> Result<(), Fail> {
+    let alloc = rt.alloc();
+    let name = name_of("h.local")?;
+    let other = name_of("g.local")?;
+    let mut rr = host_nsec(alloc, &name)?;
+    rr.flush = false;
+    rr.ttl = 0;
+    assert!(rt; is_nsec_of(&rr, &name, &host_unique(&name)));
+    assert!(rt; !is_nsec_of(&rr, &other, &host_unique(&name)));
+    assert!(rt; !is_nsec_of(&rr, &name, &service_unique(alloc, &name)?));
+    Ok(())
+}
+
 fn host_nsec(alloc: Global, name: &Name) -> Result<Rr, Fail> {
+    Ok(nsec_of(alloc, name, &host_unique(name))?)
+}
+
+fn host_unique(name: &Name) -> [Rr; 2]
+    ensures { IsTrue (have_bitmap result) }
+{
     let a = Rr {
         owner: name.copy(),
         flush: true,
@@ -190,10 +214,16 @@ fn host_nsec(alloc: Global, name: &Name) -> Result<Rr, Fail> {
         ttl: 120,
         rdata: Rdata::Aaaa(1),
     };
-    Ok(nsec_of(alloc, name, &[a, aaaa])?)
+    [a, aaaa]
 }
 
 fn service_nsec(alloc: Global, name: &Name) -> Result<Rr, Fail> {
+    Ok(nsec_of(alloc, name, &service_unique(alloc, name)?)?)
+}
+
+fn service_unique(alloc: Global, name: &Name) -> Result<[Rr; 2], Fail>
+    ensures { IfOk result (λ unique. IsTrue (have_bitmap unique)) }
+{
     let txt = Rr {
         owner: name.copy(),
         flush: true,
@@ -211,5 +241,5 @@ fn service_nsec(alloc: Global, name: &Name) -> Result<Rr, Fail> {
             target: name.copy(),
         },
     };
-    Ok(nsec_of(alloc, name, &[txt, srv])?)
+    Ok([txt, srv])
 }
