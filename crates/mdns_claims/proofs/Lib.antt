@@ -21,3 +21,4 @@ pub mod Ticked
 pub mod Made
 pub mod Changed
 pub mod Ahead
+pub mod Known

@@ -1,12 +1,14 @@
--- Own records by name, and the answers of registrations, read off the groups that are kept.
+-- Own records by name, the NSEC records of sure names, and the answers of registrations, read off the groups that are kept.
 use Rattle.std.specs.Prelude.{◌≡◌, ℕ, Bool, true, List, ◌∷◌, [], ◌++◌, map, filter, if◌then◌else◌}
 use Rattle.std.specs.List.{list_any}
 use Rattle.std.specs.Option.{option_map_or}
 use Rattle.dns_name.specs.Names.{folded_eq}
 use Rattle.dns_record.specs.declared.record.Rr.{Rr}
+use Rattle.dns_record.specs.Records.{same}
 use Rattle.sd_call.specs.declared.answer.Answer.{Answer}
 use Rattle.sd_call.specs.declared.answer.Answer.TheVariants.{Conflict}
 use Rattle.mdns_history.specs.Answers.{named_if}
+use Rattle.mdns_history.specs.Debts.{nsec_record, is_nsec}
 use Rattle.mdns_probe.specs.declared.claim.Claim.{Claim}
 use Rattle.mdns_probe.specs.Kept.{Kept, name_of, own_of}
 use Rattle.mdns_probe.specs.Answering.{registered_by}
@@ -18,6 +20,18 @@ of_name name rrs = filter (λ rr. folded_eq rr.owner name) rrs
 -- the own records of groups
 abbrev pub own_in : List Kept → List Rr
 own_in kept = own_of (map (λ one. one.claim) kept)
+
+-- the NSEC record of a group's name: it says which types the name has (RFC 6762 6.1)
+abbrev pub nsec_for : Kept → Rr
+nsec_for one = nsec_record (name_of one) one.claim.unique
+
+-- the NSEC records of the groups that are sure
+abbrev pub nsecs_in : List Kept → List Rr
+nsecs_in kept = map nsec_for (filter (λ one. one.claim.sure) kept)
+
+-- Whether a record is the daemon's to send: it is own, or the NSEC record of a sure name. (RFC 6762 6 and 6.1)
+abbrev pub is_ours : List Kept → Rr → Bool
+is_ours kept rr = if is_nsec rr then list_any (same rr) (nsecs_in kept) else list_any (same rr) (own_in kept)
 
 -- the answers of a registration, where these groups are live
 abbrev pub registered_answers : ℕ → ℕ → List Kept → List Answer

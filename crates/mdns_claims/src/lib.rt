@@ -25,6 +25,6 @@ mod turns;
 pub use behind::Behind;
 pub use claimant::Claimant;
 pub use claims::Claims;
-pub use law::claims_follow_the_history;
+pub use law::{claims_follow_the_history, own_and_nsecs_are_known};
 pub use plan::{Deed, Plan};
 pub use renew::ends;
