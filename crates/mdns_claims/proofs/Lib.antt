@@ -22,3 +22,6 @@ pub mod Made
 pub mod Changed
 pub mod Ahead
 pub mod Known
+pub mod Brought
+pub mod Mapped
+pub mod Sure

@@ -1,5 +1,5 @@
 -- Records whose data are as their types allow: of groups, of what a deed brings, and of those that are made.
-use Rattle.std.proofs.Common.{◌≡◌, ℕ, suc, ◌<◌, ◌==◌, Bool, true, false, cond, not, ◌&&◌, List, [], ◌∷◌, ◌++◌, map, filter, length, get_or, refl, ap, sym, ◌∙◌, Option, Some, None, arith}
+use Rattle.std.proofs.Common.{◌≡◌, ℕ, suc, ◌<◌, ◌==◌, Bool, true, false, cond, ◌&&◌, List, [], ◌∷◌, ◌++◌, map, filter, length, get_or, refl, sym, ◌∙◌, Option, Some, None, arith}
 use Rattle.std.specs.List.{list_all, flat_map}
 use Rattle.std.specs.Option.{option_and_then, option_to_list}
 use Rattle.std.proofs.lemmas.Bool.{lt-ltb}
@@ -20,13 +20,11 @@ use Rattle.mdns_probe.specs.Naming.{unique_named, shared_named}
 use Rattle.mdns_claims.specs.declared.plan.Deed.{Deed}
 use Rattle.mdns_claims.specs.declared.plan.Deed.TheVariants.{Nothing, Ticks, Begins, Ends, Changes}
 use Rattle.mdns_claims.specs.declared.renewal.Renewal.{Renewal}
-use Rattle.mdns_claims.specs.Behind.{ends_by, ticked_at}
-use Rattle.mdns_claims.specs.Later.{Shown}
-use Rattle.mdns_claims.specs.Named.{with_renewal, with_renewals}
+use Rattle.mdns_claims.specs.Named.{with_renewals}
 use Rattle.mdns_claims.specs.Owned.{own_in}
-use Rattle.mdns_claims.specs.Planned.{Means, going_on, kept_by, BringsData}
+use Rattle.mdns_claims.specs.Planned.{Means, kept_by, BringsData}
 use Rattle.mdns_claims.specs.Typed.{have_data, records_of, HaveData, is_typed, is_plain, are_plain}
-use Rattle.mdns_claims.proofs.Ticked.{shown_ticked}
+use Rattle.mdns_claims.proofs.Brought.{push_passes, ticked_passes, begun_passes, going_passes, renewed_passes}
 
 both : (a b : Bool) → a ≡ true → b ≡ true → (a && b) ≡ true
 both true true h k = refl
@@ -74,51 +72,19 @@ own_data (one ∷ kept) h =
 
 -- one renewal more
 pub typed_push : (renewals after : List (Option Renewal)) (renewal : Option Renewal) → after ≡ renewals ++ renewal ∷ [] → list_all is_typed renewals ≡ true → is_typed renewal ≡ true → list_all is_typed after ≡ true
-typed_push renewals after renewal put h k =
-    ap (list_all is_typed) put ∙ list_all-append is_typed renewals (renewal ∷ []) ∙ both (list_all is_typed renewals) (is_typed renewal && true) h (both (is_typed renewal) true k refl)
+typed_push renewals after renewal put h k = push_passes is_typed renewals after renewal put h k
 
--- what a deed makes of groups
-
-ticked_data : (means : Means) (kept : List Kept) → HaveData kept → HaveData (map (ticked_at means.moment means.announces) kept)
-ticked_data means [] h = refl
-ticked_data means (one ∷ kept) h =
-    let ps = parts (have_data (records_of one.claim)) (list_all (λ (k : Kept). have_data (records_of k.claim)) kept) h in
-    both (have_data (records_of (ticked_at means.moment means.announces one).claim)) (list_all (λ (k : Kept). have_data (records_of k.claim)) (map (ticked_at means.moment means.announces) kept))
-    (ap (λ (s : Shown). have_data (s.unique ++ s.shared)) (shown_ticked means.moment means.announces one) ∙ ps.0) (ticked_data means kept ps.1)
-
-pub data_append : (kept others : List Kept) → HaveData kept → HaveData others → HaveData (kept ++ others)
-data_append kept others h k =
-    list_all-append (λ (one : Kept). have_data (records_of one.claim)) kept others ∙ both (list_all (λ (one : Kept). have_data (records_of one.claim)) kept) (list_all (λ (one : Kept). have_data (records_of one.claim)) others) h k
-
-kept_filter : {X : Type 0} (p q : X → Bool) (xs : List X) → list_all p xs ≡ true → list_all p (filter q xs) ≡ true
-kept_filter p q [] h = refl
-kept_filter p q (x ∷ xs) h = let ps = parts (p x) (list_all p xs) h in of (q x) ps.0 (kept_filter p q xs ps.1)
-  where
-    of : (b : Bool) → p x ≡ true → list_all p (filter q xs) ≡ true → list_all p (cond b (x ∷ filter q xs) (filter q xs)) ≡ true
-    of true here rest = both (p x) (list_all p (filter q xs)) here rest
-    of false here rest = rest
-
-going_data : (means : Means) (kept : List Kept) → HaveData kept → HaveData (going_on means.told means.marks kept)
-going_data means kept h = kept_filter (λ (one : Kept). have_data (records_of one.claim)) (λ (one : Kept). not (ends_by means.told means.marks one.group)) kept h
-
-renewed_data : (renewals : List (Option Renewal)) (kept : List Kept) → list_all is_typed renewals ≡ true → HaveData kept → HaveData (with_renewals renewals kept)
-renewed_data [] kept h k = k
-renewed_data (renewal ∷ renewals) [] h k = refl
-renewed_data (renewal ∷ renewals) (one ∷ kept) h k =
-    let first = parts (is_typed renewal) (list_all is_typed renewals) h in
-    let old = parts (have_data (records_of one.claim)) (list_all (λ (o : Kept). have_data (records_of o.claim)) kept) k in
-    both (have_data (records_of (with_renewal renewal one).claim)) (list_all (λ (o : Kept). have_data (records_of o.claim)) (with_renewals renewals kept)) (of renewal first.0 old.0) (renewed_data renewals kept first.1 old.1)
-  where
-    of : (r : Option Renewal) → is_typed r ≡ true → have_data (records_of one.claim) ≡ true → have_data (records_of (with_renewal r one).claim) ≡ true
-    of None new stays = stays
-    of (Some new) typed stays = typed
+-- what a deed makes of groups: each has records that it had, or that the deed brings
+abbrev have_records : List Rr → List Rr → Bool
+have_records unique shared = have_data (unique ++ shared)
 
 pub behind_data : (means : Means) (kept : List Kept) (deed : Deed) → BringsData deed → HaveData kept → HaveData (kept_by means kept deed)
 behind_data means kept Nothing brings h = h
-behind_data means kept Ticks brings h = ticked_data means kept h
-behind_data means kept (Begins one) brings h = data_append kept (one ∷ []) h (both (have_data (records_of one.claim)) true brings refl)
-behind_data means kept Ends brings h = going_data means kept h
-behind_data means kept (Changes renewals) brings h = going_data means (with_renewals renewals.items kept) (renewed_data renewals.items kept brings h)
+behind_data means kept Ticks brings h = ticked_passes have_records means kept h
+behind_data means kept (Begins one) brings h = begun_passes have_records kept one h brings
+behind_data means kept Ends brings h = going_passes have_records means kept h
+behind_data means kept (Changes renewals) brings h =
+    going_passes have_records means (with_renewals renewals.items kept) (renewed_passes have_records is_typed (λ new. refl) renewals.items kept brings h)
 
 -- the records that are made have data with variants of their own
 

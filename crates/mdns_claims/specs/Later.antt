@@ -68,6 +68,13 @@ is_still Nothing = true
 is_still (Begins one) = true
 is_still _ = false
 
+-- A deed surely takes no record from those that are the daemon's to send: nothing is done, time passes, or a group begins.
+abbrev pub takes_none : Deed → Bool
+takes_none Nothing = true
+takes_none Ticks = true
+takes_none (Begins one) = true
+takes_none _ = false
+
 -- a deed changes the records, the name or the sureness of the group in a place, or ends it
 abbrev pub touches : Means → Deed → ℕ → Kept → Bool
 touches means Nothing place one = false

@@ -2,6 +2,7 @@
 use Rattle.std.specs.Prelude.{◌≡◌, ℕ, suc, ◌<◌, ◌^◌, Bool, true, false, not, List, [], ◌∷◌, ◌++◌, map, filter, Option, Some, None, is_some, ◌||◌, IsTrue, if◌then◌else◌}
 use Rattle.std.specs.List.{list_all}
 use Rattle.sd_call.specs.Requests.{well_formed, is_register}
+use Rattle.sd_service.specs.Bitmaps.{have_bitmap}
 use Rattle.mdns_history.specs.declared.mark.Mark.{Mark}
 use Rattle.mdns_history.specs.Sessions.{Accepted, is_stop}
 use Rattle.mdns_happened.specs.Told.{Told}
@@ -11,7 +12,7 @@ use Rattle.mdns_claims.specs.declared.plan.Deed.{Deed}
 use Rattle.mdns_claims.specs.declared.plan.Deed.TheVariants.{Nothing, Ticks, Begins, Ends, Changes}
 use Rattle.mdns_claims.specs.declared.renewal.Renewal.{Renewal}
 use Rattle.mdns_claims.specs.Named.{with_renewals, AreNamed}
-use Rattle.mdns_claims.specs.Typed.{have_data, records_of, is_typed}
+use Rattle.mdns_claims.specs.Typed.{have_data, records_of, is_typed, is_mapped}
 use Rattle.mdns_claims.specs.State.{Contents}
 use Rattle.mdns_claims.specs.Behind.{Occasion, updated_txt, number_after, storm_told, ends, ends_by, is_touched, renewed, ticked_at, groups_told, registered_told}
 
@@ -79,10 +80,17 @@ BringsData (Begins one) = have_data (records_of one.claim) ≡ true
 BringsData (Changes renewals) = list_all is_typed renewals.items ≡ true
 BringsData _ = Unit {0}
 
+-- the unique records among them have types that stand in a bitmap
+abbrev pub BringsBitmaps : Deed → Type 0
+BringsBitmaps (Begins one) = have_bitmap one.claim.unique ≡ true
+BringsBitmaps (Changes renewals) = list_all is_mapped renewals.items ≡ true
+BringsBitmaps _ = Unit {0}
+
 -- and for so many registrations that were accepted
 pub record IsFor (registered : ℕ) (kept : List Kept) (deed : Deed) : Type 0 where
   pub groups : FitsGroups kept deed
   pub brought : BringsData deed
+  pub mapped : BringsBitmaps deed
   pub count : room_of deed ≡ 1 → registered < 2 ^ 63
 
 -- a deed does what an event does

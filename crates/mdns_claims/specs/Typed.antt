@@ -1,10 +1,11 @@
--- Records whose data are as the types of the code allow, and groups that have such records.
+-- Records whose data are as the types of the code allow, and unique records whose types stand in a bitmap; and groups that have such records.
 use Rattle.std.specs.Prelude.{◌≡◌, Bool, true, false, List, ◌++◌, Option, Some, None}
 use Rattle.std.specs.List.{list_all}
 use Rattle.dns_record.specs.declared.record.Rdata.{Rdata}
 use Rattle.dns_record.specs.declared.record.Rdata.TheVariants.{Raw}
 use Rattle.dns_record.specs.declared.record.Rr.{Rr}
 use Rattle.dns_message.specs.Writing.{is_spellable_data}
+use Rattle.sd_service.specs.Bitmaps.{have_bitmap}
 use Rattle.mdns_probe.specs.declared.claim.Claim.{Claim}
 use Rattle.mdns_probe.specs.Kept.{Kept}
 use Rattle.mdns_claims.specs.declared.renewal.Renewal.{Renewal}
@@ -25,6 +26,15 @@ HaveData kept = list_all (λ one. have_data (records_of one.claim)) kept ≡ tru
 abbrev pub is_typed : Option Renewal → Bool
 is_typed None = true
 is_typed (Some renewal) = have_data (records_of renewal.claim)
+
+-- the unique records of each group have types that stand in a bitmap (RFC 4034 4.1.2)
+abbrev pub HaveBitmaps : List Kept → Type 0
+HaveBitmaps kept = list_all (λ one. have_bitmap one.claim.unique) kept ≡ true
+
+-- those of a renewal, if there is one
+abbrev pub is_mapped : Option Renewal → Bool
+is_mapped None = true
+is_mapped (Some renewal) = have_bitmap renewal.claim.unique
 
 -- data with a variant of its own
 abbrev pub is_plain : Rdata → Bool

@@ -12,6 +12,7 @@ ghost use Rattle.mdns_probe.specs.Claiming.{begun};
 ghost use Rattle.mdns_probe.specs.Kept.{name_of};
 ghost use Rattle.mdns_probe.specs.Naming.{shared_named, unique_named};
 ghost use Rattle.sd_name.specs.ServiceTypes.{service_type};
+ghost use Rattle.sd_service.specs.Bitmaps.{have_bitmap};
 
 use crate::claimant::Claimant;
 use crate::looks::look_at;
@@ -47,6 +48,7 @@ pub fn begun(
 ) -> Result<Option<Claimant>, AllocError>
     requires { IsAcceptable registered (told_by seen.now.happened.now).call }
     ensures typed { IfOk result (λ one. MatchOption one (Unit {0}) (λ group. have_data (records_of group.claim) ≡ true)) }
+    ensures mapped { IfOk result (λ one. MatchOption one (Unit {0}) (λ group. have_bitmap group.claim.unique ≡ true)) }
     ensures value { IfOk result (λ one. one ≡ option_map (begun_kept registered groups.now (occasion_in seen.now)) (registration_told (told_by seen.now.happened.now).call)) }
 {
     match wished(seen.happened) {
@@ -97,6 +99,7 @@ fn granted(
 ) -> Result<Claimant, AllocError>
     requires room { registered < 2 ^ 63 }
     ensures typed { IfOk result (λ one. have_data (records_of one.claim) ≡ true) }
+    ensures mapped { IfOk result (λ one. have_bitmap one.claim.unique ≡ true) }
     ensures value { IfOk result (λ one. (told_by seen.now.happened.now).call ≡ Some (asked_by wish.now) → one ≡ begun_kept registered groups.now (occasion_in seen.now) (registration_of wish.now)) }
 {
     let service = Service {
@@ -130,6 +133,7 @@ pub fn begun_claimant(
     requires bound { now ≤ 2 ^ 53 }
     requires wait { wait ≤ 5000 }
     ensures typed { IfOk result (λ one. have_data (records_of one.claim) ≡ true) }
+    ensures mapped { IfOk result (λ one. have_bitmap one.claim.unique ≡ true) }
     ensures value { IfOk result (λ one. one ≡ record {
       group = naming;
       number = naming.first;

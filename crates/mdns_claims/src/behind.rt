@@ -1,8 +1,9 @@
 // What a plan of claims leads to, read before it is carried out.
-ghost use Rattle.std.specs.Prelude.{IfOk, List, OnOk, [], false, ℕ, ◌++◌, ◌≡◌, Some, true};
+ghost use Rattle.std.specs.Prelude.{IfOk, IsTrue, List, OnOk, [], false, ℕ, ◌++◌, ◌≡◌, Some, true};
 ghost use Rattle.std.specs.Option.{option_map, option_map_or, option_to_list};
-ghost use Rattle.mdns_claims.specs.Later.{begun_by, groups_behind, later_from, later_of, shown_of, shown_own};
-ghost use Rattle.mdns_claims.specs.Owned.{AreWithin, is_among, of_name, own_in, registered_answers};
+ghost use Rattle.dns_record.specs.declared.record.Rr.{Rr};
+ghost use Rattle.mdns_claims.specs.Later.{begun_by, groups_behind, later_from, later_of, shown_of, shown_own, takes_none};
+ghost use Rattle.mdns_claims.specs.Owned.{AreWithin, is_among, is_ours, of_name, own_in, registered_answers};
 ghost use Rattle.mdns_claims.specs.Seen.{means_in};
 ghost use Rattle.mdns_probe.specs.Kept.{Kept};
 ghost use Rattle.mdns_happened.specs.Registrations.{AreRegistered, IsRegistered, is_told};
@@ -10,7 +11,7 @@ ghost use Rattle.mdns_happened.specs.Registrations.{AreRegistered, IsRegistered,
 use crate::answers::{is_of, named_if, registered_answer};
 use crate::claimant::Claimant;
 use crate::doing::Means;
-use crate::later::{begun, is_still};
+use crate::later::{begun, is_still, takes_none};
 use crate::names::put_claim_names;
 use crate::own::put_claimed;
 use crate::plan::Deed;
@@ -65,6 +66,15 @@ impl Behind<'_> {
             lines.push(self.line(one.naming()))?;
         }
         Ok(lines)
+    }
+
+    /// Whether the plan surely takes no record from those that are the daemon's to send, own ones and the NSEC records of sure
+    /// names: it does nothing, time passes, or a group begins. Where groups end or change it may. (RFC 6762 6)
+    pub fn keeps_own(&self) -> bool
+        ensures told { result ≡ takes_none self.now.deed.now }
+        ensures kept { IsTrue result → (rr : Rr) → is_ours self.now.groups.now rr ≡ true → is_ours (groups_behind self.now) rr ≡ true }
+    {
+        takes_none(self.deed)
     }
 
     // Puts the names of own records that come or go with groups that are there.

@@ -1,28 +1,32 @@
 // The claims of a daemon.
-ghost use Rattle.std.specs.Prelude.{IfOk, IsTrue, List, OnOk, [], is_some, nat_le, true, ℕ, ◌++◌, ◌<◌, ◌^◌, ◌∷◌, ◌≡◌, ◌≤◌};
+ghost use Rattle.std.specs.Prelude.{IfOk, IsTrue, List, OnOk, [], filter, is_some, nat_le, true, ℕ, ◌++◌, ◌<◌, ◌^◌, ◌∷◌, ◌≡◌, ◌≤◌};
 ghost use Rattle.std.specs.List.{flat_map};
 ghost use Rattle.std.specs.Option.{option_map, option_to_list};
 ghost use Rattle.dns_name.specs.Lists.{least};
+ghost use Rattle.dns_name.specs.Names.{folded_eq};
 ghost use Rattle.mdns_claims.specs.Behind.{contents_told, host_kept, host_named, kept_told, next_in, occasion_of, probes_told, storm_told};
 ghost use Rattle.mdns_claims.specs.Later.{groups_behind};
-ghost use Rattle.mdns_claims.specs.Owned.{of_name, own_in, registered_answers};
+ghost use Rattle.mdns_claims.specs.Owned.{is_ours, nsecs_in, of_name, own_in, registered_answers};
 ghost use Rattle.mdns_claims.specs.Planned.{IsAcceptable, IsFor, IsPlan, counted_by, kept_by, room_of};
 ghost use Rattle.mdns_claims.specs.State.{Stands};
-ghost use Rattle.mdns_claims.specs.Typed.{HaveData, have_data, records_of};
+ghost use Rattle.mdns_claims.specs.Typed.{HaveBitmaps, HaveData, have_data, records_of};
 ghost use Rattle.mdns_happened.specs.Told.{told_by};
 ghost use Rattle.mdns_history.specs.Fitting.{boot_entry};
 ghost use Rattle.mdns_history.specs.Probing.{is_conflict};
 ghost use Rattle.mdns_history.specs.Outcomes.{most_over_life};
 ghost use Rattle.mdns_probe.specs.Answering.{is_held_name, registered_by};
 ghost use Rattle.sd_call.specs.Requests.{well_formed};
+ghost use Rattle.sd_service.specs.Bitmaps.{have_bitmap};
 
 use crate::answers::{group_of, registered_answer};
 use crate::begin::begun_claimant;
 use crate::behind::Behind;
 use crate::claimant::Claimant;
+use crate::copies::{copy_config, copy_label};
 use crate::deciding::deed;
 use crate::doing::Means;
 use crate::held::is_held_name;
+use crate::ours::{is_ours, put_nsecs};
 use crate::own::put_own;
 use crate::plan::{Deed, Plan};
 use crate::probes::probes;
@@ -30,7 +34,8 @@ use crate::renew::{Seen, number_after};
 use crate::turns::claim_marks;
 use bytes::Bytes;
 use dns_message::Rrs;
-use dns_name::{Label, Name};
+use dns_name::Name;
+use dns_record::Rr;
 use mdns_conflict::Storm;
 use mdns_happened::{Happened, When};
 use mdns_history::{Config, HostConfig, Mark, Sends};
@@ -59,7 +64,7 @@ pub struct Claims {
 impl Model for Claims {
     ghost use Rattle.std.specs.Prelude.{◌-◌, vec_len, vec_capacity};
     ghost use Rattle.mdns_claims.specs.State.{State};
-    ghost use Rattle.mdns_claims.specs.Typed.{HaveData};
+    ghost use Rattle.mdns_claims.specs.Typed.{HaveBitmaps, HaveData};
 
     ghost Value = { State };
 
@@ -68,7 +73,7 @@ impl Model for Claims {
       spare = vec_capacity a.groups - vec_len a.groups;
     } };
 
-    ghost invariant = { λ a. HaveData a.groups.items };
+    ghost invariant = { λ a. HaveData a.groups.items × HaveBitmaps a.groups.items };
 }
 
 impl Claims {
@@ -115,6 +120,21 @@ impl Claims {
         ensures { OnOk result (rrs.new ≡ rrs.old ++ of_name name.now (own_in self.now.contents.kept)) }
     {
         put_own(rrs, &self.groups, name)
+    }
+
+    /// Puts the NSEC records of a name behind others: those of the groups that have it and are sure. Refused only for want of
+    /// memory. (RFC 6762 6.1)
+    pub fn put_nsecs(&self, rrs: &mut Rrs, name: &Name) -> Result<(), AllocError>
+        ensures { OnOk result (rrs.new ≡ rrs.old ++ filter (λ rr. folded_eq rr.owner name.now) (nsecs_in self.now.contents.kept)) }
+    {
+        put_nsecs(self.alloc, rrs, &self.groups, name)
+    }
+
+    /// Whether a record is the daemon's to send: it is own, or the NSEC record of a sure name. It takes no memory. (RFC 6762 6)
+    pub fn is_ours(&self, rr: &Rr) -> bool
+        ensures { result ≡ is_ours self.now.contents.kept rr.now }
+    {
+        is_ours(&self.groups, rr)
     }
 
     /// The probes that are sent by an event: once time has passed those of the groups that are due. Refused only for want of
@@ -260,6 +280,7 @@ fn count_after(registered: u64, deed: &Deed) -> u64
 // The groups at the boot: that of the host, if there is one. Refused only for want of memory.
 fn first_groups(alloc: Global, config: &Config, when: When) -> Result<Vec<Claimant>, AllocError>
     ensures typed { IfOk result (λ groups. HaveData groups.items) }
+    ensures mapped { IfOk result (λ groups. HaveBitmaps groups.items) }
     ensures value { IfOk result (λ groups. groups.items ≡ option_to_list (option_map (host_kept when.moment when.word config.now) config.now.host)) }
 {
     let mut groups = Vec::new(alloc);
@@ -277,6 +298,7 @@ fn host_claimant(
     when: When,
 ) -> Result<Claimant, AllocError>
     ensures typed { IfOk result (λ one. have_data (records_of one.claim) ≡ true) }
+    ensures mapped { IfOk result (λ one. have_bitmap one.claim.unique ≡ true) }
     ensures value { IfOk result (λ one. one ≡ host_kept when.moment when.word config.now host.now) }
 {
     let naming = Naming::host(copy_label(&host.label));
@@ -298,33 +320,6 @@ fn host_under(config: &Config, number: u32) -> Name
         Some(host) => host_name(&host.label, number),
         None => Name::root(),
     }
-}
-
-fn copy_config(config: &Config) -> Config
-    ensures { result ≡ config.now }
-{
-    Config {
-        address: config.address,
-        host: copy_host(&config.host),
-    }
-}
-
-fn copy_host(host: &Option<HostConfig>) -> Option<HostConfig>
-    ensures { result ≡ host.now }
-{
-    match host {
-        Some(host) => Some(HostConfig {
-            label: copy_label(&host.label),
-            v6: host.v6,
-        }),
-        None => None,
-    }
-}
-
-fn copy_label(label: &Label) -> Label
-    ensures { result ≡ label.now }
-{
-    Label::new(label.as_slice()).unwrap()
 }
 
 // A storm with one conflict more for each mark of one.

@@ -2,7 +2,7 @@
 ghost use Rattle.std.specs.Prelude.{None, slice_index_or, ◌||◌, ◌≡◌};
 ghost use Rattle.std.specs.Option.{option_copied, option_map, option_to_list};
 ghost use Rattle.mdns_claims.specs.Behind.{ends_by};
-ghost use Rattle.mdns_claims.specs.Later.{begun_by, is_still, later_of, shown_by, shown_of, touches};
+ghost use Rattle.mdns_claims.specs.Later.{begun_by, is_still, later_of, shown_by, shown_of, takes_none, touches};
 ghost use Rattle.mdns_claims.specs.Named.{with_renewal};
 ghost use Rattle.mdns_claims.specs.Seen.{means_in};
 ghost use Rattle.mdns_happened.specs.Told.{told_by};
@@ -78,6 +78,13 @@ pub fn is_still(deed: &Deed) -> bool
     ensures { result ≡ is_still deed.now }
 {
     matches!(deed, Deed::Nothing | Deed::Begins(_))
+}
+
+/// Whether a deed surely takes no record from those that are the daemon's to send. A tick only makes groups sure.
+pub fn takes_none(deed: &Deed) -> bool
+    ensures { result ≡ takes_none deed.now }
+{
+    matches!(deed, Deed::Nothing | Deed::Ticks | Deed::Begins(_))
 }
 
 /// The group that a deed begins.

@@ -6,12 +6,13 @@ ghost use Rattle.mdns_claims.specs.Behind.{claim_told, ends_by, is_touched, numb
 ghost use Rattle.mdns_claims.specs.Named.{AreNamed, IsNamed, with_renewal};
 ghost use Rattle.mdns_claims.specs.Planned.{renewal_told};
 ghost use Rattle.mdns_claims.specs.Seen.{occasion_in};
-ghost use Rattle.mdns_claims.specs.Typed.{have_data, is_typed, records_of};
+ghost use Rattle.mdns_claims.specs.Typed.{have_data, is_mapped, is_typed, records_of};
 ghost use Rattle.mdns_happened.specs.Told.{told_by};
 ghost use Rattle.mdns_history.specs.Groups.{is_failure_of};
 ghost use Rattle.mdns_history.specs.Probing.{is_lost_tie_of};
 ghost use Rattle.mdns_history.specs.Sessions.{is_number, stops};
 ghost use Rattle.mdns_history.specs.Sureness.{is_setback_of};
+ghost use Rattle.sd_service.specs.Bitmaps.{have_bitmap};
 
 use crate::claimant::Claimant;
 use crate::looks::look_at;
@@ -49,6 +50,7 @@ impl Seen<'_> {
         ensures value { IfOk result (λ renewals. renewals.items ≡ map (renewal_told (occasion_in self.now)) groups.now) }
         ensures named { IfOk result (λ renewals. AreNamed renewals.items groups.now) }
         ensures typed { IfOk result (λ renewals. list_all is_typed renewals.items ≡ true) }
+        ensures mapped { IfOk result (λ renewals. list_all is_mapped renewals.items ≡ true) }
     {
         let mut renewals = Vec::new(alloc);
         for one in groups {
@@ -62,6 +64,7 @@ impl Seen<'_> {
         ensures value { IfOk result (λ renewal. renewal ≡ renewal_told (occasion_in self.now) one.now) }
         ensures named { IfOk result (λ renewal. IsNamed (with_renewal renewal one.now)) }
         ensures typed { IfOk result (λ renewal. is_typed renewal ≡ true) }
+        ensures mapped { IfOk result (λ renewal. is_mapped renewal ≡ true) }
     {
         if ends(self.happened, self.marks, one.naming()) {
             return Ok(None);
@@ -89,6 +92,7 @@ impl Seen<'_> {
         ensures value { IfOk result (λ renewal. (renewal.number ≡ (renewed (occasion_in self.now) one.now).number) × (renewal.claim ≡ (renewed (occasion_in self.now) one.now).claim)) }
         ensures named { IfOk result (λ renewal. IsNamed (record { group = one.now.group; number = renewal.number; claim = renewal.claim })) }
         ensures typed { IfOk result (λ renewal. have_data (records_of renewal.claim) ≡ true) }
+        ensures mapped { IfOk result (λ renewal. have_bitmap renewal.claim.unique ≡ true) }
     {
         let naming = one.naming();
         let number = number_after(naming.id(), self.marks, one.number());

@@ -3,8 +3,9 @@ use Rattle.mdns_happened.specs.Told.{told_by}
 use Rattle.mdns_claims.specs.State.{State}
 use Rattle.mdns_claims.specs.Behind.{occasion_of}
 use Rattle.mdns_claims.specs.Planned.{Means, kept_by, counted_by}
-use Rattle.mdns_claims.specs.Typed.{HaveData}
+use Rattle.mdns_claims.specs.Typed.{HaveData, HaveBitmaps}
 use Rattle.mdns_claims.proofs.Typed.{behind_data}
+use Rattle.mdns_claims.proofs.Mapped.{behind_bitmaps}
 use Rattle.mdns_claims.proofs.Carried.{carried}
 use Rattle.mdns_claims.proofs.claims.Claims.apply.Goals as goal
 
@@ -29,10 +30,12 @@ returns-clause-contents c = λ word is.
 
 pub invariant_of-self : goal.invariant_of-self
 invariant_of-self c =
-    let means : Means = record { moment = c.args.when.moment; announces = c.self.inside.announces; told = told_by c.args.happened.now; marks = c.as_slice.result.now } in
-    subst HaveData (sym c.carry_out.ensures) (behind_data means c.self.inside.groups.items c.args.plan.deed c.requires.fits.brought c.self.invariant)
+    let means : Means = record { moment = c.args.when.moment; announces = c.self.inside.announces; told = told_by c.args.happened.now; marks = c.as_slice.result.now } in (
+      subst HaveData (sym c.carry_out.ensures) (behind_data means c.self.inside.groups.items c.args.plan.deed c.requires.fits.brought c.self.invariant.0),
+      subst HaveBitmaps (sym c.carry_out.ensures) (behind_bitmaps means c.self.inside.groups.items c.args.plan.deed c.requires.fits.mapped c.self.invariant.1),
+    )
 
 pub returns-clause-data : goal.returns-clause-data
 returns-clause-data c =
     let means : Means = record { moment = c.args.when.moment; announces = c.self.inside.announces; told = told_by c.args.happened.now; marks = c.as_slice.result.now } in
-    subst HaveData (sym c.carry_out.ensures) (behind_data means c.self.inside.groups.items c.args.plan.deed c.requires.fits.brought c.self.invariant)
+    subst HaveData (sym c.carry_out.ensures) (behind_data means c.self.inside.groups.items c.args.plan.deed c.requires.fits.brought c.self.invariant.0)

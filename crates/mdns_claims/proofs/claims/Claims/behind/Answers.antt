@@ -8,4 +8,4 @@ use Rattle.mdns_claims.proofs.claims.Claims.behind.Goals as goal
 pub returns-clause-data : goal.returns-clause-data
 returns-clause-data c = λ is_for.
     let means : Means = record { moment = c.args.when.moment; announces = c.self.inside.announces; told = told_by c.args.happened.now; marks = c.as_slice.result.now } in
-    behind_data means c.deref.result.now c.args.plan.now.deed is_for.brought (subst HaveData (sym c.deref.ensures.value) c.self.invariant)
+    behind_data means c.deref.result.now c.args.plan.now.deed is_for.brought (subst HaveData (sym c.deref.ensures.value) c.self.invariant.0)

@@ -5,6 +5,7 @@ use Rattle.mdns_claims.specs.Named.{with_renewal, IsNamed, AreNamed}
 use Rattle.mdns_claims.specs.Planned.{renewal_told}
 use Rattle.mdns_claims.specs.Seen.{occasion_in}
 use Rattle.mdns_claims.proofs.Typed.{typed_push}
+use Rattle.mdns_claims.proofs.Mapped.{mapped_push}
 use Rattle.mdns_claims.proofs.Loops.{named_more, mapped_more}
 use Rattle.mdns_claims.proofs.renew.Seen.renewals.Goals as goal
 
@@ -24,4 +25,5 @@ loop-one-preserved c =
           subst (λ (rs : List (Option Renewal)). AreNamed rs (take (c.loop-one.one-index + 1) c.args.groups.now)) (sym value)
           (named_more told c.args.groups.now c.loop-one.one-index c.one-item.result c.loop-one-test.true c.one-item.is before new);
       typed = typed_push c.loop-one.renewals.items c.push.new.self.items c.in_ok-renewal.field-0 c.in_ok-push.ensures.items c.loop-one.invariant.typed c.in_ok-renewal.ensures.typed;
+      mapped = mapped_push c.loop-one.renewals.items c.push.new.self.items c.in_ok-renewal.field-0 c.in_ok-push.ensures.items c.loop-one.invariant.mapped c.in_ok-renewal.ensures.mapped;
     }

@@ -6,6 +6,8 @@ use Rattle.mdns_claims.specs.Seen.{occasion_in}
 use Rattle.mdns_claims.specs.Typed.{are_plain}
 use Rattle.mdns_claims.proofs.Named.{is_named}
 use Rattle.mdns_claims.proofs.Typed.{unique_plain, shared_plain}
+use Rattle.mdns_claims.proofs.Mapped.{unique_mapped}
+use Rattle.sd_service.specs.Bitmaps.{have_bitmap}
 use Rattle.mdns_claims.proofs.renew.Seen.renewed.Goals as goal
 
 pub returns-clause-value : goal.returns-clause-value
@@ -37,3 +39,8 @@ look_at-requires c =
 
 pub look_at-requires-2 : goal.look_at-requires-2
 look_at-requires-2 c = ap are_plain (c.as_slice-2.ensures ∙ c.in_ok-shared.ensures) ∙ shared_plain c.naming-naming.result.now c.name_under-name.result
+
+pub returns-clause-mapped : goal.returns-clause-mapped
+returns-clause-mapped c =
+    ap have_bitmap (c.claim_with-claim.ensures.unique ∙ c.in_ok-unique.ensures)
+    ∙ unique_mapped c.args.self.now.config.now c.args.self.now.host c.naming-naming.result.now c.name_under-name.result c.in_ok-txt_behind.field-0
