@@ -2,3 +2,4 @@ pub mod Chains
 pub mod Sorting
 pub mod Found
 pub mod Replies
+pub mod OldWay

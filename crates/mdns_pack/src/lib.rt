@@ -1,6 +1,7 @@
-//! How questions and records are put into messages, and records into order. (RFC 6762 6, 7.1, 7.2 and 17, RFC 6763 12)
+//! How questions and records are put into messages, and records into order. (RFC 6762 6, 6.7, 7.1, 7.2 and 17, RFC 6763 12)
 #![tactic(auto)]
 
+mod legacy;
 mod lists;
 mod order;
 mod plain;
@@ -8,6 +9,7 @@ mod query;
 mod reply;
 mod wanting;
 
+pub use legacy::pack_legacy;
 pub use lists::Messages;
 pub use order::{in_order, sorted};
 pub use plain::pack_plain;

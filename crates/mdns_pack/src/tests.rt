@@ -1,9 +1,9 @@
 // Queries and replies that are packed: what each of their messages holds and how long it is.
-use crate::{Messages, Wanting, pack_plain, pack_query, pack_reply};
+use crate::{Messages, Wanting, pack_legacy, pack_plain, pack_query, pack_reply};
 use bytes::Bytes;
 use dns_message::{Message, Rrs, write};
 use dns_name::Name;
-use dns_record::{Key, Rdata, Rr};
+use dns_record::{Key, Question, Rdata, Rr};
 use std::alloc::Global;
 use std::test::Fail;
 
@@ -190,6 +190,87 @@ fn goodbyes_are_packed(rt: HostRuntime) -> Result<(), Fail> {
         let messages = pack_plain(alloc, goodbyes.as_slice())?;
         let out = replies_of(alloc, &messages)?;
         assert_eq!(rt; out.as_slice(), written.as_bytes(), "{written}");
+    }
+    Ok(())
+}
+
+// The reply to a resolver at another port that asks with the ID 7 for the address of `h.local`: in hexadecimal
+// 000784000001000100000000 0168056c6f63616c0000010001 c00c000100010000000a00040a000001.
+const ANSWERED: [u8; 41] = [
+    0, 7, 0x84, 0, 0, 1, 0, 1, 0, 0, 0, 0, 1, 0x68, 5, 0x6c, 0x6f, 0x63, 0x61, 0x6c, 0, 0, 1, 0, 1,
+    0xc0, 0x0c, 0, 1, 0, 1, 0, 0, 0, 0x0a, 0, 4, 10, 0, 0, 1,
+];
+
+#[test]
+fn a_resolver_is_answered(rt: HostRuntime) -> Result<(), Fail> {
+    let alloc = rt.alloc();
+    let question = Question {
+        name: Name::parse_text("h.local").map_err(|_| "name")?,
+        kind: 1,
+        unicast: true,
+    };
+    let rr = Rr::parse_text(alloc, "h.local. 120 flush A 10.0.0.1")?;
+    let message = pack_legacy(alloc, 7, &[question], &[rr])?;
+    let written = write(alloc, &message, 1440)?;
+    assert_eq!(rt; written.as_slice(), ANSWERED.as_slice());
+    Ok(())
+}
+
+// Replies in the old way: the letters of the questions, those of the records with the lengths of their data, and whether
+// something was left out, how many questions and answers the reply has, and its length, as above.
+const LEGACY: [(&str, &[(char, usize)], &str); 11] = [
+    ("h", &[], "- 1 0 25\n"),
+    ("", &[('h', 1)], "- 0 1 32\n"),
+    ("hi", &[('h', 1), ('i', 2)], "- 2 2 60\n"),
+    // As many records as fit 1440 bytes, and then one byte more.
+    ("h", &[('h', 1390), ('h', 1)], "- 1 2 1440\n"),
+    ("h", &[('h', 1391), ('h', 1)], "tc 1 1 1428\n"),
+    // Behind the first that doesn't fit there is none.
+    ("h", &[('h', 1300), ('h', 200), ('h', 1)], "tc 1 1 1337\n"),
+    // The first in any case.
+    ("h", &[('h', 3000)], "- 1 1 3037\n"),
+    ("h", &[('h', 3000), ('h', 1)], "tc 1 1 3037\n"),
+    // As many questions as fit 512 bytes; the eighth would make it 577.
+    ("ABCDEFGH", &[('A', 1)], "- 7 1 520\n"),
+    // Behind the first question that doesn't fit there is none.
+    ("hABCDEFGb", &[], "- 7 0 445\n"),
+    ("hABCDEFGb", &[('b', 4), ('h', 1)], "- 7 2 476\n"),
+];
+
+#[test]
+fn resolvers_are_answered(rt: HostRuntime) -> Result<(), Fail> {
+    let alloc = rt.alloc();
+    for (letters, answers, written) in LEGACY {
+        let mut questions = Vec::new(alloc);
+        for letter in letters.chars() {
+            questions.push(Question {
+                name: name_of(alloc, letter)?,
+                kind: 16,
+                unicast: true,
+            })?;
+        }
+        let mut records = Vec::new(alloc);
+        for (letter, length) in answers {
+            records.push(record_of(alloc, *letter, *length)?)?;
+        }
+        let message = pack_legacy(alloc, 0xabcd, questions.as_slice(), records.as_slice())?;
+        let mut out = Vec::new(alloc);
+        put_message(alloc, &mut out, &message)?;
+        assert_eq!(rt; out.as_slice(), written.as_bytes(), "{letters}");
+    }
+    Ok(())
+}
+
+// A TTL of ten seconds at most. (RFC 6762 6.7)
+#[test]
+fn a_resolver_keeps_nothing_for_long(rt: HostRuntime) -> Result<(), Fail> {
+    let alloc = rt.alloc();
+    for (ttl, kept) in [(0, 0), (4, 4), (10, 10), (11, 10), (4500, 10)] {
+        let mut rr = record_of(alloc, 'h', 1)?;
+        rr.ttl = ttl;
+        let message = pack_legacy(alloc, 7, &[], &[rr])?;
+        assert_eq!(rt; message.answers.as_slice().len(), 1);
+        assert_eq!(rt; message.answers.as_slice()[0].ttl, kept);
     }
     Ok(())
 }
