@@ -1,3 +1,4 @@
 pub mod Standing
 pub mod Steps
 pub mod Taking
+pub mod Bounds

@@ -1,5 +1,5 @@
 -- The last multicasts of records that are kept, and what nobody can tell from those of a history. (RFC 6762 5.4 and 6)
-use Rattle.std.specs.Prelude.{◌≡◌, ◌⊎◌, ℕ, ◌-◌, ◌≤◌, nat_le, Bool, ◌&&◌, List, [], Option, Some, None, if◌then◌else◌}
+use Rattle.std.specs.Prelude.{◌≡◌, ◌⊎◌, ℕ, ◌+◌, ◌-◌, ◌≤◌, IfSome, nat_le, Bool, ◌&&◌, List, [], Option, Some, None, if◌then◌else◌}
 use Rattle.std.specs.List.{flat_map}
 use Rattle.std.specs.Map.{lookup}
 use Rattle.mdns_base.specs.declared.host.Dest.TheVariants.{All}
@@ -64,3 +64,12 @@ if_kept moment (Some last) = if is_kept moment last then Some last else None
 -- A last multicast was left as it was, or it was forgotten, if it was old.
 abbrev pub IsLeft : ℕ → Option ℕ → Option ℕ → Type 0
 IsLeft moment before after = (after ≡ before) ⊎ (after ≡ if_kept moment before)
+
+-- the moment from which on a record is free behind its last multicast, where so much time has to pass
+abbrev pub free_at : ℕ → Option ℕ → ℕ
+free_at gap None = 0
+free_at gap (Some last) = last + gap
+
+-- no last multicast is later than a moment
+abbrev pub AreBy : ℕ → List Last → Type 0
+AreBy bound lasts = (rr : Rr) → IfSome (last_of rr lasts) (λ last. last ≤ bound)

@@ -1,11 +1,11 @@
 // The last multicasts of records.
-ghost use Rattle.std.specs.Prelude.{◌≡◌, ◌↔◌, ◌+◌, ◌≤◌, List, [], ◌∷◌, length, IsTrue, IsOk, OnOk};
+ghost use Rattle.std.specs.Prelude.{◌≡◌, ◌↔◌, ◌+◌, ◌≤◌, ◌^◌, List, [], ◌∷◌, length, IsTrue, IsOk, OnOk, IfSome};
 ghost use Rattle.mdns_history.specs.declared.entry.Entry.{Entry};
 ghost use Rattle.dns_record.specs.declared.record.Rr.{Rr};
 ghost use Rattle.mdns_history.specs.History.{now as moment_of};
 ghost use Rattle.mdns_history.specs.Debts.{multicasts_in, last_multicast, is_long_ago, is_recent};
 ghost use Rattle.mdns_history.specs.Multicasts.{multicast_gap, defence_gap};
-ghost use Rattle.mdns_reply.specs.Lasts.{most_ttl, last_of, IsLeft, Stands};
+ghost use Rattle.mdns_reply.specs.Lasts.{most_ttl, last_of, free_at, IsLeft, Stands};
 
 use crate::mark::Mark;
 use crate::moments::{Moments, forget_old, note_all};
@@ -36,11 +36,14 @@ pub struct Lasts {
 
 impl Model for Lasts {
     ghost use Rattle.indexmap.specs.IndexMap.{spare as places_left};
-    ghost use Rattle.mdns_reply.specs.Lasts.{State};
+    ghost use Rattle.std.specs.Prelude.{◌^◌};
+    ghost use Rattle.mdns_reply.specs.Lasts.{State, AreBy};
 
     ghost Value = { State };
 
     ghost view = { λ l. record { lasts = l.moments.entries; spare = places_left l.moments } };
+
+    ghost invariant = { λ l. AreBy (2 ^ 53) l.moments.entries };
 }
 
 impl Lasts {
@@ -70,9 +73,10 @@ impl Lasts {
         self.moments.is_empty()
     }
 
-    /// When a record was last multicast, if that is kept.
+    /// When a record was last multicast, if that is kept: at 2^53 ms at the latest.
     pub fn last(&self, rr: &Rr) -> Option<u64>
-        ensures { result ≡ last_of rr.now self.now.lasts }
+        ensures last { result ≡ last_of rr.now self.now.lasts }
+        ensures bound { IfSome result (λ last. last ≤ 2 ^ 53) }
     {
         self.moments.get(&Mark::sought(rr)).copied()
     }
@@ -85,6 +89,21 @@ impl Lasts {
             → result ≡ is_long_ago multicast_gap now (last_multicast rr.now history) }
     {
         is_long_ago(MULTICAST_GAP, now, self.last(rr))
+    }
+
+    /// The moment in ms from which on a record may be multicast: a second after its last multicast, and 0 where none is kept. (RFC
+    /// 6762 6)
+    pub fn free_from(&self, rr: &Rr) -> u64
+        ensures { result ≡ free_at multicast_gap (last_of rr.now self.now.lasts) }
+    {
+        free_at(MULTICAST_GAP, self.last(rr))
+    }
+
+    /// The same where it defends its name: a quarter of a second after its last multicast. (RFC 6762 6)
+    pub fn free_to_defend_from(&self, rr: &Rr) -> u64
+        ensures { result ≡ free_at defence_gap (last_of rr.now self.now.lasts) }
+    {
+        free_at(DEFENCE_GAP, self.last(rr))
     }
 
     /// Whether a quarter of a second has passed at `now` since a record's last multicast, so that it may be multicast to defend its
@@ -123,6 +142,7 @@ impl Lasts {
     /// back, and then each with another TTL has this moment. The moments stand for the longer history, then. It takes no
     /// memory. (RFC 6762 6)
     pub fn apply(&mut self, now: u64, sent: Rrs)
+        requires bound { now ≤ 2 ^ 53 }
         requires room { length sent ≤ self.old.spare }
         ensures stands { (entry : Entry) (past : List Entry) → entry.moment ≡ now → moment_of past ≤ now → multicasts_in entry ≡ sent
             → Stands self.old.lasts past → Stands self.new.lasts (entry ∷ past) }
@@ -146,6 +166,18 @@ impl Lasts {
             forget_old(&mut self.moments, now);
             self.left = self.moments.len();
         }
+    }
+}
+
+// The moment so much time behind another, if there is one.
+fn free_at(gap: u64, last: Option<u64>) -> u64
+    requires gap { gap ≤ 1000 }
+    requires last { IfSome last (λ last. last ≤ 2 ^ 53) }
+    ensures { result ≡ free_at gap last }
+{
+    match last {
+        None => 0,
+        Some(last) => last + gap,
     }
 }
 

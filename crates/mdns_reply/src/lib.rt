@@ -9,6 +9,7 @@ mod sent;
 
 pub use lasts::Lasts;
 pub use law::kept_moments_stand_later;
+pub use mark::Mark;
 pub use sent::multicasts;
 
 #[cfg(test)]

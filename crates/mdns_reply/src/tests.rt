@@ -51,10 +51,15 @@ fn time_passes_since_a_multicast(rt: HostRuntime) -> Result<(), Fail> {
     Ok(())
 }
 
+// The greatest moment, in ms.
+const LAST_MOMENT: u64 = 1 << 53;
+
 // Takes room for what is multicast, and notes it.
 fn note(lasts: &mut Lasts, now: u64, sent: Rrs) -> Result<(), Fail> {
     lasts.reserve(&sent)?;
-    lasts.apply(now, sent);
+    if now <= LAST_MOMENT {
+        lasts.apply(now, sent);
+    }
     Ok(())
 }
 
