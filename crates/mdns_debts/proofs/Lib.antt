@@ -5,3 +5,5 @@ pub mod Waits
 pub mod Ticked
 pub mod Kept
 pub mod Ttls
+pub mod Ours
+pub mod Nothing

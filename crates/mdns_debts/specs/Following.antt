@@ -84,6 +84,10 @@ leaves news query owed = not (strikes query owed (query_of news.heard)) && not (
 abbrev pub is_among : Ours → Rr → Bool
 is_among own rr = if is_nsec rr then list_any (same rr) own.names else list_any (same rr) own.records
 
+-- whether all that queries are owed is the daemon's to send
+abbrev pub all_among : Ours → List Query → Bool
+all_among own queries = list_all (λ query. list_all (λ owed. is_among own owed.0) query.owed) queries
+
 -- what is owed still where a test passes
 abbrev pub left_by : (Query → Owed → Bool) → Query → Query
 left_by test query = record query { owed = filter (test query) query.owed }

@@ -5,3 +5,4 @@ pub mod Laws
 pub mod Waiting
 pub mod Ticked
 pub mod Keeping
+pub mod Ours

@@ -2,6 +2,7 @@
 ghost use Rattle.mdns_debts.specs.Following.{AreFollowed};
 ghost use Rattle.mdns_debts.specs.Keeping.{LastsTellNoMore, OursHaveOwnTtls};
 ghost use Rattle.mdns_debts.specs.Laws.{AreOfQueries, AreRepliedTo, AreReleasedBy};
+ghost use Rattle.mdns_debts.specs.Ours.{ComeIsOurs, OwedIsOurs};
 ghost use Rattle.mdns_debts.specs.Ticked.{IsLaterBehindTicks};
 ghost use Rattle.mdns_debts.specs.Waiting.{AreOfSame, IsWaiting};
 
@@ -31,4 +32,10 @@ pub fn replies_wait()
 pub fn kept_lasts_are_enough()
     ensures enough { LastsTellNoMore }
     ensures ttls { OursHaveOwnTtls }
+{}
+
+/// All that queries are owed is the daemon's to send, also what one is owed as it is heard. (RFC 6762 6)
+pub fn owed_records_are_ours()
+    ensures owed { OwedIsOurs }
+    ensures come { ComeIsOurs }
 {}
