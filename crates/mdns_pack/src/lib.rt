@@ -11,7 +11,7 @@ mod wanting;
 
 pub use legacy::pack_legacy;
 pub use lists::Messages;
-pub use order::{in_order, sorted};
+pub use order::{Ordered, in_order, sorted};
 pub use plain::pack_plain;
 pub use query::pack_query;
 pub use reply::pack_reply;

@@ -28,7 +28,7 @@ pub fn in_order(mut records: Vec<Rr>) -> Result<Rrs, AllocError>
 
 /// Records in record order, each once, so that one of them is soon found.
 #[derive(Drop)]
-pub(crate) struct Ordered {
+pub struct Ordered {
     records: Rrs,
 }
 
@@ -47,7 +47,7 @@ impl Model for Ordered {
 
 impl Ordered {
     /// Records in record order, of those that compare equal the first alone. Refused only for want of memory.
-    pub(crate) fn of(records: Vec<Rr>) -> Result<Self, AllocError>
+    pub fn of(records: Vec<Rr>) -> Result<Self, AllocError>
         ensures { IfOk result (λ kept. kept ≡ ordered record_cmp records.items) }
     {
         Ok(Ordered {
@@ -56,7 +56,7 @@ impl Ordered {
     }
 
     /// Whether a record is the same as one of these.
-    pub(crate) fn has(&self, rr: &Rr) -> bool
+    pub fn has(&self, rr: &Rr) -> bool
         ensures { result ≡ list_any (same rr.now) self.now }
     {
         let found = self

@@ -1,0 +1,5 @@
+pub mod Owing
+pub mod Keys
+pub mod Laws
+pub mod Asked
+pub mod Listed
