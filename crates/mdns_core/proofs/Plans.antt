@@ -1,13 +1,15 @@
 -- What a plan says of an event, once it is carried out: the entry that fits, and a next due moment that is later after a tick.
-use Rattle.std.proofs.Common.{◌≡◌, ℕ, ◌<◌, ◌≤◌, ◌++◌, true, false, List, ◌∷◌, map, IfSome, refl, ap, subst, sym, ◌∙◌}
+use Rattle.std.proofs.Common.{◌≡◌, ℕ, ◌<◌, ◌≤◌, ◌++◌, Bool, true, false, cond, List, ◌∷◌, map, IfSome, refl, ap, subst, sym, ◌∙◌}
 use Rattle.std.specs.List.Sorted.{IsPermutation}
-use Rattle.std.specs.Option.{unwrap_or}
+use Rattle.std.specs.Option.{unwrap_or, option_to_list}
 use Rattle.dns_record.specs.declared.record.Key.{Key}
 use Rattle.mdns_history.specs.declared.event.Event.{Event}
 use Rattle.mdns_history.specs.declared.event.Event.TheVariants as event
 use Rattle.mdns_history.specs.declared.held.Held.{Held}
 use Rattle.mdns_history.specs.declared.mark.Cause.{Cause}
 use Rattle.mdns_history.specs.declared.entry.Outcome.{Outcome}
+use Rattle.mdns_history.specs.declared.entry.Outcome.TheVariants.{Done}
+use Rattle.dns_record.specs.declared.record.Rr.{Rr}
 use Rattle.mdns_history.specs.declared.entry.Entry.{Entry}
 use Rattle.mdns_history.specs.declared.entry.Sent.{Sent}
 use Rattle.mdns_history.specs.History.{now}
@@ -31,13 +33,20 @@ use Rattle.mdns_claims.specs.State.{Contents}
 use Rattle.mdns_claims.specs.Owned.{own_in}
 use Rattle.mdns_claims.specs.Behind.{occasion_of, probes_told, contents_told}
 use Rattle.mdns_claims.specs.Planned.{IsPlan as IsClaimsPlan}
+use Rattle.mdns_reply.specs.Lasts.{multicasts_of}
 use Rattle.mdns_reply.specs.Lasts as lasts
+use Rattle.mdns_debts.specs.Queries.{Query}
+use Rattle.mdns_debts.specs.Following.{all_among}
+use Rattle.mdns_owing.specs.Owing.{ours_in, news_told, query_told, followed_by, kept_ours, queries_told}
+use Rattle.mdns_owing.specs.Laws.{AreFollowed}
+use Rattle.mdns_owing.proofs.Following.{queries_follow}
 use Rattle.mdns_responding.specs.Told.{responses_told, announced_told}
 use Rattle.mdns_step.specs.Viewed.{kept_outcome}
 use Rattle.mdns_step.specs.InForce.{in_force}
 use Rattle.mdns_step.specs.State.{State, Stands, due_of}
 use Rattle.mdns_step.specs.Enough.{chosen_for, claims_told}
 use Rattle.mdns_step.proofs.ticks.Ticked.{due-ticked}
+use Rattle.mdns_step.proofs.ticks.Replies.{replies-later}
 use Rattle.mdns_step.proofs.step.Moved.{stands-moved}
 use Rattle.mdns_step.proofs.step.Carried.{IsCarriedOut, carried}
 use Rattle.mdns_core.specs.Planned.{told_in, IsPlanFor}
@@ -80,6 +89,43 @@ module _ (state : State) (later : List Held) (moment word : ℕ) (ev : Event) (p
   claimed kept_then claims stay gives =
       subst (λ (k : Contents). IsClaimsPlan k (occasion_of k told moment word) plan.claims → claims ≡ contents_told k (occasion_of k told moment word)) stay (gives word) is.claims
 
+  abbrev responses : List Sent
+  responses = responses_told told moment state.multicasts state.queries state.claims.kept (claims_told state.claims told moment word).kept
+
+  -- what is multicast is what the plan says
+  multicasts_are : multicasts_of plan.sent ≡ plan.multicasts
+  unfolding multicasts_in
+  multicasts_are = is.multicasts (entry_of moment word ev plan Done) refl
+
+  -- the queries once the event was noted, with those that come and what is multicast
+  abbrev noted : List Rr → List Query → List Query
+  noted multicasts come = followed_by (news_told told moment word multicasts) come state.queries
+
+  abbrev later_claims : Contents
+  later_claims = claims_told state.claims told moment word
+
+  -- What is then kept of queries, where all that they are owed was the daemon's to send.
+  owing_are : (claims : Contents) (queries : List Query) → claims ≡ later_claims
+      → queries ≡ cond plan.keeps_own (noted plan.multicasts (option_to_list plan.come)) (kept_ours claims.kept (noted plan.multicasts (option_to_list plan.come)))
+      → all_among (ours_in state.claims.kept) (state.queries ++ query_told state.claims.kept state.multicasts told moment word) ≡ true
+      → queries ≡ queries_told state.claims.kept later_claims.kept state.multicasts (news_told told moment word (multicasts_of plan.sent)) state.queries
+  owing_are claims queries same made ours =
+      made
+      ∙ (λ i. cond plan.keeps_own (noted plan.multicasts (is.come i)) (kept_ours (same i).kept (noted plan.multicasts (is.come i))))
+      ∙ of plan.keeps_own refl
+      ∙ ap (λ (rrs : List Rr). queries_told state.claims.kept later_claims.kept state.multicasts (news_told told moment word rrs) state.queries) (sym multicasts_are)
+    where
+      come : List Query
+      come = query_told state.claims.kept state.multicasts told moment word
+
+      law : AreFollowed state.claims.kept later_claims.kept state.multicasts told moment word plan.multicasts state.queries
+      law = queries_follow state.claims.kept later_claims.kept state.multicasts told moment word plan.multicasts state.queries
+
+      of : (b : Bool) → plan.keeps_own ≡ b → cond b (noted plan.multicasts come) (kept_ours later_claims.kept (noted plan.multicasts come))
+          ≡ queries_told state.claims.kept later_claims.kept state.multicasts (news_told told moment word plan.multicasts) state.queries
+      of true e = law.whole (is.keeps e) ours
+      of false e = law.dropped
+
   -- a state at the moment of the event
   abbrev pub at_moment : State → State
   at_moment then = record then { last = moment }
@@ -93,6 +139,7 @@ module _ (state : State) (later : List Held) (moment word : ℕ) (ev : Event) (p
     pub follow : then.questions ≡ all_timed later (asked_of_plan state.questions)
     pub claimed : then.claims ≡ claims_told state.claims told moment word
     pub owned : have_data (own_in then.claims.kept) ≡ true
+    pub owing : then.queries ≡ cond plan.keeps_own (noted plan.multicasts (option_to_list plan.come)) (kept_ours then.claims.kept (noted plan.multicasts (option_to_list plan.come)))
     pub lasting : (entry : Entry) (past : List Entry) → entry.moment ≡ moment → now past ≤ moment → multicasts_in entry ≡ plan.multicasts → lasts.Stands state.multicasts past → lasts.Stands then.multicasts (entry ∷ past)
 
   followed : (tracked : List Tracked) →
@@ -102,9 +149,6 @@ module _ (state : State) (later : List Held) (moment word : ℕ) (ev : Event) (p
       made
       ∙ (λ i. all_timed later (all_asked moment (is.asking.asked i) (all_ended (is.asking.ended i) (all_begun moment word (is.asking.begun i) state.questions))))
       ∙ ap (all_timed later) (told_parts told state.sessions moment word (chosen_for told state.questions later moment) state.questions)
-
-  abbrev responses : List Sent
-  responses = responses_told told moment state.multicasts state.claims.kept (claims_told state.claims told moment word).kept
 
   sent_are : plan.sent ≡ probes_told told.ticks state.claims.kept moment ++ sent_told told.ticks later moment (chosen_for told state.questions later moment) ++ responses
   sent_are = is.sent ∙ ap (λ (queried : List Sent). queried ++ responses) is.asking.sent ∙ ap (λ (asked : List (Key × Cause)). probes_told told.ticks state.claims.kept moment ++ sent_told told.ticks later moment asked ++ responses) is.asking.asked
@@ -129,6 +173,7 @@ module _ (state : State) (later : List Held) (moment word : ℕ) (ev : Event) (p
     held = refl;
     follows = followed then.questions made.follow;
     claimed = made.claimed;
+    owing = owing_are then.claims then.queries made.claimed made.owing;
     lasting = λ history since stands. made.lasting (entry_of moment word ev plan went_so) history refl since (is.multicasts (entry_of moment word ev plan went_so) refl) stands;
   }
 
@@ -141,11 +186,15 @@ module _ (state : State) (later : List Held) (moment word : ℕ) (ev : Event) (p
       (both.0, stands-moved then.held later made.moved (record then { last = moment; held = later }) refl (entry ∷ history) both.1)
 
   -- After a tick the next due moment is later.
-  pub ticked-plan : (went_so : Outcome) (then : State) → IsMade went_so then → AllLive moment later → ev ≡ event.Tick → IfSome (due_of (at_moment then)) (λ due. moment < due)
-  ticked-plan went_so then made live tick =
+  pub ticked-plan : (went_so : Outcome) (then : State) → IsMade went_so then → state.last ≤ moment → moment ≤ last_moment → is_boot ev ≡ false → (history : List Entry) → Stands state history
+      → AllLive moment later → ev ≡ event.Tick → IfSome (due_of (at_moment then)) (λ due. moment < due)
+  ticked-plan went_so then made since in_time no_boot history stands live tick =
       let outcome : Outcome = kept_outcome state.claims state.opened state.sessions ev in
       let reads : told ≡ told_of event.Tick outcome told.refusal = is.told ∙ ap (λ (e : Event). told_of e outcome told.refusal) tick in
+      let entry : Entry = entry_of moment word ev plan went_so in
+      let both = carried-plan went_so then made since in_time no_boot history stands in
       due-ticked (at_moment then) later state.sessions word outcome told.refusal state.questions state.claims made.moved live is.gaps
       (followed then.questions made.follow
       ∙ ap (λ (t : Told). all_timed later (questions_told t.call t.detached state.sessions moment word (chosen_for t state.questions later moment) state.questions)) reads)
       (made.claimed ∙ ap (λ (t : Told). claims_told state.claims t moment word) reads)
+      (replies-later entry history both.0 tick then.multicasts both.1.multicasts then.queries both.1.queries)

@@ -1,5 +1,7 @@
 -- What a plan says of an event.
-use Rattle.std.specs.Prelude.{◌≡◌, ℕ, ◌≤◌, true, List, ◌++◌, map, length}
+use Rattle.std.specs.Prelude.{◌≡◌, ℕ, ◌≤◌, true, List, ◌++◌, map, length, IsTrue}
+use Rattle.std.specs.Option.{option_to_list}
+use Rattle.dns_record.specs.declared.record.Rr.{Rr}
 use Rattle.sd_answer.specs.Laws.{have_data}
 use Rattle.mdns_history.specs.declared.event.Event.{Event}
 use Rattle.mdns_history.specs.declared.held.Held.{Held}
@@ -20,9 +22,10 @@ use Rattle.mdns_step.specs.State.{State}
 use Rattle.mdns_history.specs.declared.entry.Entry.{Entry}
 use Rattle.mdns_history.specs.declared.entry.Sent.{Sent}
 use Rattle.mdns_history.specs.Debts.{multicasts_in}
+use Rattle.mdns_owing.specs.Owing.{query_told}
 use Rattle.mdns_responding.specs.Told.{responses_told, announced_told}
 use Rattle.mdns_step.specs.Viewed.{viewed, kept_outcome}
-use Rattle.mdns_claims.specs.Owned.{own_in}
+use Rattle.mdns_claims.specs.Owned.{own_in, is_ours}
 use Rattle.mdns_claims.specs.Behind.{occasion_of, probes_told}
 use Rattle.mdns_claims.specs.Planned as claiming
 use Rattle.mdns_step.specs.Next.{IsHeard}
@@ -39,6 +42,7 @@ kept_in kept =
       questions = kept.asking.now.questions;
       claims = kept.claims.now.contents;
       multicasts = kept.lasts.now.lasts;
+      queries = kept.owing.now.queries;
     }
 
 -- what is told of an event by its plan
@@ -60,8 +64,10 @@ pub record IsPlanFor (state : State) (later : List Held) (now word : ℕ) (event
   pub gaps : HaveGaps state.questions
   pub sessions : sessions.IsPlan (told_in plan) (answered (viewed state.claims state.held)) (answered (viewed (claims_told state.claims (told_in plan) now word) later)) state.sessions plan.sessions
   pub marks : plan.marks ≡ (told_in plan).refusal ++ plan.claims.marks ++ map mark_of plan.asking.asked.items ++ announced_told (told_in plan) now state.claims.kept ++ cuts_of plan.sessions.changes.items
-  pub sent : plan.sent ≡ queried ++ responses_told (told_in plan) now state.multicasts state.claims.kept (claims_told state.claims (told_in plan) now word).kept
+  pub sent : plan.sent ≡ queried ++ responses_told (told_in plan) now state.multicasts state.queries state.claims.kept (claims_told state.claims (told_in plan) now word).kept
   pub multicasts : (entry : Entry) → entry.sent ≡ plan.sent → multicasts_in entry ≡ plan.multicasts
+  pub come : option_to_list plan.come ≡ query_told state.claims.kept state.multicasts (told_in plan) now word
+  pub keeps : IsTrue plan.keeps_own → (rr : Rr) → is_ours state.claims.kept rr ≡ true → is_ours (claims_told state.claims (told_in plan) now word).kept rr ≡ true
   pub given : plan.given ≡ gifts_of plan.sessions.changes.items
 
 -- A plan is of an event behind what is kept: held after it is what the records that it hands on make of what was held.

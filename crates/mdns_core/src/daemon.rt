@@ -20,6 +20,7 @@ use mdns_cache::Steps;
 use mdns_claims::Claims;
 use mdns_happened::When;
 use mdns_history::{Config, Entry, Event, Gifts, Marks, Outcome, Sends};
+use mdns_owing::{News, Owing};
 use mdns_records::Records;
 use mdns_reply::Lasts;
 use sd_sessions::Sessions;
@@ -30,8 +31,8 @@ use std::sync::ledger::Ledger;
 /// Whether the daemon announces what it claims. (RFC 6762 8.3)
 const ANNOUNCES: bool = true;
 
-/// A daemon: the records that it holds, the names that it claims, the questions that it asks, its sessions, and when it last
-/// multicast records.
+/// A daemon: the records that it holds, the names that it claims, the questions that it asks, its sessions, when it last multicast
+/// records, and what queries are owed.
 #[derive(Drop)]
 pub struct Daemon {
     alloc: Global,
@@ -41,6 +42,8 @@ pub struct Daemon {
     asking: Asking,
     sessions: Sessions,
     lasts: Lasts,
+    owing: Owing,
+    key: u64,
 }
 
 impl Model for Daemon {
@@ -52,7 +55,7 @@ impl Model for Daemon {
 
     ghost Value = { State };
 
-    ghost view = { λ d. record { last = d.last; opened = d.sessions.opened; sessions = d.sessions.sessions; held = d.records.held; questions = d.asking.questions; claims = d.claims.contents; multicasts = d.lasts.lasts } };
+    ghost view = { λ d. record { last = d.last; opened = d.sessions.opened; sessions = d.sessions.sessions; held = d.records.held; questions = d.asking.questions; claims = d.claims.contents; multicasts = d.lasts.lasts; queries = d.owing.queries } };
 
     ghost invariant = { λ d. (length d.records.held ≤ room_for_records) × AllLive d.last d.records.held × AllHeard d.last d.records.held
         × AreTimed d.records.held d.asking.questions };
@@ -84,6 +87,8 @@ impl Daemon {
             asking: Asking::new(alloc),
             sessions: Sessions::with_key(alloc, u64::from(word)),
             lasts: Lasts::new(alloc, u64::from(word)),
+            owing: Owing::new(alloc),
+            key: u64::from(word),
         };
         let entry = Entry {
             moment: now,
@@ -113,14 +118,15 @@ impl Daemon {
     }
 
     /// The next moment at which something is due, in milliseconds, and no earlier than the last entry: when a live record ends, a
-    /// question is to be asked, or a group is to be probed, is sure of its name, or is to be announced. `None` where nothing ever
-    /// is. (RFC 6762 sections 5.2, 8 and 10)
+    /// question is to be asked, a group is to be probed, is sure of its name, or is to be announced, or some of what queries are owed
+    /// may be sent. `None` where nothing ever is. (RFC 6762 sections 5.2, 6, 8 and 10)
     pub fn next_due(&self) -> Option<u64>
         ensures value { result ≡ due_of self.now }
         ensures due { (history : List Entry) → Stands self.now history → NextDue in_force history result }
     {
         let due = earlier(self.records.next_end(), self.asking.first_due());
-        not_before(self.last, earlier(due, self.claims.next_due()))
+        let waits = earlier(self.claims.next_due(), self.owing.next_due(&self.lasts));
+        not_before(self.last, earlier(due, waits))
     }
 
     /// Does one event at `now`, in milliseconds, and answers its entry: for every history that the daemon stands for it is
@@ -151,8 +157,8 @@ impl Daemon {
         // Nothing unique is asserted before its probes, and nothing taken back that wasn't own.
         ensures asserts { IfOk result (λ entry. (history : List Entry) → Stands self.old history → IsEarned entry history) }
         ensures last { OnOk result (self.new.last ≡ now) }
-        // After a tick nothing is due by then.
-        ensures ticked { OnOk result (event ≡ Event.Tick → IfSome (due_of self.new) (λ due. now < due)) }
+        // After a tick of a daemon that stands for a history nothing is due by then.
+        ensures ticked { OnOk result ((history : List Entry) → Stands self.old history → event ≡ Event.Tick → IfSome (due_of self.new) (λ due. now < due)) }
         ensures err { OnErr result (self.new ≡ self.old) }
     {
         let when = When { moment: now, word };
@@ -164,13 +170,16 @@ impl Daemon {
             asking: &self.asking,
             sessions: &self.sessions,
             lasts: &self.lasts,
+            owing: &self.owing,
+            key: self.key,
         };
         let plan = make_plan(&kept, when, &event, steps)?;
         self.records.reserve(plan.heard.as_slice().len())?;
         self.claims.reserve(&plan.claims)?;
         self.asking.reserve(&plan.asking)?;
         self.sessions.reserve(&plan.happened, &plan.sessions)?;
-        self.lasts.reserve(&plan.multicasts)?;
+        self.lasts.reserve(plan.multicasts.as_rrs())?;
+        self.owing.reserve(&plan.come)?;
         let Plan {
             happened,
             heard,
@@ -181,6 +190,8 @@ impl Daemon {
             marks,
             sent,
             multicasts,
+            come,
+            keeps_own,
             given,
         } = plan;
         self.last = now;
@@ -188,7 +199,16 @@ impl Daemon {
         self.claims.apply(when, &happened, claims);
         self.asking.apply(when, &asking, &walks);
         let outcome = self.sessions.apply(&happened, sessions);
-        self.lasts.apply(now, multicasts);
+        self.owing.follow(
+            &News {
+                when,
+                happened: &happened,
+                multicasts: &multicasts,
+            },
+            come,
+        );
+        self.owing.keep_ours(&self.claims, keeps_own);
+        self.lasts.apply(now, multicasts.into_rrs());
         drop(happened);
         Ok(Entry {
             moment: now,

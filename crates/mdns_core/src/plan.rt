@@ -15,6 +15,10 @@ ghost use Rattle.mdns_claims.specs.Owned.{own_in};
 ghost use Rattle.mdns_claims.specs.Planned as claiming;
 ghost use Rattle.mdns_step.specs.Enough.{AreEnough, claims_told, with_own};
 ghost use Rattle.mdns_core.specs.Planned.{IsPlan, kept_in};
+ghost use Rattle.std.specs.Option.{option_to_list};
+ghost use Rattle.mdns_history.specs.declared.entry.Entry.{Entry};
+ghost use Rattle.mdns_history.specs.Debts.{multicasts_in};
+ghost use Rattle.mdns_owing.specs.Owing.{query_told};
 ghost use Rattle.mdns_responding.specs.Told.{announced_told};
 
 use crate::reading::{Reading, read_event};
@@ -25,6 +29,7 @@ use mdns_cache::Steps;
 use mdns_claims::{Behind, Claims, Plan as ClaimsPlan};
 use mdns_happened::{Around, Happened, OwnWalk, Walk, When};
 use mdns_history::{Event, Gifts, Marks, Sends};
+use mdns_owing::{Multicasts, Ours, Owing, Query};
 use mdns_records::Records;
 use mdns_reply::{Lasts, multicasts};
 use mdns_responding::Responder;
@@ -34,7 +39,7 @@ use std::sync::ledger::Ledger;
 
 /// What an event leads to: what happened, the records that are heard, those of the names that it concerns, before it and after
 /// it, the plans of claims, of questions and of sessions, the marks of the entry, what it sends, the records that are multicast
-/// with that, and the gifts.
+/// with that, the query that comes with it and is owed something, whether all that is the daemon's to send surely stays so, and the gifts.
 #[derive(Drop)]
 pub struct Plan<'a> {
     pub happened: Happened<'a>,
@@ -45,12 +50,14 @@ pub struct Plan<'a> {
     pub sessions: SessionsPlan,
     pub marks: Marks,
     pub sent: Sends,
-    pub multicasts: Rrs,
+    pub multicasts: Multicasts,
+    pub come: Option<Query>,
+    pub keeps_own: bool,
     pub given: Gifts,
 }
 
 /// What a daemon keeps before an event: its last moment, the records that it holds, the names that it claims, the questions that
-/// have users, its sessions, and when it last multicast records.
+/// have users, its sessions, when it last multicast records, and what queries are owed. The key is its own.
 #[derive(Drop)]
 pub struct Kept<'a> {
     pub alloc: Global,
@@ -60,6 +67,8 @@ pub struct Kept<'a> {
     pub asking: &'a Asking,
     pub sessions: &'a Sessions,
     pub lasts: &'a Lasts,
+    pub owing: &'a Owing,
+    pub key: u64,
 }
 
 /// What an event leads to. Nothing is changed. Refused only for want of memory.
@@ -82,14 +91,17 @@ pub fn make_plan<'a, L: Ledger>(
     let responder = Responder {
         alloc: kept.alloc,
         lasts: kept.lasts,
+        owing: kept.owing,
         behind: &behind,
     };
+    let keeps_own = behind.keeps_own();
     let mut sent = kept.claims.probes(when, &happened)?;
     let asking = kept
         .asking
         .plan(when, &happened, &walks, kept.sessions, &mut sent)?;
     responder.put_responses(&mut sent)?;
-    let multicasts = multicasts(kept.alloc, sent.as_slice())?;
+    let multicasts = multicasts_of(kept.alloc, &sent)?;
+    let come = come(kept, when, &happened)?;
     let registered = behind.registered(kept.alloc)?;
     let around = Around {
         walks: &walks,
@@ -108,8 +120,30 @@ pub fn make_plan<'a, L: Ledger>(
         marks,
         sent,
         multicasts,
+        come,
+        keeps_own,
         given,
     })
+}
+
+// The records that are multicast with what is sent. Refused only for want of memory.
+fn multicasts_of(alloc: Global, sent: &Sends) -> Result<Multicasts, AllocError>
+    ensures { IfOk result (λ made. (entry : Entry) → entry.sent ≡ sent.now → multicasts_in entry ≡ made) }
+{
+    Multicasts::of(alloc, multicasts(alloc, sent.as_slice())?)
+}
+
+// The query that comes with an event, if it is owed something by what is kept. Refused only for want of memory.
+fn come(kept: &Kept<'_>, when: When, happened: &Happened<'_>) -> Result<Option<Query>, AllocError>
+    ensures { IfOk result (λ query. option_to_list query ≡ query_told kept.now.claims.now.contents.kept kept.now.lasts.now.lasts (told_by happened.now) when.moment when.word) }
+{
+    let ours = Ours {
+        alloc: kept.alloc,
+        key: kept.key,
+        claims: kept.claims,
+        lasts: kept.lasts,
+    };
+    ours.query(when, happened)
 }
 
 // The records of the names that an event concerns, before it and after it: of those of which records end, are heard, come to be own or

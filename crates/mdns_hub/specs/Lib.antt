@@ -9,3 +9,4 @@ pub mod Stepped
 pub mod Kept
 pub mod Hubs
 pub mod Running
+pub mod Standing

@@ -5,8 +5,8 @@ ghost use Rattle.mdns_history.specs.Fitting.{is_boot};
 ghost use Rattle.mdns_hub.specs.Slots.{slot_at, is_kept, address_at, due_at, AreBehind};
 ghost use Rattle.mdns_hub.specs.Stepped.{IsStep};
 
+use crate::historic::Standing;
 use crate::steps::entry_of;
-use mdns_core::Daemon;
 use mdns_history::{Entry, Event};
 use std::alloc::{AllocError, Global};
 use std::marker::Brand;
@@ -16,7 +16,7 @@ use std::sync::ledger::Blank;
 #[derive(Drop)]
 pub(crate) struct Booted {
     pub address: u32,
-    pub daemon: Daemon,
+    pub daemon: Standing,
 }
 
 /// The daemons that were booted: each in the slot of its number, of which the first is that of 0.

@@ -7,10 +7,10 @@ ghost use Rattle.mdns_hub.specs.Order.{AreFit, AreFit-prop};
 
 use crate::HubError;
 use crate::daemons::{Booted, Daemons};
+use crate::historic::Standing;
 use crate::link::Link;
 use crate::steps::put_entry;
 use mdns_base::Sink;
-use mdns_core::Daemon;
 use mdns_draw::{SeedWords, Words};
 use mdns_history::{Config, Event, HostConfig};
 use mdns_script::Command;
@@ -179,7 +179,7 @@ impl Hub {
     {
         let word = self.words.take();
         let address = config.address;
-        let (daemon, entry) = Daemon::new(self.alloc, config, self.clock, word)?;
+        let (daemon, entry) = Standing::new(self.alloc, config, self.clock, word)?;
         self.daemons.boot(number, Booted { address, daemon })?;
         put_entry(self.alloc, number, &entry, output)?;
         Ok(())

@@ -4,6 +4,7 @@
 mod daemons;
 mod delivery;
 mod error;
+mod historic;
 mod hub;
 mod law;
 mod link;

@@ -9,9 +9,9 @@ ghost use Rattle.mdns_step.specs.State.{Stands, due_of};
 ghost use Rattle.mdns_hub.specs.Output.{HasWriteCause};
 
 use crate::HubError;
+use crate::historic::Standing;
 use mdns_base::Sink;
 use mdns_cache::Steps;
-use mdns_core::Daemon;
 use mdns_history::{Entry, Event, print_entry};
 use std::alloc::{AllocError, Global};
 use std::sync::ledger::{Blank, Ledger};
@@ -39,7 +39,7 @@ pub fn put_entry<K: Sink>(
 /// One event of a daemon at `now`, in milliseconds, and its entry. Its steps are counted from nothing. Refused only for want of
 /// memory; then the daemon is as before.
 pub(crate) fn entry_of<L: Ledger>(
-    daemon: &mut Daemon,
+    daemon: &mut Standing,
     now: u64,
     word: u32,
     event: Event,

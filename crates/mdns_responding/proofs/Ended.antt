@@ -20,6 +20,7 @@ use Rattle.mdns_claims.specs.Owned.{own_in}
 use Rattle.mdns_claims.specs.Planned.{going_on}
 use Rattle.mdns_announcing.specs.Told.{records_in, ended_in, goodbyes_told}
 use Rattle.mdns_reply.specs.Lasts.{Last}
+use Rattle.mdns_debts.specs.Queries.{Query}
 use Rattle.mdns_responding.specs.Told.{responses_told}
 
 none-ended : (told : Told) → ((group : Group) → ends_by told [] group ≡ false) → (kept : List Kept) → ended_in told kept ≡ []
@@ -61,14 +62,14 @@ still-more told rr one kept = of (ends_by told [] one.group)
     of false = of_sure one.claim.sure
 
 -- What happened sends no response, where time hasn't passed, no call was answered and no session was ended.
-pub no_responses : (happened : Happened) (moment : ℕ) (lasts : List Last) (kept later : List Kept) → (happened ≡ happening.Ticked → ⊥)
+pub no_responses : (happened : Happened) (moment : ℕ) (lasts : List Last) (queries : List Query) (kept later : List Kept) → (happened ≡ happening.Ticked → ⊥)
     → ((session op : ℕ) (request : Bor Request) (code : ℤ) → happened ≡ happening.Called session op request code → ⊥) → ((session : ℕ) → happened ≡ happening.Detached session → ⊥)
-    → responses_told (told_by happened) moment lasts kept later ≡ []
-no_responses happening.Ticked moment lasts kept later time called ended = absurd (time refl)
-no_responses (happening.Heard said) moment lasts kept later time called ended = no-goodbyes (told_by (happening.Heard said)) (λ group. refl) kept
-no_responses (happening.Refused why) moment lasts kept later time called ended = no-goodbyes (told_by (happening.Refused why)) (λ group. refl) kept
-no_responses (happening.Opened session) moment lasts kept later time called ended = no-goodbyes (told_by (happening.Opened session)) (λ group. refl) kept
-no_responses (happening.Called session op request code) moment lasts kept later time called ended = absurd (called session op request code refl)
-no_responses (happening.Detached session) moment lasts kept later time called ended = absurd (ended session refl)
-no_responses (happening.Took session max) moment lasts kept later time called ended = no-goodbyes (told_by (happening.Took session max)) (λ group. refl) kept
-no_responses (happening.Nothing why) moment lasts kept later time called ended = no-goodbyes (told_by (happening.Nothing why)) (λ group. refl) kept
+    → responses_told (told_by happened) moment lasts queries kept later ≡ []
+no_responses happening.Ticked moment lasts queries kept later time called ended = absurd (time refl)
+no_responses (happening.Heard said) moment lasts queries kept later time called ended = no-goodbyes (told_by (happening.Heard said)) (λ group. refl) kept
+no_responses (happening.Refused why) moment lasts queries kept later time called ended = no-goodbyes (told_by (happening.Refused why)) (λ group. refl) kept
+no_responses (happening.Opened session) moment lasts queries kept later time called ended = no-goodbyes (told_by (happening.Opened session)) (λ group. refl) kept
+no_responses (happening.Called session op request code) moment lasts queries kept later time called ended = absurd (called session op request code refl)
+no_responses (happening.Detached session) moment lasts queries kept later time called ended = absurd (ended session refl)
+no_responses (happening.Took session max) moment lasts queries kept later time called ended = no-goodbyes (told_by (happening.Took session max)) (λ group. refl) kept
+no_responses (happening.Nothing why) moment lasts queries kept later time called ended = no-goodbyes (told_by (happening.Nothing why)) (λ group. refl) kept

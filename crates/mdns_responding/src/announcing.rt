@@ -1,11 +1,12 @@
-// The announcements of a tick. (RFC 6762 8.3 and 8.4)
+// The responses of a tick to all. (RFC 6762 6, 8.3 and 8.4)
 ghost use Rattle.std.specs.Prelude.{IfOk, OnOk, filter, map, ◌++◌, ◌≡◌};
 ghost use Rattle.mdns_claims.specs.Later.{groups_behind};
 ghost use Rattle.mdns_claims.specs.Owned.{own_in};
 ghost use Rattle.mdns_history.specs.Sending.{to_all};
 ghost use Rattle.mdns_probe.specs.Claiming.{is_announce_due, ticked};
 ghost use Rattle.mdns_probe.specs.Kept.{announced_for};
-ghost use Rattle.mdns_responding.specs.Told.{announcements_told, answers_told, is_free_by};
+ghost use Rattle.mdns_responding.specs.Told.{answers_told, is_free_by, multicasts_told};
+ghost use Rattle.mdns_announcing.specs.Told.{announced_in, records_in};
 
 use crate::responder::Responder;
 use dns_message::Rrs;
@@ -17,9 +18,9 @@ use mdns_probe::Claim;
 use std::alloc::AllocError;
 
 impl Responder<'_> {
-    /// Puts the announcements of a tick behind what else is sent. Refused only for want of memory.
-    pub fn put_announcements(&self, sent: &mut Sends) -> Result<(), AllocError>
-        ensures { OnOk result (sent.new ≡ sent.old ++ announcements_told self.now.lasts.now.lasts self.now.behind.now.means.moment self.now.behind.now.groups.now (groups_behind self.now.behind.now)) }
+    /// Puts the responses of a tick to all behind what else is sent. Refused only for want of memory.
+    pub fn put_multicasts(&self, sent: &mut Sends) -> Result<(), AllocError>
+        ensures { OnOk result (sent.new ≡ sent.old ++ multicasts_told self.now.lasts.now.lasts self.now.owing.now.queries self.now.behind.now.means.moment self.now.behind.now.groups.now (groups_behind self.now.behind.now)) }
     {
         let answers = self.answers()?;
         let wanting = self.wanting(answers)?;
@@ -41,20 +42,33 @@ impl Responder<'_> {
         Ok(())
     }
 
-    // The records that a tick announces, in record order, without those that were multicast less than a second ago. Refused only for want of memory.
+    // The records that a tick multicasts, in record order: those that it announces and those that it releases. Refused only for want of
+    // memory.
     fn answers(&self) -> Result<Rrs, AllocError>
-        ensures { IfOk result (λ answers. answers ≡ answers_told self.now.lasts.now.lasts self.now.behind.now.means.moment self.now.behind.now.groups.now) }
+        ensures { IfOk result (λ answers. answers ≡ answers_told self.now.lasts.now.lasts self.now.owing.now.queries self.now.behind.now.means.moment self.now.behind.now.groups.now) }
     {
         let mut answers = Vec::new(self.alloc);
+        self.put_announced_records(&mut answers)?;
+        let released = self.owing.released(self.lasts, self.behind.means.moment)?;
+        for rr in released.into_vec() {
+            answers.push(rr)?;
+        }
+        in_order(answers)
+    }
+
+    // Puts the records that a tick announces behind others, without those that were multicast less than a second ago.
+    fn put_announced_records(&self, answers: &mut Vec<Rr>) -> Result<(), AllocError>
+        ensures { OnOk result (answers.new.items ≡ answers.old.items ++ filter (is_free_by self.now.lasts.now.lasts self.now.behind.now.means.moment) (records_in (announced_in self.now.behind.now.means.moment self.now.behind.now.groups.now))) }
+    {
         let groups = self.behind.groups;
         for one in groups {
             let claim = one.claim();
             if is_announced(claim, self.behind.means.moment) {
-                self.put_free(&mut answers, claim.unique.as_slice())?;
-                self.put_free(&mut answers, claim.shared.as_slice())?;
+                self.put_free(answers, claim.unique.as_slice())?;
+                self.put_free(answers, claim.shared.as_slice())?;
             }
         }
-        in_order(answers)
+        Ok(())
     }
 
     // Puts those of several records behind others that weren't multicast less than a second ago. Refused only for want of memory.

@@ -4,6 +4,7 @@ pub mod Duties
 pub mod Answered
 pub mod Claiming
 pub mod Responding
+pub mod Owed
 pub mod Standing
 pub mod Moved
 pub mod Stepped

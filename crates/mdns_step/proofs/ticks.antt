@@ -1,3 +1,4 @@
+pub mod Replies
 pub mod Ticks
 pub mod Quiet
 pub mod Due

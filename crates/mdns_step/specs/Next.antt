@@ -24,7 +24,9 @@ use Rattle.mdns_step.specs.State.{State}
 use Rattle.mdns_happened.specs.Told.{Told, told_of, is_tick}
 use Rattle.mdns_claims.specs.State.{Contents}
 use Rattle.mdns_claims.specs.Behind.{Occasion, occasion_of, probes_told, contents_told}
-use Rattle.mdns_reply.specs.Lasts.{Last}
+use Rattle.mdns_reply.specs.Lasts.{Last, multicasts_of}
+use Rattle.mdns_debts.specs.Following.{News}
+use Rattle.mdns_owing.specs.Owing.{news_told, queries_told}
 use Rattle.mdns_responding.specs.Told.{responses_told, announced_told}
 use Rattle.mdns_history.specs.declared.entry.Sent.{Sent}
 use Rattle.sd_sessions.specs.Sessions.{Session}
@@ -49,9 +51,9 @@ occasion_for state moment word event refusal = occasion_of state.claims (told_fo
 abbrev pub claims_then : State → ℕ → ℕ → Event → List Mark → Contents
 claims_then state moment word event refusal = contents_told state.claims (occasion_for state moment word event refusal)
 
--- the responses that an event sends to all, where that is then kept of claims
+-- the responses that an event sends, where that is then kept of claims
 abbrev pub responses_for : State → ℕ → Event → List Mark → Contents → List Sent
-responses_for state moment event refusal claims = responses_told (told_for state event refusal) moment state.multicasts state.claims.kept claims.kept
+responses_for state moment event refusal claims = responses_told (told_for state event refusal) moment state.multicasts state.queries state.claims.kept claims.kept
 
 -- the changes that an event brings to the sessions, where these records are live after it and that is then kept of claims
 abbrev pub changes_for : State → Event → Contents → List Held → List SessionChange
@@ -84,6 +86,11 @@ entry_for state moment word event refusal later =
       outcome = outcome_then event (early_for state event) (sessions_then state event changes);
     }
 
+-- what an event tells of itself, where these marks refuse its packet and these records are live after it
+abbrev pub news_for : State → ℕ → ℕ → Event → List Mark → List Held → News
+news_for state moment word event refusal later =
+    news_told (told_for state event refusal) moment word (multicasts_of (entry_for state moment word event refusal later).sent)
+
 -- what is kept after an event, where these marks refuse its packet, these records are live after it, and these last multicasts are then kept
 abbrev pub state_after : State → ℕ → ℕ → Event → List Mark → List Held → List Last → State
 state_after state moment word event refusal later multicasts =
@@ -96,6 +103,7 @@ state_after state moment word event refusal later multicasts =
       questions = all_timed later (questions_after state.sessions moment word event (early_for state event) (asked_then state moment event refusal later) state.questions);
       claims = claims;
       multicasts = multicasts;
+      queries = queries_told state.claims.kept claims.kept state.multicasts (news_for state moment word event refusal later) state.queries;
     }
 
 -- the mark of a packet that is refused: there would be too many records, or it spells no message

@@ -14,6 +14,7 @@ mod large;
 mod linked;
 mod played;
 mod program;
+mod replied;
 mod rows;
 mod story;
 mod transcripts;

@@ -1,5 +1,5 @@
 -- What an entry adds to the hearings, and that no more records are live than there is room for.
-use Rattle.std.proofs.Common.{◌≡◌, ℕ, ◌≤◌, Bool, true, false, cond, List, [], ◌∷◌, ◌++◌, map, length, Some, None, Result, Ok, Err, refl, ap, subst, ◌∙◌, sym, arith, suc, ◌||◌, append_assoc}
+use Rattle.std.proofs.Common.{◌≡◌, ℕ, ◌≤◌, Bool, true, false, cond, List, [], ◌∷◌, ◌++◌, map, length, Option, Some, None, Result, Ok, Err, refl, ap, subst, ◌∙◌, sym, arith, suc, ◌||◌, append_assoc}
 use Rattle.std.specs.Prelude.{reverse, filter, nat_lt}
 use Rattle.std.specs.List.{list_any}
 use Rattle.std.specs.Option.{option_map_or}
@@ -14,13 +14,14 @@ use Rattle.mdns_history.specs.declared.event.Event.TheVariants as event
 use Rattle.mdns_history.specs.declared.mark.Mark.{Mark}
 use Rattle.mdns_history.specs.declared.mark.Mark.TheVariants as mark
 use Rattle.mdns_history.specs.declared.entry.Entry.{Entry}
-use Rattle.mdns_history.specs.Hearings.{brought, counted, counted_records, heard_in, is_refusal, hearing_of, Hearing, hearings}
+use Rattle.mdns_history.specs.Hearings.{Heard, brought, counted, counted_records, heard_in, is_refusal, hearing_of, Hearing, hearings}
 use Rattle.mdns_history.specs.Lifetimes.{is_too_full, is_live_at, live_of, live_records}
 use Rattle.mdns_history.specs.History.{now}
 use Rattle.mdns_step.specs.InForce.{in_force}
 use Rattle.mdns_history.specs.Items.{cut_marks, served_sessions, would_pass}
 use Rattle.mdns_history.specs.Fitting.{refusal_marks, with_outcome, boot_entry, IsLegalFrom, IsLegal}
 use Rattle.mdns_history.proofs.LifetimeSteps.{live_of-later}
+use Rattle.mdns_happened.specs.Told.{unless, heard_of}
 use Rattle.mdns_step.specs.Next.{admitted_records}
 use Rattle.mdns_step.proofs.step.Stage.{bare, duty_marks, marked, cutting, giving, entry_after, entry_is}
 use Rattle.mdns_step.proofs.step.Duties.{duties_refuse_none}
@@ -35,6 +36,10 @@ nothing true true = refl
 nothing true false = refl
 nothing false true = refl
 nothing false false = refl
+
+of_none : (b : Bool) → ◌≡◌ {A = Option Heard} (cond b None None) None
+of_none true = refl
+of_none false = refl
 
 -- the records that count, behind the marks of a refusal and others that refuse nothing
 counted_marked : (entry : Entry) (past : List Entry) (ev : Event) (more : List Mark) → list_any is_refusal more ≡ false →
@@ -53,6 +58,24 @@ counted_marked entry past (event.Hear from bytes) more none = of (is_too_full en
     of false (Err e) = refl
 counted_marked entry past event.Tick more none = nothing (list_any is_refusal more) (is_too_full entry past)
 counted_marked entry past (event.Take session max) more none = nothing (list_any is_refusal more) (is_too_full entry past)
+
+-- an entry hears what its event brings, unless its packet was refused
+heard_marked : (entry : Entry) (past : List Entry) (ev : Event) (more : List Mark) → list_any is_refusal more ≡ false →
+    cond (list_any is_refusal (refusal_marks entry past ev ++ more)) None (brought ev) ≡ heard_of (refusal_marks entry past ev) ev
+heard_marked entry past (event.Boot config) more none = of_none (list_any is_refusal more)
+heard_marked entry past event.Attach more none = of_none (list_any is_refusal more)
+heard_marked entry past (event.Detach session) more none = of_none (list_any is_refusal more)
+heard_marked entry past (event.Call session op request) more none = of_none (list_any is_refusal more)
+heard_marked entry past (event.Hear from bytes) more none = of (is_too_full entry past) (spelled bytes)
+  where
+    of : (b : Bool) (r : Result Message MessageError) →
+        cond (list_any is_refusal (cond b (mark.Full ∷ []) (option_map_or (λ number. mark.Bad number ∷ []) (fault_of r) []) ++ more)) None (counted from r)
+        ≡ unless (cond b (mark.Full ∷ []) (option_map_or (λ number. mark.Bad number ∷ []) (fault_of r) [])) (counted from r)
+    of true r = refl
+    of false (Ok message) = ap (λ c. cond c None (counted from (Ok message))) none
+    of false (Err e) = refl
+heard_marked entry past event.Tick more none = of_none (list_any is_refusal more)
+heard_marked entry past (event.Take session max) more none = of_none (list_any is_refusal more)
 
 -- the mark of a packet: for want of room, by its fault, or none
 pub refusal-full : (entry : Entry) (past : List Entry) (from : Host) (bytes : List ℕ) → is_too_full entry past ≡ true → refusal_marks entry past (event.Hear from bytes) ≡ mark.Full ∷ []
@@ -115,6 +138,24 @@ module _ (past : List Entry) (moment word : ℕ) (ev : Event) where
   -- The entry adds the records that it takes in.
   pub hearings-next : hearings (entry_after past moment word ev ∷ past) ≡ heard_now ++ hearings past
   hearings-next = ap (λ e. hearings (e ∷ past)) (entry_is past moment word ev) ∙ outcome_unheard ∙ hearings-cutting
+
+  heard_cutting : heard_in (cutting past moment word ev) ≡ heard_of (refusal_marks (bare past moment word ev) past ev) ev
+  unfolding heard_in cut_marks
+  heard_cutting =
+      let cut_by : List ℕ = filter (would_pass (marked past moment word ev) past) (served_sessions (marked past moment word ev) past) in
+      let duties : List Mark = duty_marks past moment word ev in
+      let cut_marked : List Mark = map (λ n. mark.Cut n) cut_by in
+      ap (λ (marks : List Mark). cond (list_any is_refusal marks) None (brought ev)) (append_assoc (refusal_marks (bare past moment word ev) past ev) duties cut_marked)
+      ∙ heard_marked (bare past moment word ev) past ev (duties ++ cut_marked)
+      (list_any-append is_refusal duties cut_marked ∙ ap (λ b. b || list_any is_refusal cut_marked) (duties_refuse_none past moment word ev) ∙ cuts_refuse_none cut_by)
+
+  unheard : heard_in (with_outcome (giving past moment word ev) past) ≡ heard_in (cutting past moment word ev)
+  unfolding heard_in
+  unheard = refl
+
+  -- The entry hears what its event brings, unless its packet was refused.
+  pub heard-next : heard_in (entry_after past moment word ev) ≡ heard_of (refusal_marks (bare past moment word ev) past ev) ev
+  heard-next = ap heard_in (entry_is past moment word ev) ∙ unheard ∙ heard_cutting
 
   -- whether there is room, by the records that would be live
   pub is_too_full-is : is_too_full (bare past moment word ev) past ≡ nat_lt 32768 (length (live_of (heard_with_room ++ hearings past) moment))

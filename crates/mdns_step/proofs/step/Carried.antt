@@ -3,6 +3,7 @@ use Rattle.std.proofs.Common.{◌≡◌, ℕ, ◌≤◌, ◌++◌, true, false, 
 use Rattle.std.specs.Option.{unwrap_or}
 use Rattle.mdns_history.specs.declared.held.Held.{Held}
 use Rattle.mdns_history.specs.declared.entry.Entry.{Entry}
+use Rattle.mdns_history.specs.declared.entry.Sent.{Sent}
 use Rattle.mdns_history.specs.History.{now}
 use Rattle.mdns_history.specs.Hearings.{Hearing, hearings, counted_records, brought}
 use Rattle.mdns_step.specs.InForce.{in_force}
@@ -20,11 +21,16 @@ use Rattle.sd_sessions.specs.Settling.{change_told, cuts_of, gifts_of, shifted_t
 use Rattle.mdns_claims.specs.State.{Contents}
 use Rattle.mdns_claims.specs.Owned.{own_in}
 use Rattle.mdns_claims.specs.Behind.{occasion_of, probes_told}
+use Rattle.mdns_reply.specs.Lasts.{multicasts_of}
 use Rattle.mdns_reply.specs.Lasts as lasts
+use Rattle.mdns_debts.specs.Queries.{Query}
+use Rattle.mdns_debts.specs.Following.{all_among}
+use Rattle.mdns_owing.specs.Owing.{ours_in, news_told, query_told, queries_told}
 use Rattle.mdns_responding.specs.Told.{responses_told, announced_told}
 use Rattle.mdns_step.specs.Viewed.{viewed, kept_outcome}
 use Rattle.mdns_step.specs.Next.{claims_then, entry_for, state_after, IsHeard}
 use Rattle.mdns_step.specs.Enough.{chosen_for, claims_told}
+use Rattle.mdns_step.proofs.step.Owed.{all_ours}
 use Rattle.mdns_step.proofs.step.Stepped.{stepped}
 use Rattle.mdns_step.proofs.step.Standing.{heard-stands}
 use Rattle.mdns_step.proofs.records.HeldData.{data-kept}
@@ -50,7 +56,7 @@ pub record IsCarriedOut (state : State) (entry : Entry) (after : List Held) (the
   pub marked : entry.marks ≡ told.refusal ++ (occasion_of state.claims told entry.moment entry.word).marks ++ map mark_of (chosen_for told state.questions after entry.moment)
       ++ announced_told told entry.moment state.claims.kept ++ cuts_of changes
   pub sends : entry.sent ≡ probes_told told.ticks state.claims.kept entry.moment ++ sent_told told.ticks after entry.moment (chosen_for told state.questions after entry.moment)
-      ++ responses_told told entry.moment state.multicasts state.claims.kept (claims_by state entry.moment entry.word after told).kept
+      ++ responses_told told entry.moment state.multicasts state.queries state.claims.kept (claims_by state entry.moment entry.word after told).kept
   pub gifts : entry.given ≡ gifts_of changes
   pub late : entry.outcome ≡ outcome_told told.taking told.outcome (shifted_told told state.sessions changes)
   pub at : then.last ≡ entry.moment
@@ -60,6 +66,8 @@ pub record IsCarriedOut (state : State) (entry : Entry) (after : List Held) (the
   pub follows : then.questions ≡ all_timed after (questions_told told.call told.detached state.sessions entry.moment entry.word (chosen_for told state.questions after entry.moment) state.questions)
   pub claimed : then.claims ≡ claims_by state entry.moment entry.word after told
   pub lasting : (history : List Entry) → now history ≤ entry.moment → lasts.Stands state.multicasts history → lasts.Stands then.multicasts (entry ∷ history)
+  pub owing : all_among (ours_in state.claims.kept) (state.queries ++ query_told state.claims.kept state.multicasts told entry.moment entry.word) ≡ true
+      → then.queries ≡ queries_told state.claims.kept (claims_by state entry.moment entry.word after told).kept state.multicasts (news_told told entry.moment entry.word (multicasts_of entry.sent)) state.queries
 
 -- the entry and what is kept, by what is told and the changes of sessions
 module _ (state : State) (entry : Entry) (after : List Held) (then : State) where
@@ -72,7 +80,7 @@ module _ (state : State) (entry : Entry) (after : List Held) (then : State) wher
         marks = told.refusal ++ (occasion_of state.claims told entry.moment entry.word).marks ++ map mark_of (chosen_for told state.questions after entry.moment)
             ++ announced_told told entry.moment state.claims.kept ++ cuts_of changes;
         sent = probes_told told.ticks state.claims.kept entry.moment ++ sent_told told.ticks after entry.moment (chosen_for told state.questions after entry.moment)
-            ++ responses_told told entry.moment state.multicasts state.claims.kept (claims_by state entry.moment entry.word after told).kept;
+            ++ responses_told told entry.moment state.multicasts state.queries state.claims.kept (claims_by state entry.moment entry.word after told).kept;
         given = gifts_of changes;
         outcome = outcome_told told.taking told.outcome (shifted_told told state.sessions changes);
       }
@@ -87,6 +95,8 @@ module _ (state : State) (entry : Entry) (after : List Held) (then : State) wher
         questions = all_timed after (questions_told told.call told.detached state.sessions entry.moment entry.word (chosen_for told state.questions after entry.moment) state.questions);
         claims = claims_by state entry.moment entry.word after told;
         multicasts = then.multicasts;
+        queries = queries_told state.claims.kept (claims_by state entry.moment entry.word after told).kept state.multicasts
+            (news_told told entry.moment entry.word (multicasts_of (entry_by told changes).sent)) state.queries;
       }
 
 -- What a step made of a state is the entry that fits each history for which the state stands, and what is then kept stands for the history with it.
@@ -112,8 +122,17 @@ carried state entry after then out later in_time no_boot history stands =
         ∙ ap (entry_by state entry after then out.told) out.changed
         ∙ ap (λ (told : Told). entry_by state entry after then told (changes_by state entry.moment entry.word after told)) out.reads
 
+    -- the queries that are then owed something, told of what is sent
+    owing_by : List Sent → List Query
+    owing_by sent = queries_told state.claims.kept (claims_by state entry.moment entry.word after out.told).kept state.multicasts (news_told out.told entry.moment entry.word (multicasts_of sent)) state.queries
+
+    owing_is : then.queries ≡ owing_by (entry_by state entry after then out.told out.changes).sent
+    owing_is =
+        out.owing (all_ours history state.claims state.multicasts state.queries out.told entry.moment entry.word stands.claims stands.queries)
+        ∙ ap owing_by out.sends
+
     state_is : then ≡ state_after state entry.moment entry.word entry.event out.told.refusal after then.multicasts
     state_is =
-        (λ i. record { last = out.at i; opened = out.counted i; sessions = out.remains i; held = out.held i; questions = out.follows i; claims = out.claimed i; multicasts = then.multicasts })
+        (λ i. record { last = out.at i; opened = out.counted i; sessions = out.remains i; held = out.held i; questions = out.follows i; claims = out.claimed i; multicasts = then.multicasts; queries = owing_is i })
         ∙ ap (state_by state entry after then out.told) out.changed
         ∙ ap (λ (told : Told). state_by state entry after then told (changes_by state entry.moment entry.word after told)) out.reads

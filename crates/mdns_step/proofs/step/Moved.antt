@@ -123,6 +123,7 @@ module _ (held later : List Held) (moved : IsPermutation held later) where
     claims = stands.claims;
     announces = stands.announces;
     multicasts = stands.multicasts;
+    queries = stands.queries;
     records = IsPermutation-trans held later (live_records history (now history)) moved (subst (λ (l : List Held). IsPermutation l (live_records history (now history))) is stands.records);
     typed = list_all-IsPermutation (λ (rr : Rr). is_spellable_data rr.rdata) (map (λ (one : Held). one.rr) held) (map (λ (one : Held). one.rr) later) (IsPermutation-map (λ (one : Held). one.rr) held later moved)
         ∙ ap (λ (l : List Held). list_all (λ (rr : Rr). is_spellable_data rr.rdata) (map (λ (one : Held). one.rr) l)) (sym is) ∙ stands.typed;

@@ -1,6 +1,6 @@
 -- The entry that follows a history, by its stages: the marks of a refusal, of claims, of questions that are asked and of groups that are announced, and
--- what is sent; then the marks of cut sessions, then what is given. Of the duties claiming, asking and announcing are in force.
-use Rattle.std.proofs.Common.{◌≡◌, ℕ, ◌≤◌, false, cond, List, [], ◌∷◌, ◌++◌, refl, ap, ◌∙◌, sym, append-nil, append_assoc}
+-- what is sent; then the marks of cut sessions, then what is given. All duties are in force.
+use Rattle.std.proofs.Common.{◌≡◌, ℕ, ◌≤◌, false, cond, List, [], ◌∷◌, ◌++◌, refl, ap, ◌∙◌, sym, append_assoc}
 use Rattle.mdns_history.specs.declared.event.Event.{Event}
 use Rattle.mdns_history.specs.declared.event.Event.TheVariants as event
 use Rattle.mdns_history.specs.declared.mark.Mark.{Mark}
@@ -10,7 +10,7 @@ use Rattle.mdns_history.specs.History.{now}
 use Rattle.mdns_happened.specs.Told.{is_tick}
 use Rattle.mdns_step.specs.InForce.{in_force}
 use Rattle.mdns_history.specs.Asking.{tick_askings}
-use Rattle.mdns_history.specs.Sending.{sent_probes, sent_queries, sent_multicasts, tick_sends}
+use Rattle.mdns_history.specs.Sending.{sent_probes, sent_queries, sent_multicasts, sent_unicasts, tick_sends}
 use Rattle.mdns_responding.specs.Laws.{responses_of}
 use Rattle.mdns_history.specs.Fitting.{bare_entry, refusal_marks, disturbed_marks, asked_marks, announced_marks, event_marks, event_sends, noted, with_cuts, with_items, with_outcome, next_entry, last_moment, is_boot, Fits, IsLegal}
 use Rattle.mdns_history.proofs.Determined.{next_entry-fits}
@@ -38,8 +38,8 @@ sends_are entry past (event.Hear from bytes) = refl
 sends_are entry past event.Tick =
     let probes : List Sent = sent_probes past entry.moment in
     let queries : List Sent = sent_queries (tick_askings past entry.moment) past entry.moment in
-    let responses : List Sent = sent_multicasts in_force entry past in
-    ap (λ (all : List Sent). probes ++ (queries ++ all)) (append-nil responses) ∙ sym (append_assoc probes queries responses)
+    let responses : List Sent = sent_multicasts in_force entry past ++ sent_unicasts past entry.moment in
+    sym (append_assoc probes queries responses)
 sends_are entry past (event.Take session max) = refl
 
 module _ (past : List Entry) (moment word : ℕ) (ev : Event) where

@@ -23,7 +23,7 @@ use Rattle.mdns_history.specs.declared.event.Event.{Event}
 use Rattle.mdns_history.specs.declared.held.Held.{Held}
 use Rattle.mdns_history.specs.declared.mark.Mark.{Mark}
 use Rattle.mdns_step.specs.Next.{IsHeard}
-use Rattle.mdns_step.specs.State.{State, Stands, due_of}
+use Rattle.mdns_step.specs.State.{State, Stands, reply_moments, due_of}
 use Rattle.sd_sessions.specs.Sessions.{Session, session_in}
 use Rattle.sd_sessions.specs.Codes.{has_number}
 use Rattle.mdns_question.specs.Next.{next_of}
@@ -35,11 +35,13 @@ use Rattle.mdns_claims.specs.State as claims
 use Rattle.mdns_claims.specs.Behind.{next_in}
 use Rattle.mdns_reply.specs.Lasts.{Last}
 use Rattle.mdns_reply.specs.Lasts as lasts
+use Rattle.mdns_debts.specs.Queries.{Query, owed_queries}
+use Rattle.mdns_debts.specs.Following.{queries_in}
 use Rattle.sd_sessions.proofs.KeptOutcome.{found-session}
 
 -- the state of a daemon that was just booted
 abbrev pub booted_state : ℕ → Contents → State
-booted_state moment claims = record { last = moment; opened = 0; sessions = []; held = []; questions = []; claims = claims; multicasts = [] }
+booted_state moment claims = record { last = moment; opened = 0; sessions = []; held = []; questions = []; claims = claims; multicasts = []; queries = [] }
 
 none_live : (moment word : ℕ) (config : Config) → live_records (boot_entry moment word config ∷ []) moment ≡ []
 unfolding live_records live_of hearings heard_in
@@ -53,6 +55,10 @@ none_active : (moment word : ℕ) (config : Config) → ◌≡◌ {A = List Acti
 unfolding active_questions operations attached_sessions
 none_active moment word config = refl
 
+none_owed : (moment word : ℕ) (config : Config) → queries_in (boot_entry moment word config ∷ []) ≡ []
+unfolding owed_queries heard_in
+none_owed moment word config = refl
+
 -- A daemon that was just booted stands for the history of its boot, where its claims do and it knows of no multicast.
 pub stands-boot : (moment word : ℕ) (config : Config) (contents : Contents) → moment ≤ last_moment → IsTrue (is_host_label config.host) → claims.Stands contents (boot_entry moment word config ∷ []) →
     contents.announces ≡ in_force.announcing → lasts.Stands [] (boot_entry moment word config ∷ []) → Stands (booted_state moment contents) (boot_entry moment word config ∷ [])
@@ -65,6 +71,7 @@ stands-boot moment word config contents in_time labelled claiming announces last
   claims = claiming;
   announces = announces;
   multicasts = lasting;
+  queries = sym (none_owed moment word config);
   records = subst (λ live. IsPermutation [] live) (sym (none_live moment word config)) (IsPermutation-refl []);
   typed = refl;
 }
@@ -78,12 +85,16 @@ attached-stands state history stands n =
     of true = refl
     of false = refl
 
--- The next moment that is due is the first, from the last one on, at which a held record ends, or a question or a group is due.
+-- The next moment that is due is the first, from the last one on, at which a held record ends, or a question, a group or a reply is due.
 pub due-stands : (state : State) (history : List Entry) → Stands state history → NextDue in_force history (due_of state)
 due-stands state history stands =
-    subst (λ k. NextDue in_force history (option_map (max k) (least (map (λ one. one.end) state.held ++ map (next_of state.held) state.questions ++ flat_map (next_in state.claims.announces) state.claims.kept)))) (sym stands.last)
-    (due-held history (flat_map (next_in state.claims.announces) state.claims.kept) (λ t later. is_idle-kept history t stands.legal later state.claims stands.announces stands.claims)
+    subst (λ k. NextDue in_force history (option_map (max k) (least (map (λ one. one.end) state.held ++ map (next_of state.held) state.questions ++ waits)))) (sym stands.last)
+    (due-held history waits
+    (λ t later. is_idle-kept history t stands.legal later state.claims stands.announces stands.claims state.multicasts stands.multicasts state.queries stands.queries)
     state.questions state.held stands.asking stands.records)
+  where
+    waits : List ℕ
+    waits = flat_map (next_in state.claims.announces) state.claims.kept ++ reply_moments state.multicasts state.queries
 
 -- Replaying the items of a session that is attached and not cut gives the answers of its operations.
 pub replayed-stands : (state : State) (history : List Entry) → Stands state history → (n : ℕ) → is_attached n history ≡ true → is_cut n history ≡ false →

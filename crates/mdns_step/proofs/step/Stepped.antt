@@ -17,8 +17,9 @@ use Rattle.mdns_history.specs.declared.entry.Sent.{Sent}
 use Rattle.mdns_history.specs.declared.entry.Outcome.{Outcome}
 use Rattle.mdns_history.specs.declared.entry.Entry.{Entry}
 use Rattle.mdns_history.specs.History.{now}
+use Rattle.mdns_history.specs.History as moves
 use Rattle.mdns_step.specs.InForce.{in_force}
-use Rattle.mdns_history.specs.Hearings.{hearings}
+use Rattle.mdns_history.specs.Hearings.{hearings, heard_in}
 use Rattle.mdns_history.specs.Lifetimes.{live_records}
 use Rattle.mdns_history.specs.Sessions.{opened, opened_count}
 use Rattle.mdns_history.specs.Outcomes.{early_outcome}
@@ -34,19 +35,24 @@ use Rattle.mdns_asking.specs.Asked.{asked_for, sent_for, questions_after}
 use Rattle.mdns_asking.specs.State.{asker_of}
 use Rattle.mdns_asking.specs.Timed.{all_timed}
 use Rattle.sd_sessions.specs.Settling.{change_for, cuts_of, gifts_of, all_settled, remaining, with_opened, outcome_then, sessions_after}
-use Rattle.mdns_happened.specs.Told.{told_of, is_tick}
+use Rattle.mdns_happened.specs.Told.{Told, told_of, heard_of, is_tick}
 use Rattle.mdns_claims.specs.State.{Contents}
 use Rattle.mdns_claims.specs.State as claims
 use Rattle.mdns_claims.specs.Owned.{own_in}
 use Rattle.mdns_claims.specs.Behind.{occasion_of, probes_told, contents_told}
-use Rattle.mdns_reply.specs.Lasts.{Last}
+use Rattle.mdns_reply.specs.Lasts.{Last, multicasts_of}
+use Rattle.mdns_debts.specs.Queries.{Query}
+use Rattle.mdns_debts.specs.Following.{queries_in}
+use Rattle.mdns_owing.specs.Owing.{news_told, queries_told}
 use Rattle.mdns_reply.specs.Lasts as lasts
 use Rattle.mdns_responding.specs.Told.{responses_told, announced_told}
 use Rattle.mdns_responding.specs.Laws.{responses_of}
 use Rattle.mdns_step.specs.Viewed.{viewed, kept_outcome}
-use Rattle.mdns_step.specs.Next.{claims_then, changes_for, sessions_then, entry_for, state_after, IsHeard}
+use Rattle.mdns_step.specs.Next.{told_for, claims_then, changes_for, sessions_then, entry_for, state_after, IsHeard}
 use Rattle.mdns_step.proofs.step.Stage.{queries_by, probes_by, sent_by, bare, claim_marks, asking_marks, announcing_marks, entry_after, entry_is, marks_are, sent-next, IsLegal-next}
 use Rattle.mdns_step.proofs.step.Responding.{responses-kept, announced-kept}
+use Rattle.mdns_step.proofs.step.Owed.{ticks_are, queries-next}
+use Rattle.mdns_step.proofs.records.Heard.{heard-next}
 use Rattle.mdns_step.proofs.records.Hears.{refusal-is, records-is}
 use Rattle.mdns_step.proofs.asking.AskedFor.{marks-asked, sends-asked}
 use Rattle.mdns_step.proofs.asking.AskedAfter.{asking-next}
@@ -63,9 +69,9 @@ use Rattle.sd_sessions.proofs.Follows.{outcome-is, opened-is, sessions-is}
 abbrev entry_of : ℕ → ℕ → Event → List Mark → List Sent → List Given → Outcome → Entry
 entry_of moment word ev marks sent given outcome = record { moment = moment; word = word; event = ev; marks = marks; sent = sent; given = given; outcome = outcome }
 
-abbrev kept_state : ℕ → ℕ → List Session → List Held → List Tracked → Contents → List Last → State
-kept_state last count sessions held questions contents multicasts =
-    record { last = last; opened = count; sessions = sessions; held = held; questions = questions; claims = contents; multicasts = multicasts }
+abbrev kept_state : ℕ → ℕ → List Session → List Held → List Tracked → Contents → List Last → List Query → State
+kept_state last count sessions held questions contents multicasts owing =
+    record { last = last; opened = count; sessions = sessions; held = held; questions = questions; claims = contents; multicasts = multicasts; queries = owing }
 
 appended_parts : (ks ms ns os more : List Mark) → (ks ++ (ms ++ (ns ++ os))) ++ more ≡ ks ++ ms ++ ns ++ os ++ more
 appended_parts ks ms ns os more = ap (λ l. l ++ more) (sym (append_assoc ks ms (ns ++ os)) ∙ sym (append_assoc (ks ++ ms) ns os))
@@ -123,15 +129,21 @@ module _ (history : List Entry) (moment word : ℕ) (ev : Event) where
         ∙ ap (λ gs. entry_of moment word ev ms (sent_by (bare history moment word ev) history ev) gs e.outcome) (given-kept in_force history moment word ev legal)
         ∙ ap (λ o. entry_of moment word ev ms (sent_by (bare history moment word ev) history ev) (gifts_of changes) o) (outcome-is in_force history moment word ev legal no_boot)
 
+    word-is : (entry_after history moment word ev).word ≡ word
+    word-is = ap (λ x. x.word) (entry_is history moment word ev)
+
+    event-is : (entry_after history moment word ev).event ≡ ev
+    event-is = ap (λ x. x.event) (entry_is history moment word ev)
+
     moment-is : (entry_after history moment word ev).moment ≡ moment
     moment-is = ap (λ x. x.moment) (entry_is history moment word ev)
 
     module _ (since : now history ≤ moment) (contents : Contents) (announces : contents.announces ≡ in_force.announcing) (claims_stand : claims.Stands contents history)
         (questions : List Tracked) (before after : List Held) (refusal : List Mark) (questions_stand : asking.Stands (asker_of questions before) history)
         (held : IsPermutation before (live_records history (now history))) (heard : IsHeard moment word ev (hearings history) after refusal)
-        (multicasts : List Last) (lasting : lasts.Stands multicasts history) where
+        (multicasts : List Last) (lasting : lasts.Stands multicasts history) (owing : List Query) (owed : owing ≡ queries_in history) where
       abbrev state : State
-      state = kept_state (now history) (opened_count history) (sessions_in history) before questions contents multicasts
+      state = kept_state (now history) (opened_count history) (sessions_in history) before questions contents multicasts owing
 
       abbrev asked : List (Key × Cause)
       asked = asked_for questions after moment refusal ev
@@ -148,7 +160,7 @@ module _ (history : List Entry) (moment word : ℕ) (ev : Event) where
 
       -- the responses and the marks of announcements, for an outcome, the mark of a refusal and what is then kept of claims
       abbrev responses_by : Outcome → List Mark → Contents → List Sent
-      responses_by o marks then = responses_told (told_of ev o marks) moment multicasts contents.kept then.kept
+      responses_by o marks then = responses_told (told_of ev o marks) moment multicasts owing contents.kept then.kept
 
       abbrev announced_by : Outcome → List Mark → List Mark
       announced_by o marks = announced_told (told_of ev o marks) moment contents.kept
@@ -174,10 +186,10 @@ module _ (history : List Entry) (moment word : ℕ) (ev : Event) where
       claimed-are = (λ i. claimed_by (kept-early i) (refusal-same i)) ∙ claim-marks-kept history legal moment word ev no_boot since contents announces claims_stand
 
       announced-are : announced_by (kept_outcome contents (opened_count history) (sessions_in history) ev) refusal ≡ announcing_marked
-      announced-are = (λ i. announced_by (kept-early i) (refusal-same i)) ∙ announced-kept history legal moment word ev no_boot since contents claims_stand multicasts lasting
+      announced-are = (λ i. announced_by (kept-early i) (refusal-same i)) ∙ announced-kept history legal moment word ev no_boot since contents claims_stand multicasts lasting owing owed
 
       responses-are : responses_by (kept_outcome contents (opened_count history) (sessions_in history) ev) refusal (claims_then state moment word ev refusal) ≡ responses_sent
-      responses-are = (λ i. responses_by (kept-early i) (refusal-same i) (claims-are i)) ∙ responses-kept history legal moment word ev no_boot since contents claims_stand multicasts lasting
+      responses-are = (λ i. responses_by (kept-early i) (refusal-same i) (claims-are i)) ∙ responses-kept history legal moment word ev no_boot since contents claims_stand multicasts lasting owing owed
 
       module _ (data_before : have_data (rrs_of before ++ own_in contents.kept) ≡ true)
           (data_after : have_data (rrs_of after ++ own_in contents_then.kept) ≡ true) (typed_after : have_data (rrs_of after) ≡ true) where
@@ -224,6 +236,22 @@ module _ (history : List Entry) (moment word : ℕ) (ev : Event) where
             (subst (λ x. asking.Stands (asker_of (questions_after (sessions_in history) moment word ev x asked questions) after) (entry_after history moment word ev ∷ history)) (sym kept-early)
             (asking-next history legal moment word ev questions before after refusal questions_stand heard))
 
+        -- what is told of the event, and what it tells the queries that are owed something
+        abbrev told : Told
+        told = told_for state ev refusal
+
+        heard-same : told.heard ≡ heard_in (entry_after history moment word ev)
+        heard-same = ap (λ (marks : List Mark). heard_of marks ev) refusal-same ∙ sym (heard-next history moment word ev)
+
+        ticks-same : told.ticks ≡ moves.is_tick (entry_after history moment word ev).event
+        ticks-same = ticks_are ev ∙ ap moves.is_tick (sym event-is)
+
+        queries-after : (state_after state moment word ev refusal after multicasts).queries ≡ queries_in (entry_after history moment word ev ∷ history)
+        queries-after =
+            (λ i. queries_told contents.kept (claims-are i).kept multicasts (news_told told (sym moment-is i) (sym word-is i) (multicasts_of (entry_for-is i).sent)) owing)
+            ∙ queries-next history (entry_after history moment word ev) contents contents_then multicasts owing told claims_stand
+            (claims-next history legal moment word ev no_boot since contents announces claims_stand) lasting owed heard-same ticks-same (subst (λ m. now history ≤ m) (sym moment-is) since)
+
         announces-after : (claims_then state moment word ev refusal).announces ≡ in_force.announcing
         unfolding contents_told
         announces-after = announces
@@ -240,6 +268,7 @@ module _ (history : List Entry) (moment word : ℕ) (ev : Event) where
               (claims-next history legal moment word ev no_boot since contents announces claims_stand);
           announces = announces-after;
           multicasts = then_lasting;
+          queries = queries-after;
           records = records-after;
           typed = typed_after;
         }
@@ -263,7 +292,7 @@ pub stepped : (state : State) (history : List Entry) → Stands state history �
     Fits in_force (entry_for state moment word ev refusal after) history × Stands (state_after state moment word ev refusal after multicasts) (entry_for state moment word ev refusal after ∷ history)
 stepped state history stands moment word ev later in_time no_boot after refusal heard data_before data_after own_before own_after multicasts lasting =
     subst (λ (s : State). Fits in_force (entry_for s moment word ev refusal after) history × Stands (state_after s moment word ev refusal after multicasts) (entry_for s moment word ev refusal after ∷ history)) (sym same)
-    (stepped-from history moment word ev stands.legal no_boot since state.claims stands.announces stands.claims state.questions state.held after refusal stands.asking stands.records heard state.multicasts stands.multicasts
+    (stepped-from history moment word ev stands.legal no_boot since state.claims stands.announces stands.claims state.questions state.held after refusal stands.asking stands.records heard state.multicasts stands.multicasts state.queries stands.queries
     (both-have (rrs_of state.held) (own_in state.claims.kept) data_before own_before)
     (both-have (rrs_of after) _ data_after (subst (λ (c : Contents). have_data (own_in c.kept) ≡ true) claims_same own_after))
     data_after in_time multicasts (subst (λ (s : State). lasts.Stands multicasts (entry_for s moment word ev refusal after ∷ history)) same lasting))
@@ -271,12 +300,12 @@ stepped state history stands moment word ev later in_time no_boot after refusal 
     since : now history ≤ moment
     since = subst (λ k. k ≤ moment) stands.last later
 
-    same : state ≡ kept_state (now history) (opened_count history) (sessions_in history) state.held state.questions state.claims state.multicasts
-    same = ap (λ l. kept_state l state.opened state.sessions state.held state.questions state.claims state.multicasts) stands.last
-        ∙ ap (λ o. kept_state (now history) o state.sessions state.held state.questions state.claims state.multicasts) stands.opened
-        ∙ ap (λ ss. kept_state (now history) (opened_count history) ss state.held state.questions state.claims state.multicasts) stands.sessions
+    same : state ≡ kept_state (now history) (opened_count history) (sessions_in history) state.held state.questions state.claims state.multicasts state.queries
+    same = ap (λ l. kept_state l state.opened state.sessions state.held state.questions state.claims state.multicasts state.queries) stands.last
+        ∙ ap (λ o. kept_state (now history) o state.sessions state.held state.questions state.claims state.multicasts state.queries) stands.opened
+        ∙ ap (λ ss. kept_state (now history) (opened_count history) ss state.held state.questions state.claims state.multicasts state.queries) stands.sessions
 
     claims_same : claims_then state moment word ev refusal ≡ contents_next history stands.legal moment word ev no_boot since state.claims stands.announces stands.claims
     claims_same =
         ap (λ (s : State). claims_then s moment word ev refusal) same
-        ∙ claims-are history moment word ev stands.legal no_boot since state.claims stands.announces stands.claims state.questions state.held after refusal stands.asking stands.records heard state.multicasts stands.multicasts
+        ∙ claims-are history moment word ev stands.legal no_boot since state.claims stands.announces stands.claims state.questions state.held after refusal stands.asking stands.records heard state.multicasts stands.multicasts state.queries stands.queries

@@ -39,7 +39,13 @@ use Rattle.mdns_claims.specs.Owned.{own_in, registered_answers}
 use Rattle.mdns_claims.specs.Behind.{Occasion, next_in, ends, renewed_if, ticked_on, behind, occasion_of, contents_told}
 use Rattle.mdns_claims.specs.Laws.{told_in}
 use Rattle.sd_sessions.specs.Laws.{answers_in}
+use Rattle.mdns_reply.specs.Lasts.{Last}
+use Rattle.mdns_reply.specs.Lasts as lasts
+use Rattle.mdns_debts.specs.Queries.{Query}
+use Rattle.mdns_debts.specs.Following.{queries_in}
 use Rattle.mdns_step.specs.InForce.{in_force}
+use Rattle.mdns_step.specs.State.{reply_moments}
+use Rattle.mdns_step.proofs.ticks.Replies.{replies-quiet}
 use Rattle.mdns_step.proofs.records.QuietRecords.{filter-all, live_records-quiet}
 use Rattle.mdns_step.proofs.step.Stage.{announcing_marks, entry_after, entry_is}
 use Rattle.mdns_step.proofs.step.Answered.{live, claims-are, answers-kept}
@@ -225,24 +231,35 @@ module _ (past : List Entry) (moment : ℕ) (legal : IsLegal in_force past) (lat
       ∙ (λ i. cond (is_register o.request) (registered-same (sym settles-are ∙ settled) o.session o.op i) (answers_over o.request (records-same none i ++ own-same settled i)))
       ∙ (λ i. answers-kept past contents stands i o)
 
-  -- A tick is idle where it ends no record, asks no question and comes before the moments of all groups.
-  pub is_idle-kept : is_idle in_force past moment ≡ ((ends_none past moment && is_nothing (tick_askings past moment)) && list_all (nat_lt moment) (flat_map (next_in contents.announces) contents.kept))
-  unfolding in_force
-  is_idle-kept =
-      is_idle-tick past moment legal answers-same
-      ∙ (λ i. ends_none past moment && (settles-are i && (is_nothing (tick_askings past moment) && (is_nothing (probes-same i) && is_nothing (announced-same i)))))
-      ∙ turned (ends_none past moment) unsettled (is_nothing (tick_askings past moment)) (is_nothing (probes_for contents.kept moment) && is_nothing (announced_for (map (λ (one : Kept). one.claim) contents.kept) moment))
-      ∙ ap (λ b. (ends_none past moment && is_nothing (tick_askings past moment)) && b)
-      (groups_quiet moment contents.kept ∙ ap (λ b. list_all (nat_lt moment) (flat_map (next_in b) contents.kept)) (sym announces))
-    where
-      probes-same : sent_probes past moment ≡ probes_for contents.kept moment
-      probes-same = probes_are past moment ∙ ap (λ (ks : List Kept). probes_for ks moment) (sym stands.kept)
+  module _ (multicasts : List Last) (lasting : lasts.Stands multicasts past) (owing : List Query) (owed : owing ≡ queries_in past) where
+    -- A tick is idle where it ends no record, asks no question and comes before the moments of all groups and of all that is owed.
+    pub is_idle-kept : is_idle in_force past moment
+        ≡ ((ends_none past moment && is_nothing (tick_askings past moment)) && list_all (nat_lt moment) (flat_map (next_in contents.announces) contents.kept ++ reply_moments multicasts owing))
+    unfolding in_force
+    is_idle-kept =
+        is_idle-tick past moment legal answers-same
+        ∙ (λ i. ends_none past moment && (settles-are i && (is_nothing (tick_askings past moment) && (is_nothing (probes-same i) && (is_nothing (announced-same i) && replies-quiet past moment later multicasts lasting owing owed i)))))
+        ∙ turned (ends_none past moment) unsettled (is_nothing (tick_askings past moment)) (is_nothing (probes_for contents.kept moment)) (is_nothing (announced_for (map (λ (one : Kept). one.claim) contents.kept) moment))
+        (list_all (nat_lt moment) (reply_moments multicasts owing))
+        ∙ (λ i. (ends_none past moment && is_nothing (tick_askings past moment)) && (quiet-same i && list_all (nat_lt moment) (reply_moments multicasts owing)))
+        ∙ ap (λ b. (ends_none past moment && is_nothing (tick_askings past moment)) && b)
+        (sym (list_all-append (nat_lt moment) (flat_map (next_in contents.announces) contents.kept) (reply_moments multicasts owing)))
+      where
+        probes-same : sent_probes past moment ≡ probes_for contents.kept moment
+        probes-same = probes_are past moment ∙ ap (λ (ks : List Kept). probes_for ks moment) (sym stands.kept)
 
-      announced-same : announcing_marks past moment 0 event.Tick ≡ announced_for (map (λ (one : Kept). one.claim) contents.kept) moment
-      announced-same = announcements_follow in_force past moment 0 refl legal later ∙ ap (λ (cs : List Claim). announced_for cs moment) (sym (claims-are past contents stands))
+        announced-same : announcing_marks past moment 0 event.Tick ≡ announced_for (map (λ (one : Kept). one.claim) contents.kept) moment
+        announced-same = announcements_follow in_force past moment 0 refl legal later ∙ ap (λ (cs : List Claim). announced_for cs moment) (sym (claims-are past contents stands))
 
-      turned : (e s a q : Bool) → (e && (s && (a && q))) ≡ ((e && a) && (s && q))
-      turned true true a q = refl
-      turned true false true q = refl
-      turned true false false q = refl
-      turned false s a q = refl
+        quiet-same : (unsettled && (is_nothing (probes_for contents.kept moment) && is_nothing (announced_for (map (λ (one : Kept). one.claim) contents.kept) moment)))
+            ≡ list_all (nat_lt moment) (flat_map (next_in contents.announces) contents.kept)
+        quiet-same = groups_quiet moment contents.kept ∙ ap (λ b. list_all (nat_lt moment) (flat_map (next_in b) contents.kept)) (sym announces)
+
+        turned : (e s a p m r : Bool) → (e && (s && (a && (p && (m && r))))) ≡ ((e && a) && ((s && (p && m)) && r))
+        turned true true true true true r = refl
+        turned true true true true false r = refl
+        turned true true true false m r = refl
+        turned true true false p m r = refl
+        turned true false true p m r = refl
+        turned true false false p m r = refl
+        turned false s a p m r = refl

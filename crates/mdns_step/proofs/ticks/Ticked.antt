@@ -1,6 +1,7 @@
--- After a tick the next due moment is later than it: each question that was due has been asked, each held record is live, and each group was probed or made
--- sure where that was due.
-use Rattle.std.proofs.Common.{◌≡◌, ◌<◌, ℕ, true, List, IfSome, refl, ap, subst, ◌∙◌, sym, append-nil}
+-- After a tick the next due moment is later than it: each question that was due has been asked, each held record is live, each group was probed or made sure
+-- where that was due, and what was due to queries was sent.
+use Rattle.std.proofs.Common.{◌≡◌, ◌<◌, ℕ, true, ◌&&◌, List, ◌++◌, IfSome, refl, ap, subst, ◌∙◌, sym, append-nil}
+use Rattle.std.proofs.lemmas.List.Folds.{list_all-append}
 use Rattle.std.specs.Prelude.{nat_lt}
 use Rattle.std.specs.List.{list_all, flat_map, filter_map}
 use Rattle.std.specs.List.Sorted.{IsPermutation}
@@ -22,7 +23,7 @@ use Rattle.mdns_probe.specs.Kept.{Kept}
 use Rattle.mdns_claims.specs.State.{Contents}
 use Rattle.mdns_claims.specs.Behind.{Occasion, occasion_of, next_in, behind, contents_told}
 use Rattle.mdns_step.specs.Enough.{claims_told}
-use Rattle.mdns_step.specs.State.{State, due_of}
+use Rattle.mdns_step.specs.State.{State, reply_moments, due_of}
 use Rattle.mdns_step.proofs.ticks.Quiet.{all_ticked, groups-later}
 use Rattle.mdns_step.proofs.step.Moved.{due-moved}
 
@@ -30,9 +31,10 @@ pub due-ticked : (state : State) (later : List Held) (sessions : List Session) (
     IsPermutation state.held later → AllLive state.last later → HaveGaps questions →
     state.questions ≡ all_timed later (questions_after sessions state.last word event.Tick outcome (asked_for questions later state.last refusal event.Tick) questions) →
     state.claims ≡ claims_told contents (told_of event.Tick outcome refusal) state.last word →
+    list_all (nat_lt state.last) (reply_moments state.multicasts state.queries) ≡ true →
     IfSome (due_of state) (λ due. state.last < due)
 unfolding questions_told asked_told contents_told
-due-ticked state later sessions word outcome refusal questions contents moved live gaps after claimed =
+due-ticked state later sessions word outcome refusal questions contents moved live gaps after claimed replies =
     subst (λ due. IfSome due (λ (moment : ℕ). state.last < moment)) (sym (due-moved state.held later moved state.last state.questions others))
     (due-later state.questions later state.last others live
     (ap (λ qs. due_at (asker_of qs later) state.last) after ∙ none_due_timed later state.last later questions gaps)
@@ -41,12 +43,18 @@ due-ticked state later sessions word outcome refusal questions contents moved li
     at : Occasion
     at = occasion_of contents (told_of event.Tick outcome refusal) state.last word
 
-    others : List ℕ
-    others = flat_map (next_in state.claims.announces) state.claims.kept
+    waits : List ℕ
+    waits = flat_map (next_in state.claims.announces) state.claims.kept
 
-    beyond : list_all (nat_lt state.last) others ≡ true
-    beyond =
+    others : List ℕ
+    others = waits ++ reply_moments state.multicasts state.queries
+
+    groups-beyond : list_all (nat_lt state.last) waits ≡ true
+    groups-beyond =
         ap (λ (c : Contents). list_all (nat_lt state.last) (flat_map (next_in c.announces) c.kept)) claimed
         ∙ ap (λ (ks : List Kept). list_all (nat_lt state.last) (flat_map (next_in contents.announces) ks))
         (append-nil (filter_map (behind at) contents.kept) ∙ all_ticked at refl contents.kept)
         ∙ groups-later at contents.kept
+
+    beyond : list_all (nat_lt state.last) others ≡ true
+    beyond = list_all-append (nat_lt state.last) waits (reply_moments state.multicasts state.queries) ∙ (λ i. groups-beyond i && replies i)

@@ -1,9 +1,10 @@
--- When a tick does nothing: where no live record has ended by then, no group is probed or made sure, and no question is asked, if it then leaves the answers.
+-- When a tick does nothing: where no live record has ended by then, no group is probed or made sure, no question is asked, and nothing that is
+-- owed is due, if it then leaves the answers.
 use Rattle.std.proofs.Common.{◌≡◌, ℕ, ◌≤◌, Bool, true, false, not, ◌&&◌, List, [], ◌∷◌, ◌++◌, map, None, refl, ap, ◌∙◌, arith, append-nil}
 use Rattle.std.proofs.Math.Bool.{and-false}
-use Rattle.std.specs.Prelude.{filter, nat_lt}
+use Rattle.std.specs.Prelude.{filter, nat_lt, zip}
 use Rattle.std.specs.List.{flat_map}
-use Rattle.dns_message.specs.Packing.{pack_query, pack_reply}
+use Rattle.dns_message.specs.Packing.{pack_query, pack_reply, parts_from, fits, bare_reply, answers_in as part_answers, replies_of, Wanting}
 use Rattle.dns_name.specs.Lists.{ordered}
 use Rattle.dns_record.specs.declared.record.Rr.{Rr}
 use Rattle.dns_record.specs.Records.{record_cmp}
@@ -20,8 +21,10 @@ use Rattle.mdns_history.specs.Sessions.{is_cut, operations_of}
 use Rattle.mdns_history.specs.Asking.{tick_askings}
 use Rattle.mdns_history.specs.Groups.{Group, group_records}
 use Rattle.mdns_history.specs.Sureness.{own_records}
+use Rattle.mdns_history.specs.Multicasts.{released_records}
+use Rattle.mdns_debts.proofs.Nothing.{map_nothing, append_nothing, ordered_nothing, parts_some}
 use Rattle.mdns_history.specs.Announcing.{announced_groups}
-use Rattle.mdns_history.specs.Sending.{to_all, is_free, wanted_by, sent_probes, sent_queries, sent_multicasts}
+use Rattle.mdns_history.specs.Sending.{to_all, is_free, wanted_by, sent_probes, sent_queries, sent_multicasts, sent_unicasts}
 use Rattle.mdns_history.specs.Items.{given_to, queue}
 use Rattle.mdns_history.specs.Outcomes.{early_outcome}
 use Rattle.mdns_history.specs.Fitting.{IsLegal}
@@ -69,25 +72,53 @@ never_settled marks sent given c = of (is_nothing marks) (is_nothing sent) (is_n
     of true false r = refl
     of false q r = refl
 
--- where no group is announced no response is sent to all
-quiet_announcing : (entry : Entry) (past : List Entry) → announced_groups (entry ∷ past) entry.moment ≡ [] → sent_multicasts in_force entry past ≡ []
-unfolding in_force pack_reply
-quiet_announcing entry past none =
-    let own : List Rr = own_records (entry ∷ past) in
-    let answers : List Group → List Rr =
-    λ gs. ordered record_cmp (filter (is_free past entry.moment) (flat_map (λ group. group_records group (entry ∷ past)) gs) ++ []) in
-    ap (λ (gs : List Group). map to_all (pack_reply (answers gs) (map (λ rr. filter (is_free past entry.moment) (wanted_by own rr.rdata)) (answers gs)))) none
+replies_nothing : (all before : List Rr) (parts : List (List Wanting)) → is_nothing (replies_of all before parts) ≡ is_nothing parts
+replies_nothing all before [] = refl
+replies_nothing all before (part ∷ parts) = refl
 
--- where no question is asked and no group is announced nothing but probes is sent
-quiet_askings : (askings : List Mark) (past : List Entry) (moment : ℕ) (probes : List Sent) (entry : Entry) (gs : List Group) → announced_groups (entry ∷ past) entry.moment ≡ gs →
-    all_quiet (askings ++ map (λ (group : Group). mark.Announced group.id) gs) (probes ++ sent_queries askings past moment ++ sent_multicasts in_force entry past) [] true true
-    ≡ (is_nothing askings && (is_nothing probes && is_nothing (map (λ (group : Group). mark.Announced group.id) gs)))
+-- there is a reply where there is an answer
+packed_nothing : (wants : Rr → List Rr) (answers : List Rr) → is_nothing (pack_reply answers (map wants answers)) ≡ is_nothing answers
+unfolding pack_reply
+packed_nothing wants [] = refl
+packed_nothing wants (rr ∷ rrs) =
+    replies_nothing (rr ∷ rrs) [] (parts_from part_fits part_fits ((rr, wants rr) ∷ []) (zip rrs (map wants rrs)))
+    ∙ parts_some part_fits part_fits ((rr, wants rr) ∷ []) (zip rrs (map wants rrs))
+  where
+    part_fits : List Wanting → Bool
+    part_fits part = fits (bare_reply (part_answers part))
+
+-- where no group is announced what is released alone is multicast
+released_alone : (entry : Entry) (past : List Entry) → announced_groups (entry ∷ past) entry.moment ≡ [] → is_nothing (sent_multicasts in_force entry past) ≡ is_nothing (released_records past entry.moment)
+unfolding in_force
+released_alone entry past none =
+    let own : List Rr = own_records (entry ∷ past) in
+    let released : List Rr = released_records past entry.moment in
+    let wants : Rr → List Rr = λ rr. filter (is_free past entry.moment) (wanted_by own rr.rdata) in
+    let answers : List Group → List Rr =
+    λ gs. ordered record_cmp (filter (is_free past entry.moment) (flat_map (λ group. group_records group (entry ∷ past)) gs) ++ released) in
+    ap (λ (gs : List Group). is_nothing (map to_all (pack_reply (answers gs) (map wants (answers gs))))) none
+    ∙ map_nothing to_all (pack_reply (answers []) (map wants (answers [])))
+    ∙ packed_nothing wants (answers [])
+    ∙ ordered_nothing released
+
+-- where no question is asked and no group is announced nothing is sent but probes, what is released, and replies
+quiet_askings : (askings : List Mark) (past : List Entry) (moment : ℕ) (probes unicasts : List Sent) (entry : Entry) → entry.moment ≡ moment → (gs : List Group) → announced_groups (entry ∷ past) entry.moment ≡ gs →
+    all_quiet (askings ++ map (λ (group : Group). mark.Announced group.id) gs) (probes ++ sent_queries askings past moment ++ (sent_multicasts in_force entry past ++ unicasts)) [] true true
+    ≡ (is_nothing askings && (is_nothing probes && (is_nothing (map (λ (group : Group). mark.Announced group.id) gs) && (is_nothing (released_records past moment) && is_nothing unicasts))))
 unfolding pack_query
-quiet_askings [] past moment [] entry [] none = ap (λ (ss : List Sent). all_quiet [] ss [] true true) (quiet_announcing entry past none)
-quiet_askings [] past moment (probe ∷ probes) entry [] none = refl
-quiet_askings [] past moment [] entry (group ∷ gs) some = refl
-quiet_askings [] past moment (probe ∷ probes) entry (group ∷ gs) some = refl
-quiet_askings (m ∷ ms) past moment probes entry gs some = refl
+quiet_askings [] past moment [] unicasts entry at [] none =
+    passes_through (is_nothing (sent_multicasts in_force entry past ++ unicasts))
+    ∙ append_nothing (sent_multicasts in_force entry past) unicasts
+    ∙ (λ i. released_alone entry past none i && is_nothing unicasts)
+    ∙ ap (λ (m : ℕ). is_nothing (released_records past m) && is_nothing unicasts) at
+  where
+    passes_through : (b : Bool) → (b && true && true && true) ≡ b
+    passes_through true = refl
+    passes_through false = refl
+quiet_askings [] past moment (probe ∷ probes) unicasts entry at [] none = refl
+quiet_askings [] past moment [] unicasts entry at (group ∷ gs) some = refl
+quiet_askings [] past moment (probe ∷ probes) unicasts entry at (group ∷ gs) some = refl
+quiet_askings (m ∷ ms) past moment probes unicasts entry at gs some = refl
 
 module _ (past : List Entry) (moment word : ℕ) (legal : IsLegal in_force past)
     (kept : ends_none past moment ≡ true → settles_none (entry_after past moment word event.Tick) past ≡ true → (o : Operation) → answers_in (entry_after past moment word event.Tick ∷ past) o ≡ answers_in past o) where
@@ -141,22 +172,26 @@ module _ (past : List Entry) (moment word : ℕ) (legal : IsLegal in_force past)
   at_moment : (entry_after past moment word event.Tick).moment ≡ moment
   at_moment = ap (λ e. e.moment) (entry_is past moment word event.Tick)
 
+  -- whether nothing is released and nobody replied to
+  abbrev replies_none : Bool
+  replies_none = is_nothing (released_records past moment) && is_nothing (sent_unicasts past moment)
+
   quiet_where : (b s : Bool) → ends_none past moment ≡ b → settled ≡ s →
       all_quiet (entry_after past moment word event.Tick).marks (entry_after past moment word event.Tick).sent (entry_after past moment word event.Tick).given
       settled (ends_none past (entry_after past moment word event.Tick).moment)
-      ≡ (b && (s && (is_nothing (tick_askings past moment) && (is_nothing (sent_probes past moment) && is_nothing (announcing_marks past moment word event.Tick)))))
+      ≡ (b && (s && (is_nothing (tick_askings past moment) && (is_nothing (sent_probes past moment) && (is_nothing (announcing_marks past moment word event.Tick) && replies_none)))))
   quiet_where true true none same =
       let e : Entry = entry_after past moment word event.Tick in
       let asked : List Mark = tick_askings past moment in
       let noted : List Mark = asked ++ announcing_marks past moment word event.Tick in
-      let sent : List Sent = sent_probes past moment ++ sent_queries asked past moment ++ sent_multicasts in_force (bare past moment word event.Tick) past in
+      let sent : List Sent = sent_probes past moment ++ sent_queries asked past moment ++ (sent_multicasts in_force (bare past moment word event.Tick) past ++ sent_unicasts past moment) in
       ap (λ ms. all_quiet ms e.sent e.given settled (ends_none past e.moment)) (marks_asked none same)
       ∙ ap (λ ss. all_quiet noted ss e.given settled (ends_none past e.moment)) (sent-next past moment word event.Tick)
       ∙ ap (λ gs. all_quiet noted sent gs settled (ends_none past e.moment)) (given_none none same)
       ∙ ap (λ b. all_quiet noted sent [] b (ends_none past e.moment)) same
       ∙ ap (λ k. all_quiet noted sent [] true (ends_none past k)) at_moment
       ∙ ap (all_quiet noted sent [] true) none
-      ∙ quiet_askings asked past moment (sent_probes past moment) (bare past moment word event.Tick) (announced_groups (bare past moment word event.Tick ∷ past) moment) refl
+      ∙ quiet_askings asked past moment (sent_probes past moment) (sent_unicasts past moment) (bare past moment word event.Tick) refl (announced_groups (bare past moment word event.Tick ∷ past) moment) refl
   quiet_where true false none some =
       let e : Entry = entry_after past moment word event.Tick in
       ap (λ b. all_quiet e.marks e.sent e.given b (ends_none past e.moment)) some
@@ -167,11 +202,12 @@ module _ (past : List Entry) (moment word : ℕ) (legal : IsLegal in_force past)
       ∙ ap (all_quiet e.marks e.sent e.given settled) some
       ∙ never_quiet e.marks e.sent e.given settled
 
--- A tick is idle where it ends no record, makes no group sure, asks no question, and probes and announces no group, where answers stay in an entry that ends no record
+-- A tick is idle where it ends no record, makes no group sure, asks no question, probes and announces no group, and releases and replies nothing, where answers stay in an entry that ends no record
 -- and makes no group sure.
 pub is_idle-tick : (past : List Entry) (moment : ℕ) → IsLegal in_force past
     → (ends_none past moment ≡ true → settles_none (entry_after past moment 0 event.Tick) past ≡ true → (o : Operation) → answers_in (entry_after past moment 0 event.Tick ∷ past) o ≡ answers_in past o)
     → is_idle in_force past moment
-    ≡ (ends_none past moment && (settles_none (entry_after past moment 0 event.Tick) past && (is_nothing (tick_askings past moment) && (is_nothing (sent_probes past moment) && is_nothing (announcing_marks past moment 0 event.Tick)))))
+    ≡ (ends_none past moment && (settles_none (entry_after past moment 0 event.Tick) past && (is_nothing (tick_askings past moment) && (is_nothing (sent_probes past moment) && (is_nothing (announcing_marks past moment 0 event.Tick)
+    && (is_nothing (released_records past moment) && is_nothing (sent_unicasts past moment)))))))
 unfolding is_idle
 is_idle-tick past moment legal kept = quiet_where past moment 0 legal kept (ends_none past moment) (settles_none (entry_after past moment 0 event.Tick) past) refl refl

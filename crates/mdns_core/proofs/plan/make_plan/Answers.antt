@@ -1,4 +1,4 @@
-use Rattle.std.proofs.Common.{◌≡◌, ◌∙◌, ◌++◌, ℕ, List, map, ap, subst, sym}
+use Rattle.std.proofs.Common.{◌≡◌, ◌∙◌, ◌++◌, ℕ, true, List, map, ap, subst, sym}
 use Rattle.mdns_history.specs.declared.entry.Sent.{Sent}
 use Rattle.mdns_history.specs.declared.held.Held.{Held}
 use Rattle.mdns_history.specs.Hearings.{counted_records}
@@ -13,13 +13,14 @@ use Rattle.mdns_question.specs.declared.tracked.Tracked.{Tracked}
 use Rattle.mdns_probe.specs.Kept.{Kept}
 use Rattle.mdns_claims.specs.State.{Contents}
 use Rattle.mdns_reply.specs.Lasts.{Last}
+use Rattle.mdns_debts.specs.Queries.{Query}
 use Rattle.mdns_responding.specs.Told.{responses_told, announced_told}
 use Rattle.mdns_question.specs.Standing.{mark_of}
 use Rattle.sd_sessions.specs.Settling.{cuts_of}
 use Rattle.mdns_claims.proofs.Typed.{own_data}
 use Rattle.mdns_claims.specs.Behind.{occasion_of, probes_told}
 use Rattle.mdns_claims.specs.Later.{groups_behind}
-use Rattle.mdns_claims.specs.Owned.{own_in, registered_answers}
+use Rattle.mdns_claims.specs.Owned.{own_in, is_ours, registered_answers}
 use Rattle.mdns_asking.specs.Planned as asking
 use Rattle.mdns_asking.specs.Walked as for_asking
 use Rattle.sd_sessions.specs.Sessions.{Session}
@@ -62,9 +63,10 @@ returns g c =
     (subst (λ (ks : List Kept). AreRegistered (λ session op. registered_answers session op ks) (λ session op. registered_answers session op (groups_behind c.behind-behind.result)) lines) before_is
     c.in_ok-registered.ensures.are)) in
     let lasts : List Last = c.args.kept.now.lasts.now.lasts in
-    let responses : responses_told (told_by c.behind-behind.result.means.happened.now) c.behind-behind.result.means.moment lasts c.behind-behind.result.groups.now (groups_behind c.behind-behind.result)
-    ≡ responses_told told now lasts contents.kept then.kept =
-    λ i. responses_told (c.behind-behind.ensures.happened i) (c.behind-behind.ensures.moment i) lasts (before_is i) (behind_is i) in
+    let owing : List Query = c.args.kept.now.owing.now.queries in
+    let responses : responses_told (told_by c.behind-behind.result.means.happened.now) c.behind-behind.result.means.moment lasts owing c.behind-behind.result.groups.now (groups_behind c.behind-behind.result)
+    ≡ responses_told told now lasts owing contents.kept then.kept =
+    λ i. responses_told (c.behind-behind.ensures.happened i) (c.behind-behind.ensures.moment i) lasts owing (before_is i) (behind_is i) in
     let marks_of : (told_by c.behind-behind.result.means.happened.now).refusal ++ c.in_ok-claims.claims.marks ++ map mark_of c.in_ok-asking.asking.asked.items
     ++ announced_told (told_by c.behind-behind.result.means.happened.now) c.behind-behind.result.means.moment c.behind-behind.result.groups.now ++ cuts_of c.in_ok-sessions.sessions.changes.items
     ≡ told.refusal ++ c.in_ok-claims.claims.marks ++ map mark_of c.in_ok-asking.asking.asked.items ++ announced_told told now contents.kept ++ cuts_of c.in_ok-sessions.sessions.changes.items =
@@ -104,6 +106,10 @@ returns g c =
           (λ call e registers. ap (λ (ls : List Registered). is_told ls call.session call.op) told_of_lines ∙ begun-told contents (occasion_of contents told now word) c.in_ok-claims.claims c.behind-behind.result.deed.now lines c.in_ok-claims.ensures.plan c.behind-behind.ensures.deed c.in_ok-registered.ensures.begun call e registers));
       marks = c.in_ok-marks.ensures ∙ marks_of;
       sent = c.in_ok-put_responses.ensures ∙ ap (λ (rs : List Sent). c.plan-2.new.sent ++ rs) responses;
-      multicasts = λ entry same. c.in_ok-multicasts.ensures.entry entry (same ∙ sym c.as_slice.ensures);
+      multicasts = c.in_ok-multicasts.ensures;
+      come = c.in_ok-come.ensures;
+      keeps = λ kept rr here.
+          subst (λ (ks : List Kept). is_ours ks rr ≡ true) behind_is
+          (c.keeps_own-keeps_own.ensures.kept kept rr (subst (λ (ks : List Kept). is_ours ks rr ≡ true) (sym before_is) here));
       given = c.in_ok-given.ensures;
     }

@@ -8,7 +8,7 @@ use Rattle.mdns_step.specs.InForce.{in_force}
 use Rattle.mdns_history.specs.declared.held.Held.{Held}
 use Rattle.mdns_history.specs.Due.{NextDue}
 use Rattle.mdns_question.specs.Next.{next_of}
-use Rattle.mdns_step.specs.State.{due_of}
+use Rattle.mdns_step.specs.State.{reply_moments, due_of}
 use Rattle.mdns_step.proofs.step.Standing.{due-stands}
 use Rattle.mdns_core.proofs.daemon.Daemon.next_due.Goals as goal
 
@@ -17,9 +17,11 @@ returns-clause-value c =
     let held : List Held = c.self.inside.records.held in
     let ends : List ℕ = map (λ (one : Held). one.end) held in
     let nexts : List ℕ = map (next_of held) c.self.inside.asking.questions in
-    let waits : List ℕ = flat_map (next_in c.self.inside.claims.contents.announces) c.self.inside.claims.contents.kept in
+    let groups : List ℕ = flat_map (next_in c.self.inside.claims.contents.announces) c.self.inside.claims.contents.kept in
+    let replies : List ℕ = reply_moments c.self.inside.lasts.lasts c.self.inside.owing.queries in
     let first : c.earlier-due.result ≡ least (ends ++ nexts) = c.earlier-due.ensures ends nexts c.next_end.ensures.least (c.first_due.ensures.due held c.self.invariant.3) in
-    let least_is : c.earlier.result ≡ least (ends ++ nexts ++ waits) = c.earlier.ensures (ends ++ nexts) waits first c.next_due.ensures in
+    let waits_is : c.earlier-waits.result ≡ least (groups ++ replies) = c.earlier-waits.ensures groups replies c.next_due.ensures c.next_due-2.ensures in
+    let least_is : c.earlier.result ≡ least (ends ++ nexts ++ (groups ++ replies)) = c.earlier.ensures (ends ++ nexts) (groups ++ replies) first waits_is in
     c.not_before.ensures ∙ ap (option_map (max c.self.inside.last)) least_is ∙ ap due_of c.self.view_is
 
 pub returns-clause-due : goal.returns-clause-due

@@ -1,7 +1,7 @@
-use Rattle.std.proofs.Common.{◌∙◌, ◌≤◌, ℕ, ap, subst, sym, length, List}
+use Rattle.std.proofs.Common.{◌≡◌, ◌∙◌, ◌≤◌, cond, ℕ, ap, subst, sym, length, List}
 use Rattle.std.proofs.lemmas.List.Sorted.{length_permutation}
 use Rattle.std.specs.List.Sorted.{IsPermutation}
-use Rattle.std.specs.Option.{unwrap_or}
+use Rattle.std.specs.Option.{unwrap_or, option_to_list}
 use Rattle.mdns_history.specs.declared.held.Held.{Held}
 use Rattle.mdns_asserts.proofs.Earned.{are_earned}
 use Rattle.mdns_question.specs.Refreshing.{AreTimed}
@@ -18,6 +18,7 @@ use Rattle.mdns_claims.specs.State.{Contents}
 use Rattle.mdns_claims.proofs.Typed.{own_data}
 use Rattle.mdns_claims.specs.Planned as claims
 use Rattle.mdns_reply.specs.Lasts as lasts
+use Rattle.mdns_owing.specs.Owing.{news_told, followed_by, kept_ours}
 use Rattle.mdns_step.specs.Viewed.{viewed}
 use Rattle.mdns_step.specs.Enough.{claims_told}
 use Rattle.mdns_step.specs.InForce.{in_force}
@@ -27,7 +28,7 @@ use Rattle.mdns_asking.proofs.Timed.{are_timed}
 use Rattle.mdns_step.proofs.step.Moved.{timed-moved, heard-since}
 use Rattle.mdns_core.specs.Planned.{told_in}
 use Rattle.mdns_core.proofs.Plans.{IsMade, asked_of_plan, applied, claimed, carried-plan, ticked-plan}
-use Rattle.mdns_core.proofs.Refused.{if_ok_refused, on_ok_refused, on_err_refused}
+use Rattle.mdns_core.proofs.Refused.{stays, if_ok_refused, on_ok_refused, on_err_refused}
 use Rattle.mdns_core.proofs.daemon.Daemon.step.Goals as goal
 
 pub apply-requires-clause-fits : goal.apply-requires-clause-fits
@@ -60,6 +61,7 @@ returns-clause-fits g c = λ history stands.
       questions = c.self.inside.asking.questions;
       claims = c.self.inside.claims.contents;
       multicasts = c.self.inside.lasts.lasts;
+      queries = c.self.inside.owing.queries;
     } in
     let then : State = record {
       last = c.args.now;
@@ -69,9 +71,12 @@ returns-clause-fits g c = λ history stands.
       questions = c.apply-3.new.self.questions;
       claims = c.apply-2.new.self.contents;
       multicasts = c.apply-4.new.self.lasts;
+      queries = c.keep_ours.new.self.queries;
     } in
     let told : Told = told_in c.in_ok-plan.plan in
     let changes : List SessionChange = c.in_ok-plan.plan.sessions.changes.items in
+    let followed : c.follow.new.self.queries ≡ followed_by (news_told told c.args.now c.args.word c.in_ok-plan.plan.multicasts) (option_to_list c.in_ok-plan.plan.come) before.queries =
+    c.follow.ensures ∙ ap (followed_by (news_told told c.args.now c.args.word c.in_ok-plan.plan.multicasts) (option_to_list c.in_ok-plan.plan.come)) c.reserve-6.ensures.queries in
     let made : IsMade before later c.args.now c.args.word c.args.event c.in_ok-plan.plan c.in_ok-plan.ensures c.apply-outcome.result then =
     record {
       went = c.apply-outcome.ensures.outcome ∙ ap (λ (xs : List Session). outcome_told told.taking told.outcome (shifted_told told xs changes)) c.reserve-4.ensures.sessions;
@@ -83,7 +88,8 @@ returns-clause-fits g c = λ history stands.
       claimed = claimed before later c.args.now c.args.word c.args.event c.in_ok-plan.plan c.in_ok-plan.ensures
           c.reserve-2.new.self.contents c.apply-2.new.self.contents c.reserve-2.ensures.contents c.apply-2.ensures.contents;
       owned = own_data c.apply-2.new.self.contents.kept c.apply-2.ensures.data;
-      lasting = λ entry past at since sends stands. c.apply-4.ensures.stands entry past at since sends (subst (λ (ls : List lasts.Last). lasts.Stands ls past) (sym c.reserve-5.ensures.lasts) stands);
+      owing = c.keep_ours.ensures ∙ (λ i. cond c.in_ok-plan.plan.keeps_own (followed i) (kept_ours c.apply-2.new.self.contents.kept (followed i)));
+      lasting = λ entry past at since sends stands. c.apply-4.ensures.stands entry past at since (sends ∙ sym c.into_rrs.ensures) (subst (λ (ls : List lasts.Last). lasts.Stands ls past) (sym c.reserve-5.ensures.lasts) stands);
     } in
     carried-plan before later c.args.now c.args.word c.args.event c.in_ok-plan.plan c.in_ok-plan.ensures c.apply-outcome.result then made
     (subst (λ (s : State). s.last ≤ c.args.now) (sym c.self.view_is) c.requires.later) c.requires.bound c.requires.no_boot history (subst (λ (s : State). Stands s history) (sym c.self.view_is) stands)
@@ -113,6 +119,7 @@ invariant_of-self-2 g c =
       questions = c.self.inside.asking.questions;
       claims = c.self.inside.claims.contents;
       multicasts = c.self.inside.lasts.lasts;
+      queries = c.self.inside.owing.queries;
     } in
     let then : State = record {
       last = c.args.now;
@@ -122,9 +129,12 @@ invariant_of-self-2 g c =
       questions = c.apply-3.new.self.questions;
       claims = c.apply-2.new.self.contents;
       multicasts = c.apply-4.new.self.lasts;
+      queries = c.keep_ours.new.self.queries;
     } in
     let told : Told = told_in c.in_ok-plan.plan in
     let changes : List SessionChange = c.in_ok-plan.plan.sessions.changes.items in
+    let followed : c.follow.new.self.queries ≡ followed_by (news_told told c.args.now c.args.word c.in_ok-plan.plan.multicasts) (option_to_list c.in_ok-plan.plan.come) before.queries =
+    c.follow.ensures ∙ ap (followed_by (news_told told c.args.now c.args.word c.in_ok-plan.plan.multicasts) (option_to_list c.in_ok-plan.plan.come)) c.reserve-6.ensures.queries in
     let made : IsMade before later c.args.now c.args.word c.args.event c.in_ok-plan.plan c.in_ok-plan.ensures c.apply-outcome.result then =
     record {
       went = c.apply-outcome.ensures.outcome ∙ ap (λ (xs : List Session). outcome_told told.taking told.outcome (shifted_told told xs changes)) c.reserve-4.ensures.sessions;
@@ -136,7 +146,8 @@ invariant_of-self-2 g c =
       claimed = claimed before later c.args.now c.args.word c.args.event c.in_ok-plan.plan c.in_ok-plan.ensures
           c.reserve-2.new.self.contents c.apply-2.new.self.contents c.reserve-2.ensures.contents c.apply-2.ensures.contents;
       owned = own_data c.apply-2.new.self.contents.kept c.apply-2.ensures.data;
-      lasting = λ entry past at since sends stands. c.apply-4.ensures.stands entry past at since sends (subst (λ (ls : List lasts.Last). lasts.Stands ls past) (sym c.reserve-5.ensures.lasts) stands);
+      owing = c.keep_ours.ensures ∙ (λ i. cond c.in_ok-plan.plan.keeps_own (followed i) (kept_ours c.apply-2.new.self.contents.kept (followed i)));
+      lasting = λ entry past at since sends stands. c.apply-4.ensures.stands entry past at since (sends ∙ sym c.into_rrs.ensures) (subst (λ (ls : List lasts.Last). lasts.Stands ls past) (sym c.reserve-5.ensures.lasts) stands);
     } in (
       subst (λ (n : ℕ). n ≤ 32768) (length_permutation c.apply.new.self.held later made.moved) c.in_ok-plan.ensures.within,
       c.apply.ensures.live,
@@ -148,7 +159,7 @@ invariant_of-self-2 g c =
     )
 
 pub returns-clause-ticked : goal.returns-clause-ticked
-returns-clause-ticked g c = λ tick.
+returns-clause-ticked g c = λ history stands tick.
     let held : List Held = c.self.inside.records.held in
     let later : List Held = held_after c.args.now c.args.word c.in_ok-plan.plan.heard held in
     let before : State = record {
@@ -159,6 +170,7 @@ returns-clause-ticked g c = λ tick.
       questions = c.self.inside.asking.questions;
       claims = c.self.inside.claims.contents;
       multicasts = c.self.inside.lasts.lasts;
+      queries = c.self.inside.owing.queries;
     } in
     let then : State = record {
       last = c.args.now;
@@ -168,9 +180,12 @@ returns-clause-ticked g c = λ tick.
       questions = c.apply-3.new.self.questions;
       claims = c.apply-2.new.self.contents;
       multicasts = c.apply-4.new.self.lasts;
+      queries = c.keep_ours.new.self.queries;
     } in
     let told : Told = told_in c.in_ok-plan.plan in
     let changes : List SessionChange = c.in_ok-plan.plan.sessions.changes.items in
+    let followed : c.follow.new.self.queries ≡ followed_by (news_told told c.args.now c.args.word c.in_ok-plan.plan.multicasts) (option_to_list c.in_ok-plan.plan.come) before.queries =
+    c.follow.ensures ∙ ap (followed_by (news_told told c.args.now c.args.word c.in_ok-plan.plan.multicasts) (option_to_list c.in_ok-plan.plan.come)) c.reserve-6.ensures.queries in
     let made : IsMade before later c.args.now c.args.word c.args.event c.in_ok-plan.plan c.in_ok-plan.ensures c.apply-outcome.result then =
     record {
       went = c.apply-outcome.ensures.outcome ∙ ap (λ (xs : List Session). outcome_told told.taking told.outcome (shifted_told told xs changes)) c.reserve-4.ensures.sessions;
@@ -182,9 +197,35 @@ returns-clause-ticked g c = λ tick.
       claimed = claimed before later c.args.now c.args.word c.args.event c.in_ok-plan.plan c.in_ok-plan.ensures
           c.reserve-2.new.self.contents c.apply-2.new.self.contents c.reserve-2.ensures.contents c.apply-2.ensures.contents;
       owned = own_data c.apply-2.new.self.contents.kept c.apply-2.ensures.data;
-      lasting = λ entry past at since sends stands. c.apply-4.ensures.stands entry past at since sends (subst (λ (ls : List lasts.Last). lasts.Stands ls past) (sym c.reserve-5.ensures.lasts) stands);
+      owing = c.keep_ours.ensures ∙ (λ i. cond c.in_ok-plan.plan.keeps_own (followed i) (kept_ours c.apply-2.new.self.contents.kept (followed i)));
+      lasting = λ entry past at since sends stands. c.apply-4.ensures.stands entry past at since (sends ∙ sym c.into_rrs.ensures) (subst (λ (ls : List lasts.Last). lasts.Stands ls past) (sym c.reserve-5.ensures.lasts) stands);
     } in
-    ticked-plan before later c.args.now c.args.word c.args.event c.in_ok-plan.plan c.in_ok-plan.ensures c.apply-outcome.result then made (after-live c.args.now c.args.word c.in_ok-plan.plan.heard held) tick
+    ticked-plan before later c.args.now c.args.word c.args.event c.in_ok-plan.plan c.in_ok-plan.ensures c.apply-outcome.result then made
+    (subst (λ (s : State). s.last ≤ c.args.now) (sym c.self.view_is) c.requires.later) c.requires.bound c.requires.no_boot history (subst (λ (s : State). Stands s history) (sym c.self.view_is) stands)
+    (after-live c.args.now c.args.word c.in_ok-plan.plan.heard held) tick
+
+pub returns-in_err-reserve-4-clause-fits : goal.returns-in_err-reserve-4-clause-fits
+returns-in_err-reserve-4-clause-fits g c = if_ok_refused _ _ c.from_residual-in_err-reserve-4.result c.from_residual-in_err-reserve-4.ensures.1
+
+pub returns-in_err-reserve-4-clause-last : goal.returns-in_err-reserve-4-clause-last
+returns-in_err-reserve-4-clause-last g c = on_ok_refused _ _ c.from_residual-in_err-reserve-4.result c.from_residual-in_err-reserve-4.ensures.1
+
+pub returns-in_err-reserve-4-clause-ticked : goal.returns-in_err-reserve-4-clause-ticked
+returns-in_err-reserve-4-clause-ticked g c = on_ok_refused _ _ c.from_residual-in_err-reserve-4.result c.from_residual-in_err-reserve-4.ensures.1
+
+pub returns-in_err-reserve-4-clause-err : goal.returns-in_err-reserve-4-clause-err
+returns-in_err-reserve-4-clause-err g c = on_err_refused _ c.from_residual-in_err-reserve-4.result (
+    (λ i. record {
+      last = c.self.inside.last;
+      opened = c.reserve-4.ensures.opened i;
+      sessions = c.reserve-4.ensures.sessions i;
+      held = c.reserve.ensures.held i;
+      questions = c.reserve-3.ensures.questions i;
+      claims = c.reserve-2.ensures.contents i;
+      multicasts = c.self.inside.lasts.lasts;
+      queries = c.self.inside.owing.queries;
+    })
+    ∙ c.self.view_is)
 
 pub returns-in_err-reserve-5-clause-fits : goal.returns-in_err-reserve-5-clause-fits
 returns-in_err-reserve-5-clause-fits g c = if_ok_refused _ _ c.from_residual-in_err-reserve-5.result c.from_residual-in_err-reserve-5.ensures.1
@@ -205,5 +246,37 @@ returns-in_err-reserve-5-clause-err g c = on_err_refused _ c.from_residual-in_er
       questions = c.reserve-3.ensures.questions i;
       claims = c.reserve-2.ensures.contents i;
       multicasts = c.reserve-5.ensures.lasts i;
+      queries = c.self.inside.owing.queries;
     })
     ∙ c.self.view_is)
+
+pub returns-in_err-reserve-6-clause-fits : goal.returns-in_err-reserve-6-clause-fits
+returns-in_err-reserve-6-clause-fits g c = if_ok_refused _ _ c.from_residual-in_err-reserve-6.result c.from_residual-in_err-reserve-6.ensures.1
+
+pub returns-in_err-reserve-6-clause-last : goal.returns-in_err-reserve-6-clause-last
+returns-in_err-reserve-6-clause-last g c = on_ok_refused _ _ c.from_residual-in_err-reserve-6.result c.from_residual-in_err-reserve-6.ensures.1
+
+pub returns-in_err-reserve-6-clause-ticked : goal.returns-in_err-reserve-6-clause-ticked
+returns-in_err-reserve-6-clause-ticked g c = on_ok_refused _ _ c.from_residual-in_err-reserve-6.result c.from_residual-in_err-reserve-6.ensures.1
+
+pub returns-in_err-reserve-6-clause-err : goal.returns-in_err-reserve-6-clause-err
+returns-in_err-reserve-6-clause-err g c = on_err_refused _ c.from_residual-in_err-reserve-6.result (
+    (λ i. record {
+      last = c.self.inside.last;
+      opened = c.reserve-4.ensures.opened i;
+      sessions = c.reserve-4.ensures.sessions i;
+      held = c.reserve.ensures.held i;
+      questions = c.reserve-3.ensures.questions i;
+      claims = c.reserve-2.ensures.contents i;
+      multicasts = c.reserve-5.ensures.lasts i;
+      queries = c.reserve-6.ensures.queries i;
+    })
+    ∙ c.self.view_is)
+
+pub invariant_of-self-in_err-reserve-5 : goal.invariant_of-self-in_err-reserve-5
+invariant_of-self-in_err-reserve-5 g c =
+    stays c.self.inside.last c.self.inside.records.held c.reserve.new.self.held c.self.inside.asking.questions c.reserve-3.new.self.questions c.reserve.ensures.held c.reserve-3.ensures.questions c.self.invariant
+
+pub invariant_of-self-in_err-reserve-6 : goal.invariant_of-self-in_err-reserve-6
+invariant_of-self-in_err-reserve-6 g c =
+    stays c.self.inside.last c.self.inside.records.held c.reserve.new.self.held c.self.inside.asking.questions c.reserve-3.new.self.questions c.reserve.ensures.held c.reserve-3.ensures.questions c.self.invariant

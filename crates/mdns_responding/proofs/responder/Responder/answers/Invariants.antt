@@ -1,10 +1,5 @@
-use Rattle.std.proofs.Common.{◌≡◌, ◌++◌, drop}
-use Rattle.std.specs.Prelude.{filter}
-use Rattle.mdns_announcing.specs.Told.{announced_in, records_in}
-use Rattle.mdns_responding.specs.Told.{is_free_by}
+use Rattle.std.proofs.Common.{◌≡◌, ◌++◌}
 use Rattle.mdns_responding.proofs.responder.Responder.answers.Given as goal
 
-abbrev pub invariant-loop-one : goal.invariant-loop-one
-invariant-loop-one l =
-    l.answers.items ++ filter (is_free_by l.self.lasts.now.lasts l.self.behind.now.means.moment) (records_in (announced_in l.self.behind.now.means.moment (drop l.one-index l.groups)))
-    ≡ filter (is_free_by l.self.lasts.now.lasts l.self.behind.now.means.moment) (records_in (announced_in l.self.behind.now.means.moment l.groups))
+abbrev pub invariant-loop-rr : goal.invariant-loop-rr
+invariant-loop-rr l = l.answers.items ≡ l.initial.answers.items ++ l.yielded

@@ -8,5 +8,5 @@ pub returns-in_default : goal.returns-in_default
 returns-in_default c =
     sym (append-nil c.args.sent.now)
     ∙ ap (λ (sent : List Sent). c.args.sent.now ++ sent)
-    (sym (no_responses c.args.self.now.behind.now.means.happened.now c.args.self.now.behind.now.means.moment c.args.self.now.lasts.now.lasts c.args.self.now.behind.now.groups.now
+    (sym (no_responses c.args.self.now.behind.now.means.happened.now c.args.self.now.behind.now.means.moment c.args.self.now.lasts.now.lasts c.args.self.now.owing.now.queries c.args.self.now.behind.now.groups.now
     (groups_behind c.args.self.now.behind.now) c.in_default.not-Ticked c.in_default.not-Called c.in_default.not-Detached))
