@@ -1,1 +1,10 @@
 pub mod Texts
+pub mod TxtWords
+pub mod TokensBack
+pub mod RequestsBack
+pub mod CommandsBack
+pub mod ReadBytes
+pub mod ReadNames
+pub mod ReadTokens
+pub mod OnlyWritable
+pub mod OneLine

@@ -3,3 +3,5 @@ pub mod Requests
 pub mod Boots
 pub mod Links
 pub mod Lines
+pub mod CommandText
+pub mod Writable
