@@ -1,5 +1,5 @@
 -- Records as keys: the same ones are equal.
-use Rattle.std.specs.Prelude.{◌≡◌, ℕ, ◌==◌, true, ◌||◌, List, [], ◌∷◌, ◌++◌, IsTrue, if◌then◌else◌}
+use Rattle.std.specs.Prelude.{◌≡◌, ℕ, ◌==◌, true, ◌||◌, List, [], ◌∷◌, ◌++◌, map, IsTrue, if◌then◌else◌}
 use Rattle.std.proofs.Common.{◌∙◌, sym, refl, ap}
 use Rattle.std.specs.Cmp.{IsEquivalence, IsPartialEquivalence, both_ways}
 use Rattle.std.specs.Hash as fed
@@ -14,9 +14,13 @@ abbrev pub record_of : Side → Rr
 record_of (Kept rr) = rr
 record_of (Sought rr) = rr.now
 
--- what is hashed of data, by their type: nothing of those that stand in pieces, of SRV and NSEC, of which an owner has few
+-- bytes, one at a time
+abbrev pub each_byte : List ℕ → List (List ℕ)
+each_byte bytes = map (λ byte. byte ∷ []) bytes
+
+-- what is hashed of data, by their type: those that stand in pieces, of SRV and NSEC, byte by byte
 abbrev pub data_writes : ℕ → List ℕ → List (List ℕ)
-data_writes kind bytes = if (kind == 33) || (kind == 47) then [] else bytes ∷ []
+data_writes kind bytes = if (kind == 33) || (kind == 47) then each_byte bytes else bytes ∷ []
 
 -- what is hashed of what makes a record the same as another
 abbrev pub identity_writes : Identity → List (List ℕ)

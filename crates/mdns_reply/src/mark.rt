@@ -1,7 +1,7 @@
 // Records as keys.
 ghost use Rattle.std.specs.Prelude.{◌≡◌, fold};
 ghost use Rattle.dns_record.specs.Records.{same, data_of, kind_of};
-ghost use Rattle.mdns_reply.specs.Marks.{data_writes, record_writes, same_is_equivalence, same_is_partial, same_writes};
+ghost use Rattle.mdns_reply.specs.Marks.{data_writes, each_byte, record_writes, same_is_equivalence, same_is_partial, same_writes};
 
 use by_name::Place;
 use dns_record::{Rdata, Rr};
@@ -88,7 +88,7 @@ impl Hash for Mark<'_> {
     }
 }
 
-// Writes data that stand in one piece.
+// Writes data: those that stand in one piece as one, others byte by byte.
 fn write_data<H: Hasher>(rdata: &Rdata, state: &mut H)
     ensures { state.new ≡ fold H.write state.old (data_writes (kind_of rdata.now) (data_of rdata.now)) }
 {
@@ -97,7 +97,41 @@ fn write_data<H: Hasher>(rdata: &Rdata, state: &mut H)
         Rdata::Aaaa(address) => state.write(&address.to_be_bytes()),
         Rdata::Ptr(name) | Rdata::Cname(name) => state.write(name.as_wire()),
         Rdata::Txt(bytes) => state.write(bytes.as_slice()),
-        Rdata::Raw { kind, bytes } if *kind != 33 && *kind != 47 => state.write(bytes.as_slice()),
-        _ => {}
+        Rdata::Srv {
+            priority,
+            weight,
+            port,
+            target,
+        } => {
+            write_each(&priority.to_be_bytes(), state);
+            write_each(&weight.to_be_bytes(), state);
+            write_each(&port.to_be_bytes(), state);
+            write_each(target.as_wire(), state);
+        }
+        Rdata::Nsec { next, bitmap } => {
+            write_each(next.as_wire(), state);
+            write_each(bitmap.as_slice(), state);
+        }
+        Rdata::Raw { kind, bytes } => write_raw(*kind, bytes.as_slice(), state),
+    }
+}
+
+// The same of raw data.
+fn write_raw<H: Hasher>(kind: u16, bytes: &[u8], state: &mut H)
+    ensures { state.new ≡ fold H.write state.old (data_writes kind bytes.now) }
+{
+    if kind == 33 || kind == 47 {
+        write_each(bytes, state);
+    } else {
+        state.write(bytes);
+    }
+}
+
+// Writes bytes one at a time.
+fn write_each<H: Hasher>(bytes: &[u8], state: &mut H)
+    ensures { state.new ≡ fold H.write state.old (each_byte bytes.now) }
+{
+    for byte in bytes {
+        state.write(&[*byte]);
     }
 }

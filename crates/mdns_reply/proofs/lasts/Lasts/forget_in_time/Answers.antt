@@ -1,5 +1,4 @@
 use Rattle.std.proofs.Common.{◌≡◌, List, ap, subst}
-use Rattle.dns_record.specs.declared.record.Rr.{Rr}
 use Rattle.mdns_reply.specs.Lasts.{Last, State, last_of, IsLeft}
 use Rattle.mdns_reply.proofs.Bounds.{by_left}
 use Rattle.mdns_reply.proofs.Taking.{left_of}
