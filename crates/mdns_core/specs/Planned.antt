@@ -17,7 +17,6 @@ use Rattle.sd_sessions.specs.Planned as sessions
 use Rattle.sd_sessions.specs.Answered.{answered}
 use Rattle.sd_sessions.specs.Settling.{cuts_of, gifts_of}
 use Rattle.mdns_core.specs.declared.plan.Plan.{Plan}
-use Rattle.mdns_core.specs.declared.plan.Kept.{Kept}
 use Rattle.mdns_step.specs.State.{State}
 use Rattle.mdns_history.specs.declared.entry.Entry.{Entry}
 use Rattle.mdns_history.specs.declared.entry.Sent.{Sent}
@@ -30,20 +29,6 @@ use Rattle.mdns_claims.specs.Behind.{occasion_of, probes_told}
 use Rattle.mdns_claims.specs.Planned as claiming
 use Rattle.mdns_step.specs.Next.{IsHeard}
 use Rattle.mdns_step.specs.Enough.{AreEnough, claims_told}
-
--- what is kept before an event, as contracts see it
-abbrev pub kept_in : Kept → State
-kept_in kept =
-    record {
-      last = kept.last;
-      opened = kept.sessions.now.opened;
-      sessions = kept.sessions.now.sessions;
-      held = kept.records.now.held;
-      questions = kept.asking.now.questions;
-      claims = kept.claims.now.contents;
-      multicasts = kept.lasts.now.lasts;
-      queries = kept.owing.now.queries;
-    }
 
 -- what is told of an event by its plan
 abbrev pub told_in : Plan → Told

@@ -14,13 +14,14 @@ ghost use Rattle.mdns_history.specs.Due.{NextDue};
 ghost use Rattle.dns_name.specs.Lists.{least};
 ghost use Rattle.sd_sessions.specs.Codes.{has_number};
 
-use crate::plan::{Kept, Plan, make_plan};
+use crate::parts::{Done, Parts};
+use crate::plan::{Kept, make_plan};
 use mdns_asking::Asking;
 use mdns_cache::Steps;
 use mdns_claims::Claims;
 use mdns_happened::When;
 use mdns_history::{Config, Entry, Event, Gifts, Marks, Outcome, Sends};
-use mdns_owing::{News, Owing};
+use mdns_owing::Owing;
 use mdns_records::Records;
 use mdns_reply::Lasts;
 use sd_sessions::Sessions;
@@ -37,12 +38,7 @@ const ANNOUNCES: bool = true;
 pub struct Daemon {
     alloc: Global,
     last: u64,
-    records: Records,
-    claims: Claims,
-    asking: Asking,
-    sessions: Sessions,
-    lasts: Lasts,
-    owing: Owing,
+    parts: Parts,
     key: u64,
 }
 
@@ -52,13 +48,14 @@ impl Model for Daemon {
     ghost use Rattle.mdns_cache.specs.Lifetimes.{AllLive, AllHeard};
     ghost use Rattle.mdns_question.specs.Refreshing.{AreTimed};
     ghost use Rattle.mdns_step.specs.State.{State};
+    ghost use Rattle.mdns_core.specs.Kept.{state_of};
 
     ghost Value = { State };
 
-    ghost view = { λ d. record { last = d.last; opened = d.sessions.opened; sessions = d.sessions.sessions; held = d.records.held; questions = d.asking.questions; claims = d.claims.contents; multicasts = d.lasts.lasts; queries = d.owing.queries } };
+    ghost view = { λ d. state_of d.last d.parts };
 
-    ghost invariant = { λ d. (length d.records.held ≤ room_for_records) × AllLive d.last d.records.held × AllHeard d.last d.records.held
-        × AreTimed d.records.held d.asking.questions };
+    ghost invariant = { λ d. (length d.parts.records.held ≤ room_for_records) × AllLive d.last d.parts.records.held
+        × AllHeard d.last d.parts.records.held × AreTimed d.parts.records.held d.parts.asking.questions };
 }
 
 impl Daemon {
@@ -79,16 +76,20 @@ impl Daemon {
         ensures last { IfOk result (λ made. made.0.last ≡ now) }
     {
         let when = When { moment: now, word };
-        let daemon = Daemon {
-            alloc,
-            last: now,
+        let key = u64::from(word);
+        let parts = Parts {
             records: Records::new(alloc, word)?,
             claims: Claims::new(alloc, &config, when, ANNOUNCES)?,
             asking: Asking::new(alloc),
-            sessions: Sessions::with_key(alloc, u64::from(word)),
-            lasts: Lasts::new(alloc, u64::from(word)),
+            sessions: Sessions::with_key(alloc, key),
+            lasts: Lasts::new(alloc, key),
             owing: Owing::new(alloc),
-            key: u64::from(word),
+        };
+        let daemon = Daemon {
+            alloc,
+            last: now,
+            parts,
+            key,
         };
         let entry = Entry {
             moment: now,
@@ -114,7 +115,7 @@ impl Daemon {
         ensures value { result ≡ is_some (find (has_number session) self.now.sessions) }
         ensures attached { (history : List Entry) → Stands self.now history → result ≡ is_attached session history }
     {
-        self.sessions.attached(session)
+        self.parts.sessions.attached(session)
     }
 
     /// The next moment at which something is due, in milliseconds, and no earlier than the last entry: when a live record ends, a
@@ -124,8 +125,9 @@ impl Daemon {
         ensures value { result ≡ due_of self.now }
         ensures due { (history : List Entry) → Stands self.now history → NextDue in_force history result }
     {
-        let due = earlier(self.records.next_end(), self.asking.first_due());
-        let waits = earlier(self.claims.next_due(), self.owing.next_due(&self.lasts));
+        let parts = &self.parts;
+        let due = earlier(parts.records.next_end(), parts.asking.first_due());
+        let waits = earlier(parts.claims.next_due(), parts.owing.next_due(&parts.lasts));
         not_before(self.last, earlier(due, waits))
     }
 
@@ -165,51 +167,18 @@ impl Daemon {
         let kept = Kept {
             alloc: self.alloc,
             last: self.last,
-            records: &self.records,
-            claims: &self.claims,
-            asking: &self.asking,
-            sessions: &self.sessions,
-            lasts: &self.lasts,
-            owing: &self.owing,
+            parts: &self.parts,
             key: self.key,
         };
         let plan = make_plan(&kept, when, &event, steps)?;
-        self.records.reserve(plan.heard.as_slice().len())?;
-        self.claims.reserve(&plan.claims)?;
-        self.asking.reserve(&plan.asking)?;
-        self.sessions.reserve(&plan.happened, &plan.sessions)?;
-        self.lasts.reserve(plan.multicasts.as_rrs())?;
-        self.owing.reserve(&plan.come)?;
-        let Plan {
-            happened,
-            heard,
-            claims,
-            walks,
-            asking,
-            sessions,
+        self.parts.reserve(&plan)?;
+        self.last = now;
+        let Done {
             marks,
             sent,
-            multicasts,
-            come,
-            keeps_own,
             given,
-        } = plan;
-        self.last = now;
-        self.records.apply(when, heard, steps);
-        self.claims.apply(when, &happened, claims);
-        self.asking.apply(when, &asking, &walks);
-        let outcome = self.sessions.apply(&happened, sessions);
-        self.owing.follow(
-            &News {
-                when,
-                happened: &happened,
-                multicasts: &multicasts,
-            },
-            come,
-        );
-        self.owing.keep_ours(&self.claims, keeps_own);
-        self.lasts.apply(now, multicasts.into_rrs());
-        drop(happened);
+            outcome,
+        } = self.parts.apply(when, plan, steps);
         Ok(Entry {
             moment: now,
             word,

@@ -3,6 +3,7 @@
 
 mod daemon;
 mod outcomes;
+mod parts;
 mod plan;
 mod reading;
 

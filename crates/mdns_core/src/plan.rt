@@ -14,26 +14,27 @@ ghost use Rattle.mdns_claims.specs.Later.{groups_behind};
 ghost use Rattle.mdns_claims.specs.Owned.{own_in};
 ghost use Rattle.mdns_claims.specs.Planned as claiming;
 ghost use Rattle.mdns_step.specs.Enough.{AreEnough, claims_told, with_own};
-ghost use Rattle.mdns_core.specs.Planned.{IsPlan, kept_in};
+ghost use Rattle.mdns_core.specs.Planned.{IsPlan};
+ghost use Rattle.mdns_core.specs.Kept.{state_of};
 ghost use Rattle.std.specs.Option.{option_to_list};
 ghost use Rattle.mdns_history.specs.declared.entry.Entry.{Entry};
 ghost use Rattle.mdns_history.specs.Debts.{multicasts_in};
 ghost use Rattle.mdns_owing.specs.Owing.{query_told};
 ghost use Rattle.mdns_responding.specs.Told.{announced_told};
 
+use crate::parts::Parts;
 use crate::reading::{Reading, read_event};
 use dns_message::Rrs;
 use dns_name::Name;
-use mdns_asking::{Asking, Plan as AskingPlan};
+use mdns_asking::Plan as AskingPlan;
 use mdns_cache::Steps;
 use mdns_claims::{Behind, Claims, Plan as ClaimsPlan};
 use mdns_happened::{Around, Happened, OwnWalk, Walk, When};
 use mdns_history::{Event, Gifts, Marks, Sends};
-use mdns_owing::{Multicasts, Ours, Owing, Query};
-use mdns_records::Records;
-use mdns_reply::{Lasts, multicasts};
+use mdns_owing::{Multicasts, Ours, Query};
+use mdns_reply::multicasts;
 use mdns_responding::Responder;
-use sd_sessions::{Plan as SessionsPlan, Sessions};
+use sd_sessions::Plan as SessionsPlan;
 use std::alloc::{AllocError, Global};
 use std::sync::ledger::Ledger;
 
@@ -56,18 +57,12 @@ pub struct Plan<'a> {
     pub given: Gifts,
 }
 
-/// What a daemon keeps before an event: its last moment, the records that it holds, the names that it claims, the questions that
-/// have users, its sessions, when it last multicast records, and what queries are owed. The key is its own.
+/// What a daemon keeps before an event, in parts, and its last moment. The key is its own.
 #[derive(Drop)]
 pub struct Kept<'a> {
     pub alloc: Global,
     pub last: u64,
-    pub records: &'a Records,
-    pub claims: &'a Claims,
-    pub asking: &'a Asking,
-    pub sessions: &'a Sessions,
-    pub lasts: &'a Lasts,
-    pub owing: &'a Owing,
+    pub parts: &'a Parts,
     pub key: u64,
 }
 
@@ -78,27 +73,28 @@ pub fn make_plan<'a, L: Ledger>(
     event: &'a Event,
     steps: &mut Steps<L>,
 ) -> Result<Plan<'a>, AllocError>
-    requires within { length kept.now.records.now.held ≤ room_for_records }
-    requires past { AllHeard when.moment kept.now.records.now.held }
-    requires timed { AreTimed kept.now.records.now.held kept.now.asking.now.questions }
-    ensures { IfOk result (λ plan. IsPlan (kept_in kept.now) when.moment when.word event.now plan) }
+    requires within { length kept.now.parts.now.records.held ≤ room_for_records }
+    requires past { AllHeard when.moment kept.now.parts.now.records.held }
+    requires timed { AreTimed kept.now.parts.now.records.held kept.now.parts.now.asking.questions }
+    ensures { IfOk result (λ plan. IsPlan (state_of kept.now.last kept.now.parts.now) when.moment when.word event.now plan) }
 {
     let reading = read_event(kept, when, event)?;
-    let claims = kept.claims.plan(when, &reading.happened)?;
+    let claims = kept.parts.claims.plan(when, &reading.happened)?;
     let walks = walk(kept, when, &reading, &claims, steps)?;
     let Reading { happened, heard } = reading;
-    let behind = kept.claims.behind(when, &happened, &claims);
+    let behind = kept.parts.claims.behind(when, &happened, &claims);
     let responder = Responder {
         alloc: kept.alloc,
-        lasts: kept.lasts,
-        owing: kept.owing,
+        lasts: &kept.parts.lasts,
+        owing: &kept.parts.owing,
         behind: &behind,
     };
     let keeps_own = behind.keeps_own();
-    let mut sent = kept.claims.probes(when, &happened)?;
+    let mut sent = kept.parts.claims.probes(when, &happened)?;
     let asking = kept
+        .parts
         .asking
-        .plan(when, &happened, &walks, kept.sessions, &mut sent)?;
+        .plan(when, &happened, &walks, &kept.parts.sessions, &mut sent)?;
     responder.put_responses(&mut sent)?;
     let multicasts = multicasts_of(kept.alloc, &sent)?;
     let come = come(kept, when, &happened)?;
@@ -107,7 +103,7 @@ pub fn make_plan<'a, L: Ledger>(
         walks: &walks,
         registered: &registered,
     };
-    let sessions = kept.sessions.plan(&happened, &around)?;
+    let sessions = kept.parts.sessions.plan(&happened, &around)?;
     let marks = make_marks(&responder, &claims, &asking, &sessions)?;
     let given = sessions.gifts(kept.alloc)?;
     Ok(Plan {
@@ -135,13 +131,13 @@ fn multicasts_of(alloc: Global, sent: &Sends) -> Result<Multicasts, AllocError>
 
 // The query that comes with an event, if it is owed something by what is kept. Refused only for want of memory.
 fn come(kept: &Kept<'_>, when: When, happened: &Happened<'_>) -> Result<Option<Query>, AllocError>
-    ensures { IfOk result (λ query. option_to_list query ≡ query_told kept.now.claims.now.contents.kept kept.now.lasts.now.lasts (told_by happened.now) when.moment when.word) }
+    ensures { IfOk result (λ query. option_to_list query ≡ query_told kept.now.parts.now.claims.contents.kept kept.now.parts.now.lasts.lasts (told_by happened.now) when.moment when.word) }
 {
     let ours = Ours {
         alloc: kept.alloc,
         key: kept.key,
-        claims: kept.claims,
-        lasts: kept.lasts,
+        claims: &kept.parts.claims,
+        lasts: &kept.parts.lasts,
     };
     ours.query(when, happened)
 }
@@ -157,22 +153,26 @@ fn walk<L: Ledger>(
     steps: &mut Steps<L>,
 ) -> Result<Vec<Walk>, AllocError>
     requires call { IsWellFormedCall (told_by reading.now.happened).call }
-    requires planned { claiming.IsPlan kept.now.claims.now.contents (occasion_of kept.now.claims.now.contents (told_by reading.now.happened) when.moment when.word) claims.now }
-    ensures { IfOk result (λ walks. AreEnough (told_by reading.now.happened) when.moment kept.now.records.now.held
-        (held_after when.moment when.word reading.now.heard kept.now.records.now.held)
-        (own_in kept.now.claims.now.contents.kept) (own_in (claims_told kept.now.claims.now.contents (told_by reading.now.happened) when.moment when.word).kept)
-        kept.now.asking.now.questions kept.now.sessions.now.sessions walks.items) }
+    requires planned { claiming.IsPlan kept.now.parts.now.claims.contents (occasion_of kept.now.parts.now.claims.contents (told_by reading.now.happened) when.moment when.word) claims.now }
+    ensures { IfOk result (λ walks. AreEnough (told_by reading.now.happened) when.moment kept.now.parts.now.records.held
+        (held_after when.moment when.word reading.now.heard kept.now.parts.now.records.held)
+        (own_in kept.now.parts.now.claims.contents.kept) (own_in (claims_told kept.now.parts.now.claims.contents (told_by reading.now.happened) when.moment when.word).kept)
+        kept.now.parts.now.asking.questions kept.now.parts.now.sessions.sessions walks.items) }
 {
     let happened = &reading.happened;
     let heard = reading.heard.as_slice();
-    let behind = kept.claims.behind(when, happened, claims);
-    let mut touched = kept.records.touched(when.moment, heard)?;
+    let behind = kept.parts.claims.behind(when, happened, claims);
+    let mut touched = kept.parts.records.touched(when.moment, heard)?;
     behind.put_names(&mut touched)?;
     let mut names = Vec::new(kept.alloc);
-    kept.sessions.put_names(&mut names, happened, &touched)?;
-    kept.asking.put_names(&mut names, when, happened, &touched)?;
-    let walks = kept.records.walk(when, heard, names, steps)?;
-    with_own(kept.alloc, walks, kept.claims, &behind)
+    kept.parts
+        .sessions
+        .put_names(&mut names, happened, &touched)?;
+    kept.parts
+        .asking
+        .put_names(&mut names, when, happened, &touched)?;
+    let walks = kept.parts.records.walk(when, heard, names, steps)?;
+    with_own(kept.alloc, walks, &kept.parts.claims, &behind)
 }
 
 // Walks with the own records of their names, before an event and behind it. Refused only for want of memory.

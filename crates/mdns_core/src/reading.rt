@@ -41,31 +41,34 @@ pub fn read_event<'a>(
     when: When,
     event: &'a Event,
 ) -> Result<Reading<'a>, AllocError>
-    requires within { length kept.now.records.now.held ≤ room_for_records }
+    requires within { length kept.now.parts.now.records.held ≤ room_for_records }
     ensures told { IfOk result (λ reading. told_by reading.happened
-        ≡ told_of event.now (kept_outcome kept.now.claims.now.contents kept.now.sessions.now.opened kept.now.sessions.now.sessions event.now) (told_by reading.happened).refusal) }
-    ensures refused { IfOk result (λ reading. (past : List Hearing) (before : ℕ) → before ≤ when.moment → Holds kept.now.records.now.held past before
+        ≡ told_of event.now (kept_outcome kept.now.parts.now.claims.contents kept.now.parts.now.sessions.opened kept.now.parts.now.sessions.sessions event.now) (told_by reading.happened).refusal) }
+    ensures refused { IfOk result (λ reading. (past : List Hearing) (before : ℕ) → before ≤ when.moment → Holds kept.now.parts.now.records.held past before
         → (told_by reading.happened).refusal ≡ refusal_of (is_full when.moment when.word event.now past) event.now) }
     ensures records { IfOk result (λ reading. reading.heard ≡ counted_records (told_by reading.happened).heard) }
-    ensures room { IfOk result (λ reading. length (held_after when.moment when.word reading.heard kept.now.records.now.held) ≤ room_for_records) }
+    ensures room { IfOk result (λ reading. length (held_after when.moment when.word reading.heard kept.now.parts.now.records.held) ≤ room_for_records) }
     ensures parts { IfOk result (λ _. have_data (counted_records (brought event.now)) ≡ true) }
     ensures well_formed { IfOk result (λ reading. IsWellFormedCall (told_by reading.happened).call) }
-    ensures acceptable { IfOk result (λ reading. IsAcceptable kept.now.claims.now.contents.registered (told_by reading.happened).call) }
+    ensures acceptable { IfOk result (λ reading. IsAcceptable kept.now.parts.now.claims.contents.registered (told_by reading.happened).call) }
 {
     let alloc = kept.alloc;
     match event {
         Event::Hear { from, bytes } => {
-            read_packet(alloc, kept.records, when, from, bytes.as_slice())
+            read_packet(alloc, &kept.parts.records, when, from, bytes.as_slice())
         }
-        Event::Attach => brings_nothing(alloc, kept.sessions.attach()),
-        Event::Detach { session } => brings_nothing(alloc, kept.sessions.detach(*session)),
+        Event::Attach => brings_nothing(alloc, kept.parts.sessions.attach()),
+        Event::Detach { session } => brings_nothing(alloc, kept.parts.sessions.detach(*session)),
         Event::Call {
             session,
             op,
             request,
         } => {
-            let known = registering(kept.claims, *session, *op, request);
-            brings_nothing(alloc, kept.sessions.call(*session, *op, request, known))
+            let known = registering(&kept.parts.claims, *session, *op, request);
+            brings_nothing(
+                alloc,
+                kept.parts.sessions.call(*session, *op, request, known),
+            )
         }
         Event::Take { session, max } => brings_nothing(alloc, take(*session, *max)),
         Event::Tick => brings_nothing(alloc, tick()),

@@ -34,7 +34,7 @@ use Rattle.mdns_core.proofs.plan.make_plan.Goals as goal
 
 pub plan-requires-2-clause-heard : goal.plan-requires-2-clause-heard
 plan-requires-2-clause-heard g c =
-    let held : List Held = c.args.kept.now.records.now.held in
+    let held : List Held = c.args.kept.now.parts.now.records.held in
     subst (for_asking.AreHeard c.args.when.moment) (sym c.deref.ensures.value)
     (heard-walked c.args.when.moment held (held_after c.args.when.moment c.args.when.word c.in_ok-reading.reading.heard held) c.in_ok-walks.walks.items c.in_ok-walks.ensures.records
     (after-heard c.args.when.moment c.args.when.word c.in_ok-reading.reading.heard held c.requires.past))
@@ -44,11 +44,11 @@ returns g c =
     let told : Told = told_by c.in_ok-reading.reading.happened in
     let now : ℕ = c.args.when.moment in
     let word : ℕ = c.args.when.word in
-    let held : List Held = c.args.kept.now.records.now.held in
+    let held : List Held = c.args.kept.now.parts.now.records.held in
     let later : List Held = held_after now word c.in_ok-reading.reading.heard held in
-    let questions : List Tracked = c.args.kept.now.asking.now.questions in
-    let sessions : List Session = c.args.kept.now.sessions.now.sessions in
-    let contents : Contents = c.args.kept.now.claims.now.contents in
+    let questions : List Tracked = c.args.kept.now.parts.now.asking.questions in
+    let sessions : List Session = c.args.kept.now.parts.now.sessions.sessions in
+    let contents : Contents = c.args.kept.now.parts.now.claims.contents in
     let then : Contents = claims_told contents told now word in
     let walks : List Walk = c.in_ok-walks.walks.items in
     let lines : List Registered = c.in_ok-registered.registered.items in
@@ -62,8 +62,8 @@ returns g c =
     (subst (λ (ks : List Kept). AreRegistered (λ session op. registered_answers session op contents.kept) (λ session op. registered_answers session op ks) lines) behind_is
     (subst (λ (ks : List Kept). AreRegistered (λ session op. registered_answers session op ks) (λ session op. registered_answers session op (groups_behind c.behind-behind.result)) lines) before_is
     c.in_ok-registered.ensures.are)) in
-    let lasts : List Last = c.args.kept.now.lasts.now.lasts in
-    let owing : List Query = c.args.kept.now.owing.now.queries in
+    let lasts : List Last = c.args.kept.now.parts.now.lasts.lasts in
+    let owing : List Query = c.args.kept.now.parts.now.owing.queries in
     let responses : responses_told (told_by c.behind-behind.result.means.happened.now) c.behind-behind.result.means.moment lasts owing c.behind-behind.result.groups.now (groups_behind c.behind-behind.result)
     ≡ responses_told told now lasts owing contents.kept then.kept =
     λ i. responses_told (c.behind-behind.ensures.happened i) (c.behind-behind.ensures.moment i) lasts owing (before_is i) (behind_is i) in

@@ -22,10 +22,10 @@ returns g c =
     let told : Told = told_by c.args.reading.now.happened in
     let now : ℕ = c.args.when.moment in
     let word : ℕ = c.args.when.word in
-    let held : List Held = c.args.kept.now.records.now.held in
-    let questions : List Tracked = c.args.kept.now.asking.now.questions in
-    let sessions : List Session = c.args.kept.now.sessions.now.sessions in
-    let contents : Contents = c.args.kept.now.claims.now.contents in
+    let held : List Held = c.args.kept.now.parts.now.records.held in
+    let questions : List Tracked = c.args.kept.now.parts.now.asking.questions in
+    let sessions : List Session = c.args.kept.now.parts.now.sessions.sessions in
+    let contents : Contents = c.args.kept.now.parts.now.claims.contents in
     let touched : List (List (List ℕ)) = c.put_names.new.names.items in
     let named : List (List (List ℕ)) = c.put_names-3.new.names.items in
     subst (λ (rrs : List Rr). IfOk c.with_own.result (λ walks. AreEnough told now held (held_after now word rrs held) (own_in contents.kept) (own_in (claims_told contents told now word).kept) questions sessions walks.items))

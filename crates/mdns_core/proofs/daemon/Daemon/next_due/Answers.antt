@@ -14,11 +14,11 @@ use Rattle.mdns_core.proofs.daemon.Daemon.next_due.Goals as goal
 
 pub returns-clause-value : goal.returns-clause-value
 returns-clause-value c =
-    let held : List Held = c.self.inside.records.held in
+    let held : List Held = c.self.inside.parts.records.held in
     let ends : List ℕ = map (λ (one : Held). one.end) held in
-    let nexts : List ℕ = map (next_of held) c.self.inside.asking.questions in
-    let groups : List ℕ = flat_map (next_in c.self.inside.claims.contents.announces) c.self.inside.claims.contents.kept in
-    let replies : List ℕ = reply_moments c.self.inside.lasts.lasts c.self.inside.owing.queries in
+    let nexts : List ℕ = map (next_of held) c.self.inside.parts.asking.questions in
+    let groups : List ℕ = flat_map (next_in c.self.inside.parts.claims.contents.announces) c.self.inside.parts.claims.contents.kept in
+    let replies : List ℕ = reply_moments c.self.inside.parts.lasts.lasts c.self.inside.parts.owing.queries in
     let first : c.earlier-due.result ≡ least (ends ++ nexts) = c.earlier-due.ensures ends nexts c.next_end.ensures.least (c.first_due.ensures.due held c.self.invariant.3) in
     let waits_is : c.earlier-waits.result ≡ least (groups ++ replies) = c.earlier-waits.ensures groups replies c.next_due.ensures c.next_due-2.ensures in
     let least_is : c.earlier.result ≡ least (ends ++ nexts ++ (groups ++ replies)) = c.earlier.ensures (ends ++ nexts) (groups ++ replies) first waits_is in
