@@ -3,6 +3,7 @@
 
 mod air;
 mod bell;
+mod common;
 mod happening;
 mod hearing;
 mod laws;
@@ -14,6 +15,7 @@ mod ticking;
 mod writing;
 
 pub use bell::Bell;
+pub use common::{Common, Half, Kit};
 pub use happening::Happening;
 pub use hearing::{HearEnd, hear_loop};
 pub use laws::owed_ends_have_room;

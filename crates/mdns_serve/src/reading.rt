@@ -1,4 +1,5 @@
 // The reading half of a session.
+ghost use Rattle.std.specs.Arc.{arc_value};
 ghost use Rattle.std.specs.Prelude.{◌≡◌, ◌≢◌, ◌≤◌, ◌++◌, ◌∷◌, [], Some};
 ghost use Rattle.mdns_base.specs.Outside.{Rose};
 ghost use Rattle.mdns_history.specs.Fitting.{AreLegal};
@@ -9,17 +10,16 @@ ghost use Rattle.mdns_serve.specs.Turns.{turns_of};
 ghost use Rattle.mdns_serve.specs.Shares.{StandsFor};
 ghost use Rattle.mdns_serve.specs.Reading.{Reads, Stops, GoesOrStops, CallsOnce, Detaches, end_after, end_of};
 
-use crate::bell::Bell;
+use crate::common::{Common, Half, Kit};
 use crate::happening::Happening;
 use crate::shared::Shared;
 use crate::taking::take_turn;
 use mdns_base::Source;
 use mdns_history::{Event, Outcome};
 use mdns_outside::{Air, Clock, Gate, Point, Words};
-use mdns_turn::{Seat, Turn};
+use mdns_turn::Seat;
 use sd_call::Request;
 use sd_ipc::{FrameError, read_request};
-use std::alloc::Global;
 use std::sync::Wait;
 
 /// Why a reading half ended.
@@ -46,89 +46,68 @@ pub enum ReadEnd {
 /// - `Closed`: a call found the session closed or cut.
 /// - `NoMemory`: memory was refused for a frame or a call.
 pub fn read_half<R: Wait, S: Source, A: Air, C: Clock, W: Words, G: Gate>(
-    rt: &R,
-    alloc: Global,
-    turn: &Turn<Shared>,
+    common: &Common<R>,
     seat: &mut Seat<Shared>,
-    session: u64,
-    input: &mut S,
-    air: &mut A,
-    clock: &mut C,
-    words: &mut W,
-    gate: &G,
-    bell: &Bell,
+    kit: &mut Kit<A, C, W>,
+    half: &mut Half<S, G>,
 ) -> ReadEnd
-    requires turn { IsSeatOf turn.now seat.old }
+    requires turn { IsSeatOf (arc_value common.now.turn) seat.old }
     ensures same { IsSameSeat seat.old seat.new }
     ensures its { HasItsTurns seat.new }
     ensures joined { seat.new.joined ≡ seat.old.joined }
     ensures seen { StartsWith seat.new.seen seat.old.seen }
-    ensures legal { (past : _) → StandsFor past turn.now.opening → AreLegal in_force (turns_of (past ++ turns seat.new.seen)) }
-    ensures reads { Reads session (S.left input.old) (S.left input.new) seat.old.mine seat.new.mine (A.handed air.old) (A.handed air.new) result }
-    ensures fault { result ≡ ReadEnd.ReadFault → Rose (S.faults input.old) (S.faults input.new) }
-    ensures quiet { result ≢ ReadEnd.ReadFault → S.faults input.new ≡ S.faults input.old }
+    ensures legal { (past : _) → StandsFor past (arc_value common.now.turn).opening → AreLegal in_force (turns_of (past ++ turns seat.new.seen)) }
+    ensures reads { Reads half.old.session (S.left half.old.end) (S.left half.new.end) seat.old.mine seat.new.mine (A.handed kit.old.air) (A.handed kit.new.air) result }
+    ensures session { half.new.session ≡ half.old.session }
+    ensures fault { result ≡ ReadEnd.ReadFault → Rose (S.faults half.old.end) (S.faults half.new.end) }
+    ensures quiet { result ≢ ReadEnd.ReadFault → S.faults half.new.end ≡ S.faults half.old.end }
 {
-    let end = read_all(
-        rt, alloc, turn, seat, session, input, air, clock, words, gate, bell,
-    );
-    gate.pass(Point::Ending { session });
-    detach(rt, alloc, turn, seat, session, air, clock, words, bell);
+    let end = read_all(common, seat, kit, half);
+    let session = half.session;
+    half.gate.pass(Point::Ending { session });
+    detach(common, seat, kit, session);
     end
 }
 
 /// Detaches a session. Where memory is refused, its end is owed, and the ticker's.
 pub fn detach<R: Wait, A: Air, C: Clock, W: Words>(
-    rt: &R,
-    alloc: Global,
-    turn: &Turn<Shared>,
+    common: &Common<R>,
     seat: &mut Seat<Shared>,
+    kit: &mut Kit<A, C, W>,
     session: u64,
-    air: &mut A,
-    clock: &mut C,
-    words: &mut W,
-    bell: &Bell,
 )
-    requires turn { IsSeatOf turn.now seat.old }
+    requires turn { IsSeatOf (arc_value common.now.turn) seat.old }
     ensures same { IsSameSeat seat.old seat.new }
     ensures its { HasItsTurns seat.new }
     ensures joined { seat.new.joined ≡ seat.old.joined }
     ensures seen { StartsWith seat.new.seen seat.old.seen }
-    ensures legal { (past : _) → StandsFor past turn.now.opening → AreLegal in_force (turns_of (past ++ turns seat.new.seen)) }
-    ensures detaches { Detaches session seat.old.mine seat.new.mine (A.handed air.old) (A.handed air.new) }
+    ensures legal { (past : _) → StandsFor past (arc_value common.now.turn).opening → AreLegal in_force (turns_of (past ++ turns seat.new.seen)) }
+    ensures detaches { Detaches session seat.old.mine seat.new.mine (A.handed kit.old.air) (A.handed kit.new.air) }
 {
     let event = Event::Detach { session };
-    let done = take_turn(rt, alloc, turn, seat, event, air, clock, words, bell);
-    drop(done);
+    drop(take_turn(common, seat, kit, event));
 }
 
 // Reads requests and makes calls until the reading ends.
 fn read_all<R: Wait, S: Source, A: Air, C: Clock, W: Words, G: Gate>(
-    rt: &R,
-    alloc: Global,
-    turn: &Turn<Shared>,
+    common: &Common<R>,
     seat: &mut Seat<Shared>,
-    session: u64,
-    input: &mut S,
-    air: &mut A,
-    clock: &mut C,
-    words: &mut W,
-    gate: &G,
-    bell: &Bell,
+    kit: &mut Kit<A, C, W>,
+    half: &mut Half<S, G>,
 ) -> ReadEnd
-    requires turn { IsSeatOf turn.now seat.old }
+    requires turn { IsSeatOf (arc_value common.now.turn) seat.old }
     ensures same { IsSameSeat seat.old seat.new }
     ensures joined { seat.new.joined ≡ seat.old.joined }
     ensures seen { StartsWith seat.new.seen seat.old.seen }
-    ensures stops { Stops session (S.left input.old) (S.left input.new) seat.old.mine seat.new.mine (A.handed air.old) (A.handed air.new) result }
-    ensures fault { result ≡ ReadEnd.ReadFault → Rose (S.faults input.old) (S.faults input.new) }
-    ensures quiet { result ≢ ReadEnd.ReadFault → S.faults input.new ≡ S.faults input.old }
+    ensures stops { Stops half.old.session (S.left half.old.end) (S.left half.new.end) seat.old.mine seat.new.mine (A.handed kit.old.air) (A.handed kit.new.air) result }
+    ensures session { half.new.session ≡ half.old.session }
+    ensures fault { result ≡ ReadEnd.ReadFault → Rose (S.faults half.old.end) (S.faults half.new.end) }
+    ensures quiet { result ≢ ReadEnd.ReadFault → S.faults half.new.end ≡ S.faults half.old.end }
 {
     let mut number = 0u64;
-    for _ in rt.forever() {
+    for _ in common.rt.forever() {
         number = number.saturating_add(1);
-        let next = read_one(
-            rt, alloc, turn, seat, session, number, input, air, clock, words, gate, bell,
-        );
+        let next = read_one(common, seat, kit, half, number);
         if let Some(end) = next {
             return end;
         }
@@ -138,33 +117,26 @@ fn read_all<R: Wait, S: Source, A: Air, C: Clock, W: Words, G: Gate>(
 
 // Reads one request and makes its call; the answer is why the reading ends, if it does.
 fn read_one<R: Wait, S: Source, A: Air, C: Clock, W: Words, G: Gate>(
-    rt: &R,
-    alloc: Global,
-    turn: &Turn<Shared>,
+    common: &Common<R>,
     seat: &mut Seat<Shared>,
-    session: u64,
+    kit: &mut Kit<A, C, W>,
+    half: &mut Half<S, G>,
     number: u64,
-    input: &mut S,
-    air: &mut A,
-    clock: &mut C,
-    words: &mut W,
-    gate: &G,
-    bell: &Bell,
 ) -> Option<ReadEnd>
-    requires turn { IsSeatOf turn.now seat.old }
+    requires turn { IsSeatOf (arc_value common.now.turn) seat.old }
     ensures same { IsSameSeat seat.old seat.new }
     ensures joined { seat.new.joined ≡ seat.old.joined }
     ensures seen { StartsWith seat.new.seen seat.old.seen }
-    ensures did { GoesOrStops session (S.left input.old) (S.left input.new) seat.old.mine seat.new.mine (A.handed air.old) (A.handed air.new) result }
-    ensures fault { result ≡ Some ReadEnd.ReadFault → Rose (S.faults input.old) (S.faults input.new) }
-    ensures quiet { result ≢ Some ReadEnd.ReadFault → S.faults input.new ≡ S.faults input.old }
+    ensures did { GoesOrStops half.old.session (S.left half.old.end) (S.left half.new.end) seat.old.mine seat.new.mine (A.handed kit.old.air) (A.handed kit.new.air) result }
+    ensures session { half.new.session ≡ half.old.session }
+    ensures fault { result ≡ Some ReadEnd.ReadFault → Rose (S.faults half.old.end) (S.faults half.new.end) }
+    ensures quiet { result ≢ Some ReadEnd.ReadFault → S.faults half.new.end ≡ S.faults half.old.end }
 {
-    match read_request(alloc, input) {
-        Ok(Some((op, request))) => {
-            gate.pass(Point::Request { session, number });
-            call(
-                rt, alloc, turn, seat, session, op, request, air, clock, words, bell,
-            )
+    match read_request(common.alloc, &mut half.end) {
+        Ok(Some(asked)) => {
+            let session = half.session;
+            half.gate.pass(Point::Request { session, number });
+            call(common, seat, kit, session, asked)
         }
         Ok(None) => Some(ReadEnd::Ended),
         Err(error) => Some(end_of(error)),
@@ -173,40 +145,25 @@ fn read_one<R: Wait, S: Source, A: Air, C: Clock, W: Words, G: Gate>(
 
 // Makes a call of the session; the answer is why the reading ends, if it does.
 fn call<R: Wait, A: Air, C: Clock, W: Words>(
-    rt: &R,
-    alloc: Global,
-    turn: &Turn<Shared>,
+    common: &Common<R>,
     seat: &mut Seat<Shared>,
+    kit: &mut Kit<A, C, W>,
     session: u64,
-    op: u32,
-    request: Request,
-    air: &mut A,
-    clock: &mut C,
-    words: &mut W,
-    bell: &Bell,
+    asked: (u32, Request),
 ) -> Option<ReadEnd>
-    requires turn { IsSeatOf turn.now seat.old }
+    requires turn { IsSeatOf (arc_value common.now.turn) seat.old }
     ensures same { IsSameSeat seat.old seat.new }
     ensures joined { seat.new.joined ≡ seat.old.joined }
     ensures seen { StartsWith seat.new.seen seat.old.seen }
-    ensures call { CallsOnce session (op, request) seat.old.mine seat.new.mine (A.handed air.old) (A.handed air.new) result }
+    ensures call { CallsOnce session asked seat.old.mine seat.new.mine (A.handed kit.old.air) (A.handed kit.new.air) result }
 {
-    let done = take_turn(
-        rt,
-        alloc,
-        turn,
-        seat,
-        Event::Call {
-            session,
-            op,
-            request,
-        },
-        air,
-        clock,
-        words,
-        bell,
-    );
-    end_after(&done)
+    let (op, request) = asked;
+    let event = Event::Call {
+        session,
+        op,
+        request,
+    };
+    end_after(&take_turn(common, seat, kit, event))
 }
 
 // Why the reading ends after a call, if it does.

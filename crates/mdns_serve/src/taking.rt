@@ -1,4 +1,5 @@
 // One event as a turn of a seat, with what comes of it.
+ghost use Rattle.std.specs.Arc.{arc_value};
 ghost use Rattle.std.specs.Prelude.{◌≡◌, ◌≤◌, ◌++◌, ◌∷◌, [], false};
 ghost use Rattle.mdns_history.specs.Fitting.{is_boot, AreLegal};
 ghost use Rattle.mdns_step.specs.InForce.{in_force};
@@ -11,42 +12,38 @@ ghost use Rattle.mdns_serve.specs.Reading.{IsFor};
 
 use crate::air::send_all;
 use crate::bell::Bell;
+use crate::common::{Common, Kit};
 use crate::happening::Happening;
 use crate::shared::Shared;
 use crate::step::Step;
 use mdns_history::{Event, Given, Mark};
 use mdns_outside::{Air, Clock, Words};
-use mdns_turn::{Seat, Turn};
-use std::alloc::Global;
+use mdns_turn::Seat;
 use std::sync::Wait;
 
 /// Does an event in a turn of the seat, hands what it sends to the air, and wakes those that it concerns. A turn that finds
 /// no memory is missed.
 pub fn take_turn<R: Wait, A: Air, C: Clock, W: Words>(
-    rt: &R,
-    alloc: Global,
-    turn: &Turn<Shared>,
+    common: &Common<R>,
     seat: &mut Seat<Shared>,
+    kit: &mut Kit<A, C, W>,
     event: Event,
-    air: &mut A,
-    clock: &mut C,
-    words: &mut W,
-    bell: &Bell,
 ) -> Happening
-    requires turn { IsSeatOf turn.now seat.old }
+    requires turn { IsSeatOf (arc_value common.now.turn) seat.old }
     requires no_boot { is_boot event ≡ false }
     ensures same { IsSameSeat seat.old seat.new }
     ensures its { HasItsTurns seat.new }
     ensures joined { seat.new.joined ≡ seat.old.joined }
     ensures seen { StartsWith seat.new.seen seat.old.seen }
     ensures mine { seat.new.mine ≡ seat.old.mine ++ result ∷ [] }
-    ensures legal { (past : _) → StandsFor past turn.now.opening → AreLegal in_force (turns_of (past ++ turns seat.new.seen)) }
+    ensures legal { (past : _) → StandsFor past (arc_value common.now.turn).opening → AreLegal in_force (turns_of (past ++ turns seat.new.seen)) }
     ensures is { IsFor event result }
-    ensures air { HandsSome (A.handed air.old) (A.handed air.new) (packets_in result) }
-    ensures later { A.faults air.old ≤ A.faults air.new }
+    ensures air { HandsSome (A.handed kit.old.air) (A.handed kit.new.air) (packets_in result) }
+    ensures later { A.faults kit.old.air ≤ A.faults kit.new.air }
 {
-    let step = Step::new(clock.now(), words.word(), event, bell);
-    let happening = turn.turn(rt, seat, step);
+    let bell = &*common.bell;
+    let step = Step::new(kit.clock.now(), kit.words.word(), event, bell);
+    let happening = common.turn.turn(&common.rt, seat, step);
     if let Happening::Entered { entry } = &happening {
         ring_for(
             entry.given.as_slice(),
@@ -54,7 +51,7 @@ pub fn take_turn<R: Wait, A: Air, C: Clock, W: Words>(
             &entry.event,
             bell,
         );
-        send_all(alloc, entry.sent.as_slice(), air);
+        send_all(common.alloc, entry.sent.as_slice(), &mut kit.air);
     }
     happening
 }

@@ -1,3 +1,4 @@
+ghost use Rattle.std.specs.Arc.{arc_value};
 ghost use Rattle.std.specs.Prelude.{IfOk};
 ghost use Rattle.mdns_turn.specs.Models.{IsSeatOf, IsSameSeat};
 
@@ -9,11 +10,11 @@ use mdns_base::Host;
 use mdns_core::Daemon;
 use mdns_history::{Config, Event};
 use mdns_outside::{Clock, Incoming, MemAir, MemClock, MemEar, MemWords};
-use mdns_serve::{Bell, Happening, HearEnd, Shared, Step, hear_loop, tick_loop};
+use mdns_serve::{Bell, Common, Happening, HearEnd, Kit, Shared, Step, hear_loop, tick_loop};
 use mdns_turn::{Seat, Turn};
 use sd_call::Request;
 use std::alloc::{AllocError, Global};
-use std::sync::Wait;
+use std::sync::{Arc, Wait};
 use std::test::Fail;
 
 // A daemon without a host that threads share, and the first seat.
@@ -26,6 +27,20 @@ fn shared_daemon(alloc: Global) -> Result<(Turn<Shared>, Seat<Shared>), AllocErr
     };
     let (daemon, _) = Daemon::new(alloc, config, 0, 0)?;
     Turn::new(alloc, Shared::new(alloc, daemon)?)
+}
+
+// The same with what its threads share.
+fn shared_by_threads<R: Drop>(rt: R, alloc: Global) -> Result<(Common<R>, Seat<Shared>), AllocError>
+    ensures { IfOk result (λ made. IsSeatOf (arc_value made.0.turn) made.1) }
+{
+    let (turn, seat) = shared_daemon(alloc)?;
+    let common = Common {
+        rt,
+        alloc,
+        turn: Arc::new(alloc, turn)?,
+        bell: Arc::new(alloc, Bell::new(alloc)?)?,
+    };
+    Ok((common, seat))
 }
 
 // The moment of a turn's entry.
@@ -72,9 +87,10 @@ impl<'a> Clock for LastClock<'a> {
 #[test]
 fn the_ticker_asks_what_is_due(rt: HostRuntime) -> Result<(), Fail> {
     let alloc = rt.alloc();
-    let (turn, mut seat) = shared_daemon(alloc)?;
-    let bell = Bell::new(alloc)?;
-    turn.turn(&rt, &mut seat, Step::new(0, 0, Event::Attach, &bell));
+    let (common, mut seat) = shared_by_threads(rt, alloc)?;
+    let bell = &*common.bell;
+    let attach = Step::new(0, 0, Event::Attach, bell);
+    common.turn.turn(&rt, &mut seat, attach);
     let call = Event::Call {
         session: 1,
         op: 1,
@@ -83,58 +99,37 @@ fn the_ticker_asks_what_is_due(rt: HostRuntime) -> Result<(), Fail> {
             name: Name::parse_text("a.local").map_err(|_| AllocError)?,
         },
     };
-    turn.turn(&rt, &mut seat, Step::new(0, 0, call, &bell));
-    let mut air = MemAir::new(alloc, Vec::from_slice(alloc, &[1])?);
-    let mut clock = LastClock {
-        bell: &bell,
-        told: 0,
+    common
+        .turn
+        .turn(&rt, &mut seat, Step::new(0, 0, call, bell));
+    let mut kit = Kit {
+        air: MemAir::new(alloc, Vec::from_slice(alloc, &[1])?),
+        clock: LastClock { bell, told: 0 },
+        words: MemWords(0),
     };
-    tick_loop(
-        &rt,
-        alloc,
-        &turn,
-        &mut seat,
-        &mut air,
-        &mut clock,
-        &mut MemWords(0),
-        &bell,
-    );
-    assert_eq!(rt; air.packets().ok_or(AllocError)?.len(), 1);
+    tick_loop(&common, &mut seat, &mut kit);
+    assert_eq!(rt; kit.air.packets().ok_or(AllocError)?.len(), 1);
     Ok(())
 }
 
 // Hears what comes to an ear until it ends or fails.
-fn hear_all<R: Wait>(
-    rt: &R,
-    alloc: Global,
-    turn: &Turn<Shared>,
-    seat: &mut Seat<Shared>,
-    ear: &mut MemEar,
-    bell: &Bell,
-) -> HearEnd
-    requires { IsSeatOf turn.now seat.old }
+fn hear_all<R: Wait>(common: &Common<R>, seat: &mut Seat<Shared>, ear: &mut MemEar) -> HearEnd
+    requires { IsSeatOf (arc_value common.now.turn) seat.old }
     ensures { IsSameSeat seat.old seat.new }
 {
-    let mut air = MemAir::new(alloc, Vec::new(alloc));
-    let mut clock = MemClock::new(Vec::new(alloc), 1);
-    hear_loop(
-        rt,
-        alloc,
-        turn,
-        seat,
-        ear,
-        &mut air,
-        &mut clock,
-        &mut MemWords(0),
-        bell,
-    )
+    let alloc = common.alloc;
+    let mut kit = Kit {
+        air: MemAir::new(alloc, Vec::new(alloc)),
+        clock: MemClock::new(Vec::new(alloc), 1),
+        words: MemWords(0),
+    };
+    hear_loop(common, seat, &mut kit, ear)
 }
 
 #[test]
 fn the_ear_is_heard_until_it_fails(rt: HostRuntime) -> Result<(), Fail> {
     let alloc = rt.alloc();
-    let (turn, mut seat) = shared_daemon(alloc)?;
-    let bell = Bell::new(alloc)?;
+    let (common, mut seat) = shared_by_threads(rt, alloc)?;
     let mut packets = Vec::new(alloc);
     packets.push(Incoming {
         from: Host {
@@ -144,9 +139,9 @@ fn the_ear_is_heard_until_it_fails(rt: HostRuntime) -> Result<(), Fail> {
         bytes: Bytes::from_vec(Vec::from_slice(alloc, b"no message")?)?,
     })?;
     let mut ear = MemEar::new(packets, Vec::from_slice(alloc, &[2])?);
-    let failed = hear_all(&rt, alloc, &turn, &mut seat, &mut ear, &bell);
+    let failed = hear_all(&common, &mut seat, &mut ear);
     assert_eq!(rt; failed, HearEnd::LinkFault);
-    let ended = hear_all(&rt, alloc, &turn, &mut seat, &mut ear, &bell);
+    let ended = hear_all(&common, &mut seat, &mut ear);
     assert_eq!(rt; ended, HearEnd::Ended);
     Ok(())
 }

@@ -6,7 +6,7 @@ ghost use Rattle.mdns_turn.specs.Models.{IsSeatOf};
 ghost use Rattle.mdns_server.specs.Endings.{MayFault, HasStopped, is_whole};
 ghost use Rattle.mdns_server.specs.Openings.{Opens, OpensOne};
 
-use crate::chair::{Common, Half};
+use crate::chair::{Job, chair_beside};
 use crate::making::{HalfParts, KitOf, make_halves};
 use crate::session::{attach, miss};
 use crate::slot::Slot;
@@ -14,7 +14,7 @@ use crate::starting::{Chairs, Session, start_halves, sweep};
 use crate::stop::Stop;
 use mdns_base::Sink;
 use mdns_outside::{Door, Place};
-use mdns_serve::Shared;
+use mdns_serve::{Common, Half, Shared};
 use mdns_turn::Seat;
 use std::alloc::AllocError;
 use std::sync::atomic::AtomicU64;
@@ -181,8 +181,8 @@ fn make_ready<R: Wait + Copy, P: Place>(
     ensures writing { IfOk result (λ r. IsSeatOf (arc_value r.chairs.writing.common.turn) r.chairs.writing.seat) }
 {
     desk.sessions.reserve(1)?;
-    let reading = desk.common.chair(seat)?;
-    let writing = desk.common.chair(seat)?;
+    let reading = chair_beside(&desk.common, seat)?;
+    let writing = chair_beside(&desk.common, seat)?;
     let ended = Arc::new(desk.common.alloc, AtomicU64::new(0))?;
     let reading_ended = Arc::try_clone(&ended)?;
     let writing_ended = Arc::try_clone(&ended)?;
@@ -216,18 +216,22 @@ fn open<R: Wait + Copy + Send + 'static, P: Place>(
         return Welcome::Done;
     };
     let (input, output) = caller;
-    let reading = Half {
-        session,
-        end: input,
+    let reading = Job {
+        half: Half {
+            session,
+            end: input,
+            gate: parts.reading_gate,
+        },
         kit: parts.reading,
-        gate: parts.reading_gate,
         ended: ready.reading_ended,
     };
-    let writing = Half {
-        session,
-        end: output,
+    let writing = Job {
+        half: Half {
+            session,
+            end: output,
+            gate: parts.writing_gate,
+        },
         kit: parts.writing,
-        gate: parts.writing_gate,
         ended: ready.writing_ended,
     };
     let threads = start_halves(&mut desk.spawner, ready.chairs, reading, writing);

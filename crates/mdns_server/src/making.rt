@@ -3,10 +3,10 @@ ghost use Rattle.std.specs.Prelude.{◌≡◌, ◌⊎◌, false, IfOk, OnOk, IfE
 ghost use Rattle.mdns_outside.specs.Places.{MakesLink};
 ghost use Rattle.mdns_server.specs.Endings.{Ends, IsPartFault};
 
-use crate::chair::Kit;
 use crate::status::{DOOR_FAULT, LINK_FAULT, SPAWN_FAULT};
 use mdns_base::Failed;
 use mdns_outside::Place;
+use mdns_serve::Kit;
 
 /// The kit of a thread of a place.
 pub(crate) type KitOf<P> = Kit<<P as Place>::Air, <P as Place>::Clock, <P as Place>::Words>;

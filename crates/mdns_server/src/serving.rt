@@ -8,7 +8,7 @@ ghost use Rattle.mdns_server.specs.Endings.{Ends, IsServeStatus, IsLoopStatus, i
 ghost use Rattle.mdns_server.specs.Openings.{Opens};
 
 use crate::accepting::{Desk, accept_started};
-use crate::chair::{Chair, Common};
+use crate::chair::{Chair, chair_beside};
 use crate::closing::close;
 use crate::making::{Parts, make_parts};
 use crate::slot::Slot;
@@ -16,7 +16,7 @@ use crate::starting::{Hearing, Ticking, start_loops};
 use crate::status::{NO_MEMORY, WRITE_FAULT};
 use mdns_base::Sink;
 use mdns_outside::{Ear, Place};
-use mdns_serve::{Bell, Shared};
+use mdns_serve::{Bell, Common, Shared};
 use mdns_turn::{Seat, Turn};
 use std::alloc::{AllocError, Global};
 use std::sync::{Arc, Wait};
@@ -122,8 +122,8 @@ fn prepare<R: Wait + Copy, E: Ear + Drop>(
         turn: Arc::try_clone(turn)?,
         bell: Arc::new(alloc, Bell::new(alloc)?)?,
     };
-    let hearing = common.chair(seat)?;
-    let ticking = common.chair(seat)?;
+    let hearing = chair_beside(&common, seat)?;
+    let ticking = chair_beside(&common, seat)?;
     let slot = Arc::new(alloc, Slot::new())?;
     let ear_slot = Arc::try_clone(&slot)?;
     Ok(Opening {

@@ -3,10 +3,9 @@ ghost use Rattle.std.specs.Arc.{arc_value};
 ghost use Rattle.mdns_turn.specs.Models.{IsSeatOf};
 ghost use Rattle.mdns_server.specs.Openings.{OpensOne};
 
-use crate::chair::{Common, Kit};
 use mdns_history::{Event, Outcome};
 use mdns_outside::{Air, Clock, Words};
-use mdns_serve::{Happening, Miss, Shared, take_turn};
+use mdns_serve::{Common, Happening, Kit, Miss, Shared, take_turn};
 use mdns_turn::Seat;
 use std::sync::Wait;
 
@@ -19,17 +18,7 @@ pub(crate) fn attach<R: Wait, A: Air, C: Clock, W: Words>(
     requires { IsSeatOf (arc_value common.now.turn) seat.old }
     ensures { OpensOne seat.old seat.new }
 {
-    let done = take_turn(
-        &common.rt,
-        common.alloc,
-        &common.turn,
-        seat,
-        Event::Attach,
-        &mut kit.air,
-        &mut kit.clock,
-        &mut kit.words,
-        &common.bell,
-    );
+    let done = take_turn(common, seat, kit, Event::Attach);
     opened(&done)
 }
 

@@ -3,10 +3,11 @@ ghost use Rattle.std.specs.Arc.{arc_value};
 ghost use Rattle.std.specs.Prelude.{◌≡◌, ◌<◌, ◌≤◌, false, IfSome};
 ghost use Rattle.mdns_turn.specs.Models.{IsSeatOf};
 
-use crate::chair::{Chair, Half, Kit};
+use crate::chair::{Chair, Job};
 use crate::slot::Slot;
 use mdns_base::{Sink, Source};
 use mdns_outside::{Air, Clock, Ear, Gate, Spawner, Words};
+use mdns_serve::Kit;
 use std::sync::atomic::{AtomicU64, Ordering};
 use std::sync::{Arc, Wait};
 use std::thread::JoinHandle;
@@ -102,12 +103,7 @@ pub(crate) fn start_halves<
     C: Clock + Send + Drop + 'static,
     W: Words + Send + Drop + 'static,
     G: Gate + Send + Drop + 'static,
->(
-    spawner: &mut S,
-    chairs: Chairs<R>,
-    input: Half<I, A, C, W, G>,
-    output: Half<O, A, C, W, G>,
-) -> Pair
+>(spawner: &mut S, chairs: Chairs<R>, input: Job<I, A, C, W, G>, output: Job<O, A, C, W, G>) -> Pair
     requires reading { IsSeatOf (arc_value chairs.reading.common.turn) chairs.reading.seat }
     requires writing { IsSeatOf (arc_value chairs.writing.common.turn) chairs.writing.seat }
     ensures { result.whole ≡ false → 0 < S.faults spawner.new }

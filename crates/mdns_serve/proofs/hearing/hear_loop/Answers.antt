@@ -7,7 +7,7 @@ pub loop-init : goal.loop-init
 loop-init g c = (tt, tt, (refl, refl, refl), refl, ([], sym (append-nil c.args.seat.now.seen)), hears_none _ _ _, refl)
 
 pub returns-in-Some-next-clause-hears : goal.returns-in-Some-next-clause-hears
-returns-in-Some-next-clause-hears g c = hears_after _ (g.E.Ear.arrivals c.loop.ear) _ _ c.loop.seat.mine _ _ (g.A.Air.handed c.loop.air) _ (Some c.in-Some-next.end) c.loop.invariant.5 c.in-Some-next.ensures.hears
+returns-in-Some-next-clause-hears g c = hears_after _ (g.E.Ear.arrivals c.loop.ear) _ _ c.loop.seat.mine _ _ (g.A.Air.handed c.loop.kit.air) _ (Some c.in-Some-next.end) c.loop.invariant.5 c.in-Some-next.ensures.hears
 
 pub loop-preserved : goal.loop-preserved
 loop-preserved g c =
@@ -19,6 +19,6 @@ loop-preserved g c =
       (s.0 ∙ i.2.0, s.1 ∙ i.2.1, s.2 ∙ i.2.2),
       c.in_default.ensures.joined ∙ i.3,
       (i.4.0 ++ e.0, e.1 ∙ ap (λ l. l ++ e.0) i.4.1 ∙ append_assoc c.args.seat.now.seen i.4.0 e.0),
-      hears_after _ (g.E.Ear.arrivals c.loop.ear) _ _ c.loop.seat.mine _ _ (g.A.Air.handed c.loop.air) _ None i.5 c.in_default.ensures.hears,
+      hears_after _ (g.E.Ear.arrivals c.loop.ear) _ _ c.loop.seat.mine _ _ (g.A.Air.handed c.loop.kit.air) _ None i.5 c.in_default.ensures.hears,
       search rules,
     )
