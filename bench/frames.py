@@ -21,6 +21,10 @@ def text(words):
     return struct.pack(">H", len(words.encode())) + words.encode()
 
 
+def blob(data):
+    return struct.pack(">H", len(data)) + data
+
+
 def frame(kind, op, body=b""):
     return struct.pack(">IBI", 5 + len(body), kind, op) + body
 
@@ -35,6 +39,19 @@ def browse(op, regtype):
 
 def resolve(op, label, regtype):
     return frame(3, op, text(label) + text(regtype))
+
+
+def address(op, families, name):
+    """A call for addresses: 1 for IPv4, 2 for IPv6, 3 for both."""
+    return frame(4, op, bytes([families]) + wire(name))
+
+
+def register(op, label, regtype, port, txt=b"", rename=True):
+    return frame(5, op, struct.pack(">BH", 0 if rename else 8, port) + text(label) + text(regtype) + blob(txt))
+
+
+def update(op, txt):
+    return frame(6, op, blob(txt))
 
 
 def stop(op):
@@ -95,6 +112,18 @@ class Client:
         got = self.next()
         assert got[:len(wanted)] == wanted, (got, wanted)
         return got
+
+    def call(self, op, data, verb=1, code=0):
+        """Sends a call, and takes its reply; what comes before that is passed over."""
+        self.send(data)
+        self.waits_for("reply", op, verb, code)
+
+    def waits_for(self, *wanted):
+        """Takes items until one begins so."""
+        while True:
+            got = self.next()
+            if got[:len(wanted)] == wanted:
+                return got
 
     def has_ended(self):
         try:
