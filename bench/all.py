@@ -12,7 +12,8 @@ import held
 import measure
 import messages
 import outbox
+import replies
 from tools import table
 
 if __name__ == "__main__":
-    table(row for part in (measure, core, held, claims, messages, outbox) for row in part.rows())
+    table(row for part in (measure, core, held, claims, replies, messages, outbox) for row in part.rows())
