@@ -7,6 +7,7 @@ import os
 import select
 import shutil
 import signal
+import socket
 import struct
 import subprocess
 import sys
@@ -14,36 +15,46 @@ import tempfile
 import time
 import unittest
 
-from link import BRIDGE, DAEMON, FAR, FAR_TOO, GROUP, HERE, LIMIT, NEAR, PORT, RELAY, Bridged, Running, arrival, relayed, run, udp
+from link import BRIDGE, DAEMON, FAR, FAR_TOO, GROUP, HERE, LIMIT, NEAR, PORT, RELAY, Bridged, Running, arrival, namespace, relayed, run, udp
 
 TOP = os.path.dirname(HERE)
 sys.path.insert(0, os.path.join(TOP, "bench"))
 from end_to_end import announcement
-from frames import Client, browse, resolve, wire
+from frames import Client, browse, register, resolve, stop, update, wire
 
 PROGRAMS = {name: os.path.join(TOP, "crates", name, "out", name) for name in ("mdnsd", "dns_sd")}
 TYPE, PRINTER = "_ipp._tcp", "Office._ipp._tcp.local"
 PTR, SRV, UNICAST = 12, 33, 0x8000
-# Announces a service, and says which others it finds.
+# Announces a service, and says which others it finds and what it knows of them.
 ZEROCONF = """
-import signal, socket, sys, zeroconf
+import queue, signal, socket, sys, zeroconf
 signal.signal(signal.SIGTERM, lambda *_: sys.exit())
 link = zeroconf.Zeroconf(interfaces=[sys.argv[1]], ip_version=zeroconf.IPVersion.V4Only)
-link.register_service(zeroconf.ServiceInfo("_ipp._tcp.local.", "Zero._ipp._tcp.local.", addresses=[socket.inet_aton(sys.argv[1])],
-                                           port=8080, properties={"a": "1"}, server="zero.local."))
-print("registered", flush=True)
+own = zeroconf.ServiceInfo("_ipp._tcp.local.", "Zero._ipp._tcp.local.", addresses=[socket.inet_aton(sys.argv[1])],
+                           port=8080, properties={"a": "1"}, server="zero.local.")
+link.register_service(own, allow_name_change=True)
+print("registered", own.name, flush=True)
+changes = queue.Queue()
 def changed(zeroconf, service_type, name, state_change):
-    print(state_change.name, name, flush=True)
+    changes.put((state_change.name, name))
 seeker = zeroconf.ServiceBrowser(link, "_ipp._tcp.local.", handlers=[changed])
 try:
-    signal.pause()
+    while True:
+        state, name = changes.get()
+        info = None if state == "Removed" else link.get_service_info("_ipp._tcp.local.", name)
+        print(state, name, *([info.port, info.text.hex(), *info.parsed_addresses()] if info else []), flush=True)
 finally:
     link.close()
 """
+# The bus by which Avahi's own tools reach it.
+BUS = """<busconfig><type>system</type><listen>unix:path=/run/dbus/system_bus_socket</listen><auth>EXTERNAL</auth>
+<policy context="default"><allow send_destination="*" eavesdrop="true"/><allow eavesdrop="true"/><allow own="*"/><allow user="*"/></policy>
+</busconfig>
+"""
 AVAHI = """[server]
-host-name=far
+host-name={}
 use-ipv6=no
-enable-dbus=no
+enable-dbus={}
 allow-interfaces=link1
 """
 AVAHI_SERVICE = """<?xml version="1.0" standalone='no'?>
@@ -61,23 +72,40 @@ def start_zeroconf(test):
         test.skipTest("no zeroconf for Python (python3-zeroconf of Debian)")
     started = Running("far", pythons[0], "-c", ZEROCONF, FAR)
     test.addCleanup(started.drop)
-    started.waits_for("registered\n")
     return started
 
 
-def start_avahi(test):
-    """A host with Avahi, which announces `Hall`."""
+def start_bus(test):
+    """A bus for Avahi's tools, if there can be one."""
+    if any(shutil.which(name) is None for name in ("dbus-daemon", "avahi-browse", "avahi-resolve")):
+        test.skipTest("no dbus-daemon, or no avahi-utils (of Debian)")
+    os.makedirs("/run/dbus", exist_ok=True)
+    write("/run/bus.conf", BUS)
+    bus = Running("far", "dbus-daemon", "--config-file=/run/bus.conf", "--nofork", "--print-address")
+    test.addCleanup(bus.drop)
+    bus.waits_for("system_bus_socket")
+
+
+def write(path, text):
+    with open(path, "w", encoding="utf-8") as out:
+        out.write(text)
+
+
+def start_avahi(test, host="far", tools=False, waits=True):
+    """A host with Avahi, which announces `Hall`; with a bus for its tools where these are wanted."""
     path = shutil.which("avahi-daemon")
     if path is None or not os.path.isdir("/etc/avahi/services"):
         test.skipTest("no avahi-daemon (of Debian)")
+    if tools:
+        start_bus(test)
     run("mount", "-t", "tmpfs", "none", "/etc/avahi/services")
     test.addCleanup(run, "umount", "/etc/avahi/services")
-    for file, text in (("/etc/avahi/services/hall.service", AVAHI_SERVICE), ("/run/avahi.conf", AVAHI)):
-        with open(file, "w", encoding="utf-8") as out:
-            out.write(text)
+    write("/etc/avahi/services/hall.service", AVAHI_SERVICE)
+    write("/run/avahi.conf", AVAHI.format(host, "yes" if tools else "no"))
     started = Running("far", path, "--no-drop-root", "--no-chroot", "--no-rlimits", "--no-proc-title", "-f", "/run/avahi.conf")
     test.addCleanup(started.drop)
-    started.waits_for("(/etc/avahi/services/hall.service) successfully established", "stderr")
+    if waits:
+        started.waits_for("(/etc/avahi/services/hall.service) successfully established", "stderr")
     return started
 
 
@@ -109,7 +137,7 @@ class Responders(Bridged):
         self.hears_of(instance, (NEAR, PORT))
 
     def test_zeroconf_is_asked(self):
-        start_zeroconf(self)
+        start_zeroconf(self).waits_for("registered")
         self.is_asked("Zero")
 
     def test_avahi_is_asked(self):
@@ -121,13 +149,13 @@ class Responders(Bridged):
         other = start_zeroconf(self)
         self.hears_of(TYPE, ("0.0.0.0", 0))
         self.says(announcement())
-        other.waits_for(f"Added {PRINTER}.\n")
+        other.waits_for(f"Added {PRINTER}.")
         self.says(announcement(0))
-        other.waits_for(f"Removed {PRINTER}.\n")
+        other.waits_for(f"Removed {PRINTER}.")
 
 
-class Real(unittest.TestCase):
-    """`mdnsd serve` behind the bridge, other responders on the link, and clients that look for what these announce."""
+class Served(unittest.TestCase):
+    """`mdnsd serve` behind the bridge, with a client."""
 
     def setUp(self):
         if not os.access(PROGRAMS["mdnsd"], os.X_OK):
@@ -145,6 +173,10 @@ class Real(unittest.TestCase):
     def asks(self, frame, op):
         self.client.send(frame)
         self.client.expect("reply", op, 1, 0)
+
+
+class Real(Served):
+    """Other responders on the link, and clients that look for what these announce."""
 
     def finds(self, instance, port, other):
         """The instance is found and resolved, and is gone once its host says goodbye."""
@@ -183,10 +215,114 @@ class Real(unittest.TestCase):
             self.client.expect("remove", 1, "found", PRINTER + ".")
 
     def test_zeroconf(self):
-        self.finds("Zero", 8080, start_zeroconf(self))
+        other = start_zeroconf(self)
+        other.waits_for("registered")
+        self.finds("Zero", 8080, other)
 
     def test_avahi(self):
         self.finds("Hall", 631, start_avahi(self))
+
+
+class Found(Served):
+    """What a client of `mdnsd` registers, and other responders that look for it, or want its name."""
+
+    def registers(self, label, op=9):
+        """The name that the service got."""
+        self.client.call(op, register(op, label, TYPE, 700, b"\x03a=1"))
+        return self.client.waits_for("add", op, "named")[3].split("." + TYPE)[0]
+
+    def changes(self, op=9):
+        self.client.call(op, update(op, b"\x03a=2"), verb=2)
+
+    def test_found_by_zeroconf(self):
+        other = start_zeroconf(self)
+        other.waits_for("registered")
+        self.registers("Desk")
+        other.waits_for(f"Added Desk.{TYPE}.local. 700 03613d31 {NEAR}\n")
+        self.changes()
+        other.waits_for(f"Updated Desk.{TYPE}.local. 700 03613d32 {NEAR}\n")
+        self.client.call(9, stop(9), verb=3)
+        other.waits_for(f"Removed Desk.{TYPE}.local.")
+
+    def browsed(self, wanted):
+        """Waits until a new run of avahi-browse prints this."""
+        for _ in range(20):
+            with namespace("far"):
+                ran = subprocess.run(["avahi-browse", "-rpt", TYPE], capture_output=True, text=True, timeout=LIMIT, check=True)
+            if wanted in ran.stdout:
+                return
+            time.sleep(0.2)
+        self.fail(ran.stdout)
+
+    def test_found_by_avahi(self):
+        """It asks for the host's address when its announcements are over."""
+        time.sleep(3)
+        start_avahi(self, tools=True)
+        with namespace("far"):
+            ran = subprocess.run(["avahi-resolve", "-4", "-n", "near.local"], capture_output=True, text=True, timeout=LIMIT, check=True)
+        self.assertEqual(ran.stdout, f"near.local\t{NEAR}\n")
+        seeker = Running("far", "avahi-browse", "-rp", TYPE)
+        self.addCleanup(seeker.drop)
+        self.registers("Desk")
+        line = f"=;link1;IPv4;Desk;{TYPE};local;near.local;{NEAR};700;"
+        seeker.waits_for(line + '"a=1"')
+        self.changes()
+        self.browsed(line + '"a=2"')
+        self.client.close()
+        seeker.waits_for(f"-;link1;IPv4;Desk;{TYPE};local")
+
+    def test_avahi_was_first(self):
+        start_avahi(self)
+        self.assertEqual(self.registers("Hall"), "Hall (2)")
+
+    def test_avahi_comes_later(self):
+        """It takes other names, for its host too, and ours stay."""
+        self.assertEqual(self.registers("Hall"), "Hall")
+        other = start_avahi(self, "near", waits=False)
+        for words in ("Host name conflict, retrying with near-2", 'retrying with "Hall #2"'):
+            other.waits_for(words, "stderr")
+        other.waits_for('Service "Hall #2" (/etc/avahi/services/hall.service) successfully established', "stderr")
+
+    def test_avahi_at_the_same_time(self):
+        """One of both is renamed."""
+        other = start_avahi(self, waits=False)
+        other.waits_for("Loading service file /etc/avahi/services/hall.service", "stderr")
+        name = self.registers("Hall")
+        other.waits_for('Service "Hall', "stderr")
+        theirs = "Hall" + other.waits_for('" (/etc/avahi/services/hall.service) successfully established', "stderr")
+        self.assertIn((name, theirs), (("Hall", "Hall #2"), ("Hall (2)", "Hall")))
+        note(f"at the same time: ours is `{name}`, Avahi's `{theirs}`")
+
+    def test_zeroconf_was_first(self):
+        start_zeroconf(self).waits_for("registered Zero._ipp")
+        self.assertEqual(self.registers("Zero"), "Zero (2)")
+
+    def test_zeroconf_comes_later(self):
+        self.assertEqual(self.registers("Zero"), "Zero")
+        start_zeroconf(self).waits_for("registered Zero-2._ipp")
+
+    def test_host_is_asked(self):
+        """By a query to all, one that wants a reply to it alone, and one from another port."""
+        time.sleep(3)
+        question = struct.pack(">6H", 7, 0, 1, 0, 0, 0) + wire("near.local")
+        with contextlib.closing(udp("far", "", PORT, FAR)) as host, contextlib.closing(udp("far", FAR, 0, FAR)) as resolver:
+            for asker, unicast, receiver, ident in ((host, 0, GROUP, 0), (host, UNICAST, FAR, 0), (resolver, 0, FAR, 7)):
+                asker.sendto(question + struct.pack(">HH", 1, 1 | unicast), (GROUP, PORT))
+                packet, *others = arrival(asker)
+                self.assertEqual(others, [(NEAR, PORT), receiver, 255])
+                self.assertEqual(packet[:4], struct.pack(">HH", ident, 0x8400))
+                self.assertIn(socket.inet_aton(NEAR), packet)
+
+    def test_avahi_is_killed(self):
+        """What it announced ends by its TTL, two minutes at most, and isn't found any more then."""
+        other = start_avahi(self)
+        self.asks(resolve(2, "Hall", TYPE), 2)
+        self.client.expect("add", 2, "resolved", 0, 0, 631)
+        begun = time.monotonic()
+        other.process.send_signal(signal.SIGKILL)
+        self.client.socket.settimeout(130)
+        self.client.expect("remove", 2, "resolved", 0, 0, 631)
+        note(f"Hall: gone {time.monotonic() - begun:.0f} s after its host was killed")
 
 
 def note(words):
