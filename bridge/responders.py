@@ -248,7 +248,7 @@ class Found(Served):
         """Waits until a new run of avahi-browse prints this."""
         for _ in range(20):
             with namespace("far"):
-                ran = subprocess.run(["avahi-browse", "-rpt", TYPE], capture_output=True, text=True, timeout=LIMIT, check=True)
+                ran = subprocess.run(["avahi-browse", "-rptk", TYPE], capture_output=True, text=True, timeout=LIMIT, check=True)
             if wanted in ran.stdout:
                 return
             time.sleep(0.2)
@@ -261,7 +261,7 @@ class Found(Served):
         with namespace("far"):
             ran = subprocess.run(["avahi-resolve", "-4", "-n", "near.local"], capture_output=True, text=True, timeout=LIMIT, check=True)
         self.assertEqual(ran.stdout, f"near.local\t{NEAR}\n")
-        seeker = Running("far", "avahi-browse", "-rp", TYPE)
+        seeker = Running("far", "avahi-browse", "-rpk", TYPE)
         self.addCleanup(seeker.drop)
         self.registers("Desk")
         line = f"=;link1;IPv4;Desk;{TYPE};local;near.local;{NEAR};700;"
