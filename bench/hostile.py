@@ -25,7 +25,7 @@ import time
 import messages
 from end_to_end import A, TXT, announcement, record, response
 from frames import LIMIT, Client, Daemon, Peer, browse, frame, free_ports, query, register, stop, wire
-from held import packets, short
+from held import address, packets, short
 from serve import Marker, message
 from tools import TOP
 
@@ -101,17 +101,27 @@ class Target:
                 self.marker.wait()
         self.marker.wait()
 
+    def catch_up(self):
+        """Waits until the daemon hears again, behind packets of which the relay dropped some, and those of the marker too."""
+        deadline, client = time.monotonic() + LIMIT, self.marker.client
+        while not select.select([client.socket], [], [], 0.2)[0]:
+            assert time.monotonic() < deadline
+            self.marker.sent += 1
+            self.peer.send(message(packets([address(self.marker.sent, "marker", flush=True)])[0]))
+        while select.select([client.socket], [], [], 0.5)[0]:
+            client.next()
+        self.marker.wait()
+
     def row(self, thrown, came, most=CALM):
         memory = self.daemon.status("VmRSS") * 1024
         assert self.daemon.process.poll() is None and memory < most, memory
         return thrown, came, self.good.told(), f"{memory / MEGABYTE:.0f} MB"
 
     def replies(self):
-        """How many packets it sent since the last look."""
+        """How many responses it sent since the last look."""
         count = 0
         while select.select([self.peer.socket], [], [], 0)[0]:
-            self.peer.receive()
-            count += 1
+            count += self.peer.receive()[2] >> 7
         return count
 
     def end(self):
@@ -266,7 +276,7 @@ def flood(target, seconds, one, any_port=False):
             target.peer.send(one(count))
             count += 1
     target.peer.head = head
-    target.marker.wait()
+    target.catch_up()
     return count
 
 
@@ -279,7 +289,7 @@ def floods(target, given):
         target.replies()
         count = flood(target, given.seconds, lambda number, one=one: one, any_port)
         sent = target.replies()
-        yield target.row(f"{count:,} {what} in {given.seconds:g} s", f"{sent:,} packets sent" + (", and what the script couldn't take" if any_port else ""))
+        yield target.row(f"{count:,} {what} in {given.seconds:g} s", f"{sent:,} responses" + (", and what the script couldn't take" if any_port else ""))
     target.send((message(line) for line in packets([short(number) for number in range(32_000)], 512)), 1)
     yield target.row("32,000 records", "held")
     fresh = lambda number: response(*(record(f"f{number}-{place}.local", A, bytes(4), 120) for place in range(20)))
