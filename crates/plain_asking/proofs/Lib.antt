@@ -1,0 +1,5 @@
+pub mod Refreshes
+pub mod Begins
+pub mod Lists
+pub mod Gaps
+pub mod HeardBy
