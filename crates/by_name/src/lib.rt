@@ -5,8 +5,6 @@ mod filing;
 mod keyed;
 mod place;
 mod taking;
-#[cfg(test)]
-mod tests;
 
 pub use filing::ByName;
 pub use keyed::KeyedState;

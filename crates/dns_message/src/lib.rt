@@ -21,6 +21,3 @@ pub use lists::{Questions, Rrs};
 pub use message::{Message, MessageError, WriteError};
 pub use reading::read;
 pub use writing::write;
-
-#[cfg(test)]
-mod tests;

@@ -16,6 +16,3 @@ pub use label::Label;
 pub use laws::names_are_lawful;
 pub use name::{Labels, Name};
 pub use text::{NameText, write_label_byte};
-
-#[cfg(test)]
-mod tests;

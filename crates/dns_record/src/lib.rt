@@ -15,6 +15,3 @@ pub use law::record_order_is_total;
 pub use read::read_kind;
 pub use record::{Key, Question, Rdata, Rr};
 pub use write::{put_kind, put_name, put_rdata, put_record, put_srv};
-
-#[cfg(test)]
-mod tests;

@@ -14,6 +14,3 @@ mod walked;
 
 pub use asking::Asking;
 pub use plan::Plan;
-
-#[cfg(test)]
-mod tests;

@@ -18,6 +18,3 @@ pub use ipv4::{put_ipv4, read_ipv4};
 pub use ipv6::{put_ipv6, read_ipv6};
 pub use memory::{MemSink, MemSource};
 pub use outside::{Failed, Place, Sink, Source};
-
-#[cfg(test)]
-mod tests;

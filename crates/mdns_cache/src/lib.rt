@@ -14,8 +14,6 @@ mod look;
 mod prints;
 mod removal;
 mod steps;
-#[cfg(test)]
-mod tests;
 
 pub use cache::Cache;
 pub use error::HearError;

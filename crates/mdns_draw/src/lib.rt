@@ -6,6 +6,3 @@ mod words;
 
 pub use seeded::SeedWords;
 pub use words::Words;
-
-#[cfg(test)]
-mod tests;

@@ -18,6 +18,7 @@ use Rattle.mdns_hub.specs.Kept.{link_of}
 use Rattle.mdns_hub.specs.Slots.{slot_at, is_kept, address_at}
 use Rattle.mdns_hub.specs.Played.{Played, Told, history_of, address_in, transcript}
 use Rattle.mdns_hub.specs.Stepped.{IsStep}
+use Rattle.mdns_hub.specs.Tallies.{no_tally}
 use Rattle.mdns_hub.specs.Plays.{Happens, Boots, with_entry}
 use Rattle.mdns_hub.specs.Output.{OrNothing}
 use Rattle.mdns_hub.specs.Hubs.{StandsFor, SlotsStand, Puts, PutsPart, Advances, BreaksIn}
@@ -108,9 +109,9 @@ boots_is number moment word config words played now in_time drawn same none = (
 
 pub boot_done : (number word : ℕ) (config : Config) (entry : Entry) (hub after : Hub) (daemon : Booted) (old new : Option (List ℕ)) → hub.clock ≤ last_moment → is_kept hub.daemons.slots.items number ≡ false
     → word ≡ next_word hub.words → ((other : ℕ) → slot_at after.daemons.slots.items other ≡ cond (other == number) (Some daemon) (slot_at hub.daemons.slots.items other)) → daemon.address ≡ config.address
-    → entry ≡ boot_entry hub.clock word config → Stands daemon.daemon (entry ∷ []) → after.clock ≡ hub.clock → after.words ≡ words_after hub.words → link_of after.link ≡ link_of hub.link
+    → daemon.tally ≡ no_tally → entry ≡ boot_entry hub.clock word config → Stands daemon.daemon (entry ∷ []) → after.clock ≡ hub.clock → after.words ≡ words_after hub.words → link_of after.link ≡ link_of hub.link
     → Appends old new (entry_text number entry) → Advances (Boots number config) hub after old new
-boot_done number word config entry hub after daemon old new in_time free drawn put address is begun clock words link text = λ played stands.
+boot_done number word config entry hub after daemon old new in_time free drawn put address empty is begun clock words link text = λ played stands.
     let first : Entry = boot_entry hub.clock word config in (
       with_entry number first played,
       boots_is number hub.clock word config hub.words played stands.clock in_time drawn stands.words (no_history hub.daemons.slots.items played.told number stands.slots free),
@@ -118,7 +119,7 @@ boot_done number word config entry hub after daemon old new in_time free drawn p
         clock = clock ∙ stands.clock;
         words = words ∙ ap words_after stands.words;
         link = link ∙ stands.link;
-        slots = stands_boot number hub.clock word config hub.daemons.slots.items after.daemons.slots.items daemon played.told free put address (subst (λ (e : Entry). Stands daemon.daemon (e ∷ [])) is begun) stands.slots;
+        slots = stands_boot number hub.clock word config hub.daemons.slots.items after.daemons.slots.items daemon played.told free put address empty (subst (λ (e : Entry). Stands daemon.daemon (e ∷ [])) is begun) stands.slots;
       },
       (entry_text number first, refl, subst (λ (e : Entry). Appends old new (entry_text number e)) is text),
     )

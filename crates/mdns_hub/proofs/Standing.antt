@@ -1,7 +1,7 @@
 -- The slots stand for the histories of their numbers, step by step.
 use Rattle.std.proofs.Common.{◌≡◌, ◌≢◌, ℕ, ◌≤◌, ◌==◌, Bool, true, false, cond, List, [], ◌∷◌, Option, Some, None, IsTrue, option_map, option_and_then, eq-eqb, refl, sym, ap, subst, ◌∙◌, arith}
 use Rattle.std.specs.List.{cons_option}
-use Rattle.std.specs.Option.{is_some, option_or}
+use Rattle.std.specs.Option.{is_some, option_or, option_map_or}
 use Rattle.std.proofs.lemmas.Bool.{false≢true}
 use Rattle.mdns_history.specs.declared.config.Config.{Config}
 use Rattle.mdns_history.specs.declared.event.Event.{Event}
@@ -13,7 +13,9 @@ use Rattle.mdns_step.specs.InForce.{in_force}
 use Rattle.mdns_step.specs.State.{State, Stands}
 use Rattle.mdns_hub.specs.declared.daemons.Booted.{Booted}
 use Rattle.mdns_hub.specs.Played.{Told, history_of, config_in, is_booted, address_in}
-use Rattle.mdns_hub.specs.Slots.{slot_at, is_kept, address_at}
+use Rattle.mdns_hub.specs.Slots.{slot_at, is_kept, address_at, tally_at}
+use Rattle.mdns_hub.specs.declared.tally.Tally.{Tally}
+use Rattle.mdns_hub.specs.Tallies.{no_tally, with_gifts, tally_of}
 use Rattle.mdns_hub.specs.Stepped.{IsStep}
 use Rattle.mdns_hub.specs.Plays.{Follows}
 use Rattle.mdns_hub.specs.Hubs.{SlotStands, SlotsStand}
@@ -88,6 +90,15 @@ booted_same slots told h = same_function (is_booted told) (is_kept slots) (λ nu
     ∙ ap is_some (address_same (slot_at slots number) (history_of number told) (h number))
     ∙ some_mapped (λ (b : Booted). b.address) (slot_at slots number))
 
+-- what each daemon gave is counted
+
+tally_same : (slot : Option Booted) (history : List Entry) → SlotStands slot history → option_map_or (λ (b : Booted). b.tally) slot no_tally ≡ tally_of history
+tally_same None history h = ap tally_of (sym h)
+tally_same (Some b) history h = h.2
+
+pub tallies_same : (slots : List (Option Booted)) (told : List Told) (number : ℕ) → SlotsStand slots told → tally_at slots number ≡ tally_of (history_of number told)
+tallies_same slots told number h = tally_same (slot_at slots number) (history_of number told) (h number)
+
 -- A number is another, or the same.
 by_number : {P : Type 0} (number other : ℕ) → (other ≡ number → P) → ((other ≡ number → ⊥) → P) → P
 by_number {P = P} number other same apart = of (other == number) refl
@@ -114,7 +125,7 @@ stands_step number moment word ev old new entry told s no_boot stands =
     let before : SlotStands (Some s.before) past = subst (λ (slot : Option Booted). SlotStands slot past) s.was (stands number) in
     let fits : Fits in_force entry past × Stands (s.after).daemon (entry ∷ past) = s.fits past before.0 in
     let here : SlotStands (Some s.after) (entry ∷ past) =
-    (fits.1, ap (option_map (λ (config : Config). config.address)) (config_stays entry past (ap is_boot s.event_is ∙ no_boot)) ∙ before.1 ∙ ap Some (sym s.address)) in (
+    (fits.1, ap (option_map (λ (config : Config). config.address)) (config_stays entry past (ap is_boot s.event_is ∙ no_boot)) ∙ before.1 ∙ ap Some (sym s.address), s.tally ∙ ap (with_gifts entry.given) before.2) in (
       slots_changed number old new entry told stands s.others (subst (λ (slot : Option Booted). SlotStands slot (entry ∷ past)) (sym s.is) here),
       follows_fit ev entry past no_boot (some_history (s.before).daemon past before.0) fits.0,
     )
@@ -130,12 +141,15 @@ no_history slots told number stands free = subst (λ (slot : Option Booted). Slo
 -- the slots after a boot stand for the histories with its entry
 pub stands_boot : (number moment word : ℕ) (config : Config) (old new : List (Option Booted)) (daemon : Booted) (told : List Told) → is_kept old number ≡ false
     → ((other : ℕ) → slot_at new other ≡ cond (other == number) (Some daemon) (slot_at old other)) → daemon.address ≡ config.address
-    → Stands daemon.daemon (boot_entry moment word config ∷ []) → SlotsStand old told → SlotsStand new (telling number (boot_entry moment word config) told)
-stands_boot number moment word config old new daemon told free put address stands before =
+    → daemon.tally ≡ no_tally → Stands daemon.daemon (boot_entry moment word config ∷ []) → SlotsStand old told → SlotsStand new (telling number (boot_entry moment word config) told)
+stands_boot number moment word config old new daemon told free put address empty stands before =
     slots_changed number old new (boot_entry moment word config) told before
     (λ other apart. put other ∙ ap (λ (b : Bool). cond b (Some daemon) (slot_at old other)) (differs other apart))
-    (subst (λ (slot : Option Booted). SlotStands slot (boot_entry moment word config ∷ history_of number told)) (sym (put number ∙ ap (λ (b : Bool). cond b (Some daemon) (slot_at old number)) (eq-eqb number number refl)))
-    (subst (λ (past : List Entry). Stands daemon.daemon (boot_entry moment word config ∷ past)) (sym (no_history old told number before free)) stands, ap Some (sym address)))
+    (subst (λ (slot : Option Booted). SlotStands slot (boot_entry moment word config ∷ history_of number told)) (sym (put number ∙ ap (λ (b : Bool). cond b (Some daemon) (slot_at old number)) (eq-eqb number number refl))) (
+      subst (λ (past : List Entry). Stands daemon.daemon (boot_entry moment word config ∷ past)) (sym (no_history old told number before free)) stands,
+      ap Some (sym address),
+      empty ∙ ap tally_of (sym (no_history old told number before free)),
+    ))
   where
     differs : (other : ℕ) → (other ≡ number → ⊥) → (other == number) ≡ false
     differs other apart = of (other == number) refl

@@ -13,12 +13,14 @@ use Rattle.mdns_hub.specs.Links.{LinkState}
 use Rattle.mdns_hub.specs.Kept.{link_of}
 use Rattle.mdns_hub.specs.Played.{Played, Told, history_of, transcript}
 use Rattle.mdns_hub.specs.Slots.{slot_at, is_kept}
+use Rattle.mdns_hub.specs.Tallies.{tally_of}
 use Rattle.mdns_hub.specs.Plays.{is_bad_at}
 
--- a daemon stands for a history and has the address with which it was booted; in an empty slot there is no history
+-- a daemon stands for a history, has the address with which it was booted, and counted what it gave; in an empty slot there is no history
 abbrev pub SlotStands : Option Booted → List Entry → Type 0
 SlotStands None history = history ≡ []
-SlotStands (Some booted) history = Stands booted.daemon history × (option_map (λ config. config.address) (config_of history) ≡ Some booted.address)
+SlotStands (Some booted) history =
+    Stands booted.daemon history × (option_map (λ config. config.address) (config_of history) ≡ Some booted.address) × (booted.tally ≡ tally_of history)
 
 -- each slot stands for the history of its number
 abbrev pub SlotsStand : List (Option Booted) → List Told → Type 0

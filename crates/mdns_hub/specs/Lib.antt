@@ -1,6 +1,7 @@
 pub mod Links
 pub mod Played
 pub mod Slots
+pub mod Tallies
 pub mod Plays
 pub mod Once
 pub mod Output

@@ -1,8 +1,10 @@
 -- The daemons that a hub keeps: one in the slot of its number, and nothing in the others.
 use Rattle.std.specs.Prelude.{◌≡◌, ℕ, ◌<◌, ◌≤◌, max, Bool, List, Option, Some, None, option_and_then, slice_get}
-use Rattle.std.specs.Option.{is_some, option_map}
+use Rattle.std.specs.Option.{is_some, option_map, option_map_or}
 use Rattle.mdns_step.specs.State.{due_of}
 use Rattle.mdns_hub.specs.declared.daemons.Booted.{Booted}
+use Rattle.mdns_hub.specs.declared.tally.Tally.{Tally}
+use Rattle.mdns_hub.specs.Tallies.{no_tally}
 
 -- what stands in a slot
 abbrev pub slot_at : List (Option Booted) → ℕ → Option Booted
@@ -19,6 +21,10 @@ address_at slots number = option_map (λ booted. booted.address) (slot_at slots 
 -- the moment at which something of a daemon is due
 abbrev pub due_at : List (Option Booted) → ℕ → Option ℕ
 due_at slots number = option_and_then (λ booted. due_of booted.daemon) (slot_at slots number)
+
+-- what a daemon gave to its sessions; one that wasn't booted gave nothing
+abbrev pub tally_at : List (Option Booted) → ℕ → Tally
+tally_at slots number = option_map_or (λ booted. booted.tally) (slot_at slots number) no_tally
 
 -- no daemon's last entry is after a moment
 abbrev pub AreBehind : ℕ → List (Option Booted) → Type 0

@@ -2,21 +2,23 @@
 ghost use Rattle.std.specs.Prelude.{ℕ, ◌≡◌, ◌<◌, ◌≤◌, ◌^◌, [], ◌==◌, true, false, cond, Some, OnOk, OnErr, IfOk, vec_len};
 ghost use Rattle.std.specs.Option.{option_map, is_some};
 ghost use Rattle.mdns_history.specs.Fitting.{is_boot};
-ghost use Rattle.mdns_hub.specs.Slots.{slot_at, is_kept, address_at, due_at, AreBehind};
+ghost use Rattle.mdns_hub.specs.Slots.{slot_at, is_kept, address_at, due_at, tally_at, AreBehind};
 ghost use Rattle.mdns_hub.specs.Stepped.{IsStep};
 
 use crate::historic::Standing;
 use crate::steps::entry_of;
+use crate::tally::Tally;
 use mdns_history::{Entry, Event};
 use std::alloc::{AllocError, Global};
 use std::marker::Brand;
 use std::sync::ledger::Blank;
 
-/// A daemon, and the address with which it was booted.
+/// A daemon, the address with which it was booted, and what it gave.
 #[derive(Drop)]
 pub(crate) struct Booted {
     pub address: u32,
     pub daemon: Standing,
+    pub tally: Tally,
 }
 
 /// The daemons that were booted: each in the slot of its number, of which the first is that of 0.
@@ -73,6 +75,16 @@ impl Daemons {
         }
     }
 
+    /// What the daemon of a number gave to its sessions.
+    pub fn tally(&self, number: u32) -> Tally
+        ensures { result ≡ tally_at self.now.slots.items number }
+    {
+        match self.get(number) {
+            Some(booted) => booted.tally,
+            None => Tally::new(),
+        }
+    }
+
     /// Puts a daemon into the slot of its number. Refused only for want of memory; then each slot is as before.
     pub fn boot(&mut self, number: u32, booted: Booted) -> Result<(), AllocError>
         requires { number ≤ 16 }
@@ -116,13 +128,11 @@ impl Daemons {
         ensures err { OnErr result (self.new.slots.items ≡ self.old.slots.items) }
     {
         match &mut self.slots[number as usize] {
-            Some(booted) => Ok(entry_of::<Brand>(
-                &mut booted.daemon,
-                now,
-                word,
-                event,
-                Blank::new(1),
-            )?),
+            Some(booted) => {
+                let entry = entry_of::<Brand>(&mut booted.daemon, now, word, event, Blank::new(1))?;
+                booted.tally.count_all(entry.given.as_slice());
+                Ok(entry)
+            }
             None => unreachable!(),
         }
     }

@@ -1,14 +1,18 @@
 // Why a command could not be done.
 use std::alloc::AllocError;
+use thiserror::Error;
 
 /// Why a command could not be done.
-#[derive(Clone, Copy, Debug, PartialEq, Eq)]
+#[derive(Clone, Copy, Debug, PartialEq, Eq, Error)]
 pub enum HubError {
     /// The command is bad at this place of the script. Nothing was done.
+    #[error("the command is bad at its place")]
     BadCommand,
     /// The sink failed.
+    #[error("the sink failed")]
     WriteFault,
     /// Memory was refused.
+    #[error("memory was refused")]
     NoMemory,
 }
 

@@ -10,6 +10,7 @@ use crate::daemons::{Booted, Daemons};
 use crate::historic::Standing;
 use crate::link::Link;
 use crate::steps::put_entry;
+use crate::tally::Tally;
 use mdns_base::Sink;
 use mdns_draw::{SeedWords, Words};
 use mdns_history::{Config, Event, HostConfig};
@@ -39,11 +40,12 @@ pub struct Hub {
 
 impl Hub {
     ghost use Rattle.std.specs.Prelude.{◌≡◌, ◌↔◌, true, false, Err, OnOk, OnErr};
-    ghost use Rattle.mdns_hub.specs.Played.{Played, start};
+    ghost use Rattle.mdns_hub.specs.Played.{Played, start, history_of};
     ghost use Rattle.mdns_hub.specs.Links.{most_daemons};
     ghost use Rattle.mdns_hub.specs.Plays.{is_out_of_reach, is_setting, set_by, is_bad, Boots, Happens, Does, Plays};
     ghost use Rattle.mdns_hub.specs.Output.{HasWriteCause, DoesPart, PlaysPart, OrNothing};
     ghost use Rattle.mdns_hub.specs.Hubs.{StandsFor, Advances, BreaksIn, is_bad_for};
+    ghost use Rattle.mdns_hub.specs.Tallies.{tally_of};
 
     /// A hub on which nothing was played. It takes no memory.
     pub fn new(alloc: Global) -> Self
@@ -75,6 +77,13 @@ impl Hub {
         } else {
             self.play(command, output)
         }
+    }
+
+    /// What a daemon gave to its sessions in all that was played; nothing where it wasn't booted.
+    pub fn tally(&self, daemon: u32) -> Tally
+        ensures { (played : Played) → StandsFor self.now played → result ≡ tally_of (history_of daemon played.told) }
+    {
+        self.daemons.tally(daemon)
     }
 
     // Whether the command is bad at this place of the script.
@@ -180,7 +189,13 @@ impl Hub {
         let word = self.words.take();
         let address = config.address;
         let (daemon, entry) = Standing::new(self.alloc, config, self.clock, word)?;
-        self.daemons.boot(number, Booted { address, daemon })?;
+        let tally = Tally::new();
+        let booted = Booted {
+            address,
+            daemon,
+            tally,
+        };
+        self.daemons.boot(number, booted)?;
         put_entry(self.alloc, number, &entry, output)?;
         Ok(())
     }

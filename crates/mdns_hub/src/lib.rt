@@ -10,7 +10,9 @@ mod law;
 mod link;
 mod running;
 mod steps;
+mod tally;
 
 pub use error::HubError;
 pub use hub::Hub;
 pub use law::scripts_are_played_once;
+pub use tally::Tally;

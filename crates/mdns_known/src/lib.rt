@@ -11,6 +11,3 @@ pub use all::all_known_answers;
 pub use known::known_answers;
 pub use laws::known_answers_of_live_records;
 pub use suppression::suppresses;
-
-#[cfg(test)]
-mod tests;

@@ -34,6 +34,3 @@ pub use place::Place;
 pub use plan::{PathText, Ports, ServePlan};
 pub use plug::Plug;
 pub use spawner::MemSpawner;
-
-#[cfg(test)]
-mod tests;

@@ -16,6 +16,3 @@ pub use plain::pack_plain;
 pub use query::pack_query;
 pub use reply::pack_reply;
 pub use wanting::Wanting;
-
-#[cfg(test)]
-mod tests;

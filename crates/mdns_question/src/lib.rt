@@ -14,6 +14,3 @@ pub use asker::Asker;
 pub use kept::first_refresh;
 pub use law::{askings_follow_the_history, kept_points_tell_what_is_due};
 pub use tracked::Tracked;
-
-#[cfg(test)]
-mod tests;

@@ -9,6 +9,3 @@ mod records;
 
 pub use law::records_follow_hearings;
 pub use records::Records;
-
-#[cfg(test)]
-mod tests;

@@ -11,6 +11,3 @@ pub use lasts::Lasts;
 pub use law::kept_moments_stand_later;
 pub use mark::Mark;
 pub use sent::multicasts;
-
-#[cfg(test)]
-mod tests;

@@ -22,5 +22,3 @@ pub use print::print_command;
 
 #[cfg(test)]
 mod print_tests;
-#[cfg(test)]
-mod tests;

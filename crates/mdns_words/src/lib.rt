@@ -8,6 +8,3 @@ mod words;
 
 pub use label::HostLabel;
 pub use plan::{Asked, serve_words};
-
-#[cfg(test)]
-mod tests;

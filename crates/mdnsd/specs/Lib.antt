@@ -4,3 +4,4 @@ pub mod Histories
 pub mod Statuses
 pub mod Lines
 pub mod Words
+pub mod Generating

@@ -1,5 +1,5 @@
 -- What the words of the command line ask for, as they were read.
-use Rattle.std.specs.Prelude.{◌≡◌, ◌≢◌, ℕ, List, [], ◌∷◌, map, drop, codes, Result, Ok, Err, Option, Some, None, Bool, false, String, if◌then◌else◌}
+use Rattle.std.specs.Prelude.{◌≡◌, ◌≢◌, ℕ, nat_le, ◌&&◌, List, [], ◌∷◌, map, drop, codes, Result, Ok, Err, Option, Some, None, Bool, false, String, if◌then◌else◌}
 use Rattle.std.specs.Str.{bytes_eq}
 use Rattle.std.specs.Global.{Global}
 use Rattle.std.specs.String.{string_bytes}
@@ -8,7 +8,7 @@ use Rattle.std.specs.declared.vec.IntoIter.{IntoIter}
 use Rattle.std.specs.IoError.{error_kind}
 use Rattle.std.specs.declared.io.Error.{Error}
 use Rattle.std.specs.declared.io.ErrorKind.TheVariants.{OutOfMemory}
-use Rattle.mdns_base.specs.Digits.{◌>>=◌}
+use Rattle.mdns_base.specs.Digits.{◌>>=◌, decimal_of}
 use Rattle.mdns_outside.specs.declared.plan.ServePlan.{ServePlan}
 use Rattle.mdnsd_serve.specs.Serving.{plan_of}
 
@@ -39,6 +39,17 @@ behind_serve (word ∷ words) = if bytes_eq word (codes "serve") then Some words
 abbrev pub serve_plan : List (List ℕ) → Option ServePlan
 serve_plan words = behind_serve words >>= λ behind. plan_of behind
 
+-- a number from 1 to 200, in decimal digits without a sign or a leading zero
+abbrev pub count_of : List ℕ → Option ℕ
+count_of digits = do
+  n ← decimal_of digits
+  if nat_le 1 n && nat_le n 200 then Some n else None
+
+-- the number behind `gen`, where it is the one further word
+abbrev pub gen_number : List (List ℕ) → Option ℕ
+gen_number (word ∷ digits ∷ []) = if bytes_eq word (codes "gen") then count_of digits else None
+gen_number _ = None
+
 -- The words are those of a script.
 abbrev pub AreScript : Result (IntoIter (String Global) Global) Error → Type 0
 AreScript args = told args ≡ Some script_words
@@ -47,9 +58,13 @@ AreScript args = told args ≡ Some script_words
 abbrev pub AskFor : ServePlan → Result (IntoIter (String Global) Global) Error → Type 0
 AskFor plan args = (told args >>= λ words. serve_plan words) ≡ Some plan
 
--- The words are neither, or couldn't be read: one of them is no text.
+-- The words ask for the script that is made of this number, from 1 to 200.
+abbrev pub AreGen : ℕ → Result (IntoIter (String Global) Global) Error → Type 0
+AreGen n args = (told args >>= λ words. gen_number words) ≡ Some n
+
+-- The words are none of these, or couldn't be read: one of them is no text.
 abbrev pub AreNoCommand : Result (IntoIter (String Global) Global) Error → Type 0
-AreNoCommand (Ok args) = (words_of args ≢ script_words) × (serve_plan (words_of args) ≡ None)
+AreNoCommand (Ok args) = (words_of args ≢ script_words) × (serve_plan (words_of args) ≡ None) × (gen_number (words_of args) ≡ None)
 AreNoCommand (Err error) = error_kind error ≢ OutOfMemory
 
 -- Memory was refused when the words were read.

@@ -1,10 +1,11 @@
 // What the command line asks for.
-ghost use Rattle.std.specs.Prelude.{◌≡◌, ◌≢◌, ◌⊎◌, ◌↔◌, true, None, Some, Ok, Err, IfOk, IfErr, MatchOption};
+ghost use Rattle.std.specs.Prelude.{◌≡◌, ◌≢◌, ◌⊎◌, ◌↔◌, ◌≤◌, true, None, Some, Ok, Err, IfOk, IfErr, IfSome, MatchOption};
 ghost use Rattle.std.specs.IoError.{error_kind};
 ghost use Rattle.mdns_words.specs.Options.{texts};
-ghost use Rattle.mdnsd.specs.Words.{AreNoCommand, LackMemory, told, script_words, names_script, behind_serve};
+ghost use Rattle.mdnsd.specs.Words.{AreNoCommand, LackMemory, told, script_words, names_script, behind_serve, count_of, gen_number};
 
 use crate::stop::{NO_MEMORY, USAGE};
+use mdns_base::read_decimal;
 use std::alloc::{AllocError, Global};
 use std::env::Args;
 use std::io;
@@ -62,6 +63,32 @@ fn names_script(words: &[String]) -> bool
     match words {
         [word] => word.as_str() == "script",
         _ => false,
+    }
+}
+
+/// The number of the script that `gen` and a number from 1 to 200 ask for.
+pub fn gen_number(words: &[String]) -> Option<u32>
+    ensures number { result ≡ gen_number (texts words.now) }
+    ensures low { IfSome result (λ n. 1 ≤ n) }
+    ensures high { IfSome result (λ n. n ≤ 200) }
+{
+    match words {
+        [word, digits] if word.as_str() == "gen" => count_of(digits.as_str().as_bytes()),
+        _ => None,
+    }
+}
+
+// A number from 1 to 200, in decimal digits without a sign or a leading zero.
+fn count_of(digits: &[u8]) -> Option<u32>
+    ensures number { result ≡ count_of digits.now }
+    ensures low { IfSome result (λ n. 1 ≤ n) }
+    ensures high { IfSome result (λ n. n ≤ 200) }
+{
+    let number = read_decimal(digits)?;
+    if 1 <= number && number <= 200 {
+        Some(number as u32)
+    } else {
+        None
     }
 }
 

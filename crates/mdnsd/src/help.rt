@@ -7,10 +7,25 @@ const VERSION: &str = "mdnsd 0.1";
 /// The commands.
 pub const HELP: &str =
     "usage: mdnsd script < SCRIPT > TRANSCRIPT    plays a script for up to sixteen daemons
+       mdnsd gen N                          plays a script that it makes of N (1 to 200)
        mdnsd serve OPTIONS                  serves clients until it is stopped
        mdnsd script --help                  the lines of a script
+       mdnsd gen --help                     what that script does
        mdnsd serve --help                   the options of serve
        mdnsd --version";
+
+/// What `gen` plays and prints.
+const GEN_HELP: &str = "usage: mdnsd gen N
+
+Plays a script that is made of N, from 1 to 200, and prints a summary of it. Daemon 1 announces N services of seven types, 64 in a
+session. Daemon 2 browses for the seven types. After ten seconds the sessions of daemon 1 end.
+
+  gen N      the number
+  named A    how many names the services got
+  found F    how many of them daemon 2 found
+  lost L     how many of those it lost
+
+Status: 2 the words are wrong, 5 standard output failed, 6 out of memory.";
 
 /// What can be typed behind `serve`.
 const SERVE_HELP: &str =
@@ -51,6 +66,7 @@ fn is_help(word: &str) -> bool {
 fn help_on(command: &str) -> Option<&'static str> {
     match command {
         "script" => Some(SCRIPT_HELP),
+        "gen" => Some(GEN_HELP),
         "serve" => Some(SERVE_HELP),
         _ => None,
     }

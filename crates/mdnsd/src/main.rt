@@ -1,7 +1,9 @@
-//! A Multicast DNS daemon. `mdnsd script` runs the script on standard input and prints its transcript; `mdnsd serve` serves clients.
+//! A Multicast DNS daemon. `mdnsd script` runs the script on standard input and prints its transcript; `mdnsd gen` plays a script that it makes
+//! of a number; `mdnsd serve` serves clients.
 #![tactic(auto)]
 
 mod command;
+mod generated;
 mod help;
 mod input;
 mod lines;

@@ -9,6 +9,7 @@ use std::test::Fail;
 mod adapters;
 mod announced;
 mod claims;
+mod generated;
 mod held_back;
 mod large;
 mod linked;

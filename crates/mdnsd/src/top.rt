@@ -6,9 +6,11 @@ ghost use Rattle.mdns_outside.specs.declared.plan.ServePlan.{ServePlan};
 ghost use Rattle.mdns_server.specs.Endings.{IsServeStatus, serving_line};
 ghost use Rattle.mdnsd_serve.specs.Serving.{Serves};
 ghost use Rattle.mdnsd.specs.Statuses.{Stops, PlaysScript, BreaksOff, ReadAll, IsTooLarge, IsWithin, IsScriptStatus};
-ghost use Rattle.mdnsd.specs.Words.{AreNoCommand, AreScript, AskFor, LackMemory};
+ghost use Rattle.mdnsd.specs.Generating.{GainsSummary, BeginsSummary, IsGenStatus};
+ghost use Rattle.mdnsd.specs.Words.{AreNoCommand, AreScript, AreGen, AskFor, LackMemory};
 
-use crate::command::{is_script, serve_words, words_of};
+use crate::command::{gen_number, is_script, serve_words, words_of};
+use crate::generated::run_gen;
 use crate::script::run_script;
 use crate::stop::USAGE;
 use mdns_base::{Sink, Source};
@@ -22,8 +24,8 @@ use std::sync::Wait;
 /// All that the program does with its command line as it was read: the program's own name, and then the words. The
 /// answer is its status.
 ///
-/// The commands are `script`, with the statuses of `run_script`, and `serve` with words that ask for a server, with the
-/// statuses of `serve_by_words`. Other words, and a word that is no text, give 2; want of memory for the words gives 6. Then
+/// The commands are `script`, with the statuses of `run_script`, `gen` with a number from 1 to 200, with those of `run_gen`, and
+/// `serve` with words that ask for a server, with those of `serve_by_words`. Other words, and a word that is no text, give 2; want of memory for the words gives 6. Then
 /// nothing is read, written or made.
 pub fn mdnsd<R: Wait + Copy + Send + 'static, S: Source, K: Sink, P: Place>(
     rt: &R,
@@ -55,6 +57,12 @@ pub fn mdnsd<R: Wait + Copy + Send + 'static, S: Source, K: Sink, P: Place>(
         (λ script. BreaksOff script (K.held output.old) (K.held output.new)) }
     ensures script { AreScript args → IsScriptStatus result × (place.new ≡ place.old) }
 
+    // A script that is made of a number: its summary was put, a beginning of it, or nothing.
+    ensures generated { (n : ℕ) → AreGen n args → IsGenStatus result × (input.new ≡ input.old) × (place.new ≡ place.old) }
+    ensures summary { (n : ℕ) → AreGen n args → result ≡ 0 → GainsSummary n (K.held output.old) (K.held output.new) }
+    ensures beginning { (n : ℕ) → AreGen n args → result ≡ 5 → BeginsSummary n (K.held output.old) (K.held output.new) }
+    ensures nothing { (n : ℕ) → AreGen n args → result ≡ 6 → output.new ≡ output.old }
+
     // A server. What its status says of the place, which was given the plan.
     ensures serves { (plan : ServePlan) → AskFor plan args
         → Serves plan (P.counted place.old) (P.counted place.new) result ⊎ ((result ≡ 6) × (place.new ≡ place.old)) }
@@ -71,6 +79,9 @@ pub fn mdnsd<R: Wait + Copy + Send + 'static, S: Source, K: Sink, P: Place>(
     };
     if is_script(&words) {
         return run_script(alloc, input, output);
+    }
+    if let Some(number) = gen_number(&words) {
+        return run_gen(alloc, number, output);
     }
     match serve_words(&words) {
         Some(behind) => serve_by_words(*rt, alloc, behind, place, output),

@@ -50,11 +50,21 @@ fn wrong_words(alloc: Global, words: &[String]) -> Result<String, AllocError> {
             let wrong = say_wrong(alloc, behind)?;
             format!(in alloc; "serve: {wrong}")
         }
+        [command, behind @ ..] if command.as_str() == "gen" => wrong_number(alloc, behind),
         [] => format!(in alloc; "a command is wanted\n{HELP}"),
         [command, word, ..] if command.as_str() == "script" => {
             format!(in alloc; "script takes no further word, not {word}\n{HELP}")
         }
         [command, ..] => format!(in alloc; "{command} is no command\n{HELP}"),
+    }
+}
+
+// What is said of the words behind `gen` that aren't one number from 1 to 200.
+fn wrong_number(alloc: Global, words: &[String]) -> Result<String, AllocError> {
+    match words {
+        [] => String::from_str(alloc, "gen: a number from 1 to 200 is wanted"),
+        [number] => format!(in alloc; "gen: a number from 1 to 200 is wanted, not {number}"),
+        [_, word, ..] => format!(in alloc; "gen takes no further word, not {word}"),
     }
 }
 

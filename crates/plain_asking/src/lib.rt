@@ -10,8 +10,6 @@ mod moments;
 mod question;
 mod refresh;
 mod series;
-#[cfg(test)]
-mod tests;
 mod tick;
 
 pub use active::{active_questions, is_active};

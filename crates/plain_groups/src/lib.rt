@@ -9,8 +9,6 @@ mod probing;
 mod records;
 mod registration;
 mod sure;
-#[cfg(test)]
-mod tests;
 
 pub use group::{GroupType, LiveGroup};
 pub use live::{groups, host_name, is_group, names_of};

@@ -12,8 +12,6 @@ mod operation;
 mod order;
 mod running;
 mod sessions;
-#[cfg(test)]
-mod tests;
 
 pub use calls::{detached, ends_operation};
 pub use entry::{HistoryEntry, config_of, now};

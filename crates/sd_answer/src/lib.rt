@@ -12,6 +12,3 @@ pub use laws::{answers_are_in_order, only_matching_records_matter, order_of_reco
 pub use lists::Answers;
 pub use questions::questions_of;
 pub use records::KnownRecords;
-
-#[cfg(test)]
-mod tests;

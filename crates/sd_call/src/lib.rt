@@ -20,6 +20,3 @@ pub use replayed::Replayed;
 pub use request::{Request, Verb};
 pub use text::Text;
 pub use tokens::{put_label, put_type};
-
-#[cfg(test)]
-mod tests;

@@ -11,6 +11,3 @@ pub use requests::{
     address_request, browse_request, query_request, register_request, resolve_request,
     update_request,
 };
-
-#[cfg(test)]
-mod tests;

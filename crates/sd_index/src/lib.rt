@@ -7,6 +7,3 @@ mod search;
 
 pub use asker::Asker;
 pub use askers::Askers;
-
-#[cfg(test)]
-mod tests;

@@ -20,6 +20,3 @@ mod writing;
 pub use error::FrameError;
 pub use reading::{read_item, read_request};
 pub use writing::{write_item, write_request};
-
-#[cfg(test)]
-mod tests;

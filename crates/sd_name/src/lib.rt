@@ -12,6 +12,3 @@ pub use grammar::is_service_label;
 pub use names::{full_name, local_name, split_full, types_name};
 pub use regtype::RegType;
 pub use renaming::{host_renamed, renamed};
-
-#[cfg(test)]
-mod tests;

@@ -4,6 +4,3 @@
 mod outbox;
 
 pub use outbox::{AppendError, Outbox, Taken};
-
-#[cfg(test)]
-mod tests;

@@ -9,6 +9,3 @@ mod service;
 pub use host::{host_name, host_records};
 pub use nsec::{is_nsec_of, nsec_of, unique_records_have_a_bitmap};
 pub use service::{Service, service_name, service_records, shared_records};
-
-#[cfg(test)]
-mod tests;

@@ -12,6 +12,3 @@ pub use octets::Octets;
 pub use pair::{Found, Pair};
 pub use strings::{Strings, is_txt};
 pub use txt::Txt;
-
-#[cfg(test)]
-mod tests;

@@ -2,7 +2,9 @@ use Rattle.std.proofs.Common.{◌≡◌, ◌∙◌, ◌<◌, ap, sym, refl, List
 use Rattle.std.specs.Option.{is_some}
 use Rattle.std.proofs.lemmas.Bool.{false≢true}
 use Rattle.mdns_hub.specs.declared.daemons.Booted.{Booted}
+use Rattle.mdns_history.specs.declared.entry.Given.{Given}
 use Rattle.mdns_hub.specs.Slots.{slot_at}
+use Rattle.mdns_hub.specs.Tallies.{with_gifts}
 use Rattle.mdns_hub.proofs.Slotted.{kept_within, slot_read, set_here, set_there}
 use Rattle.mdns_hub.proofs.daemons.Daemons.step.Goals as goal
 
@@ -22,7 +24,7 @@ unreachable-requires c =
 pub returns-clause-done : goal.returns-clause-done
 returns-clause-done c =
     let within : c.args.number < length c.args.self.now.slots.items = kept_within c.args.self.now.slots.items c.args.number c.requires.kept in
-    let now : Booted = record { address = c.in-Some.booted.address; daemon = c.entry_of.new.daemon } in
+    let now : Booted = record { address = c.in-Some.booted.address; daemon = c.entry_of.new.daemon; tally = c.count_all.new.self } in
     record {
       before = c.in-Some.booted;
       after = now;
@@ -30,10 +32,11 @@ returns-clause-done c =
       is = set_here c.args.self.now.slots.items c.args.number (Some now) within;
       others = λ other different. set_there c.args.self.now.slots.items c.args.number other (Some now) different;
       address = refl;
-      fits = c.in_ok-entry_of-in-Some.ensures.fits;
-      moment_is = c.in_ok-entry_of-in-Some.ensures.is.0;
-      word_is = c.in_ok-entry_of-in-Some.ensures.is.1;
-      event_is = c.in_ok-entry_of-in-Some.ensures.is.2;
-      last = c.in_ok-entry_of-in-Some.ensures.last;
-      ticked = c.in_ok-entry_of-in-Some.ensures.ticked;
+      tally = c.count_all.ensures ∙ ap (λ (gifts : List Given). with_gifts gifts c.in-Some.booted.tally) c.as_slice.ensures;
+      fits = c.in_ok-entry-in-Some.ensures.fits;
+      moment_is = c.in_ok-entry-in-Some.ensures.is.0;
+      word_is = c.in_ok-entry-in-Some.ensures.is.1;
+      event_is = c.in_ok-entry-in-Some.ensures.is.2;
+      last = c.in_ok-entry-in-Some.ensures.last;
+      ticked = c.in_ok-entry-in-Some.ensures.ticked;
     }

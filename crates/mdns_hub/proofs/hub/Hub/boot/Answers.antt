@@ -19,14 +19,14 @@ invariant_of-self-2-clause-bound g c = c.args.self.now.bound
 
 pub invariant_of-self-2-clause-behind : goal.invariant_of-self-2-clause-behind
 invariant_of-self-2-clause-behind g c =
-    let daemon : Booted = record { address = c.args.config.address; daemon = c.in_ok-daemon.daemon } in
+    let daemon : Booted = record { address = c.args.config.address; daemon = c.in_ok-daemon.daemon; tally = c.new-tally.result } in
     done_or_not c.boot.result c.boot.ensures.done c.boot.ensures.err
     (λ put. behind_boot c.args.number c.args.self.now.clock c.args.self.now.daemons.slots.items c.boot.new.self.slots.items daemon put (omega (arith, c.in_ok-daemon.ensures.last)) c.args.self.now.behind)
     (λ same. behind_same c.args.self.now.clock c.args.self.now.daemons.slots.items c.boot.new.self.slots.items same c.args.self.now.behind)
 
 pub invariant_of-self-2-clause-fit : goal.invariant_of-self-2-clause-fit
 invariant_of-self-2-clause-fit g c =
-    let daemon : Booted = record { address = c.args.config.address; daemon = c.in_ok-daemon.daemon } in
+    let daemon : Booted = record { address = c.args.config.address; daemon = c.in_ok-daemon.daemon; tally = c.new-tally.result } in
     let slots : List (Option Booted) = c.args.self.now.daemons.slots.items in
     let more : (other : ℕ) → is_kept slots other ≡ true → is_kept c.boot.new.self.slots.items other ≡ true = done_or_not c.boot.result c.boot.ensures.done c.boot.ensures.err
     (λ put. kept_boot c.args.number slots c.boot.new.self.slots.items daemon put)
@@ -49,6 +49,6 @@ returns-in_err-put_entry-clause-cause g c =
 
 pub returns-clause-done : goal.returns-clause-done
 returns-clause-done g c =
-    boot_done c.args.number c.take-word.result c.args.config c.in_ok-daemon.entry c.args.self.now _ (record { address = c.args.config.address; daemon = c.in_ok-daemon.daemon })
-    (g.K.Sink.held c.args.output.now) (g.K.Sink.held c.put_entry.new.output) c.args.self.now.bound c.requires.free c.take-word.ensures.word c.in_ok-boot.ensures.done refl c.in_ok-daemon.ensures.entry
+    boot_done c.args.number c.take-word.result c.args.config c.in_ok-daemon.entry c.args.self.now _ (record { address = c.args.config.address; daemon = c.in_ok-daemon.daemon; tally = c.new-tally.result })
+    (g.K.Sink.held c.args.output.now) (g.K.Sink.held c.put_entry.new.output) c.args.self.now.bound c.requires.free c.take-word.ensures.word c.in_ok-boot.ensures.done refl c.new-tally.ensures c.in_ok-daemon.ensures.entry
     c.in_ok-daemon.ensures.stands refl c.take-word.ensures.after refl c.in_ok-put_entry.ensures.text

@@ -1,0 +1,9 @@
+//! The records that questions ask for: of each question those that match it, found by one look-up. (RFC 6762 6)
+#![tactic(auto)]
+
+mod asked;
+
+pub use asked::Asked;
+
+#[cfg(test)]
+mod tests;

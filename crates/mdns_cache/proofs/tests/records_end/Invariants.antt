@@ -1,4 +1,0 @@
-use Rattle.mdns_cache.proofs.tests.records_end.Given as goal
-
-abbrev pub ghosts-play : goal.ghosts-play
-ghosts-play g a = record { name = a.blank.name; parts = a.blank.parts }

@@ -1,0 +1,5 @@
+pub mod Counting
+pub mod Leading
+pub mod Goodness
+pub mod Short
+pub mod Playing

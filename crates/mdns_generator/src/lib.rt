@@ -1,0 +1,11 @@
+//! The generator: a script that is made of a number, played without its transcript, and the summary of what its daemons gave.
+#![tactic(auto)]
+
+mod commands;
+mod null;
+mod play;
+mod requests;
+mod summary;
+
+pub use null::NullSink;
+pub use summary::summarize;
