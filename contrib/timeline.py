@@ -2,11 +2,13 @@
 """Draws a transcript of `mdnsd script` as one page that a browser shows, for whoever would rather look than read.
 
     contrib/timeline.py [TRANSCRIPT] > PAGE.html
+    contrib/timeline.py --svg [TRANSCRIPT] > PICTURE.svg
 
-TRANSCRIPT is a file, or standard input. Time goes to the right; long waits are drawn shorter than they were, and the moments
-stand at the top, in milliseconds. There is a lane for the link, for each daemon, and for each session of a daemon. Arrows are
-packets (link to daemon: heard; daemon to link: sent), calls (session to daemon), and what a session is given (daemon to session).
-Point at an arrow or a dot to read it whole. The page holds all that it needs. It ends with 1 where a line is none of a transcript.
+TRANSCRIPT is a file, or standard input; with --svg the picture alone is written, without the key to its colours. Time goes to the
+right; long waits are drawn shorter than they were, and the moments stand at the top, in milliseconds. There is a lane for the link,
+for each daemon, and for each session of a daemon. Arrows are packets (link to daemon: heard; daemon to link: sent), calls (session to
+daemon), and what a session is given (daemon to session). Point at an arrow or a dot to read it whole. The page holds all that it
+needs. It ends with 1 where a line is none of a transcript.
 """
 import html
 import math
@@ -137,9 +139,9 @@ class Page:
             number, _, item = gift.partition(" ")
             self.arrow(daemon, (entry.daemon, int(number)), item.split(" ")[0], at + item)
 
-    def whole(self):
-        """The page."""
-        width = self.x + 60
+    def picture(self, style=""):
+        """The picture, with a style of its own where one is given."""
+        width, height = self.x + 60, self.bottom() + 20
         heads = "".join(f'<marker id="{kind}" viewBox="0 0 8 8" refX="6" refY="4" markerWidth="7" markerHeight="7" orient="auto">'
                         f'<path d="M0 0 8 4 0 8z" fill="{colour}"/></marker>' for kind, colour in COLOURS.items())
         rows = ""
@@ -147,10 +149,19 @@ class Page:
             name = "the link" if owner == "link" else f"daemon {owner}" if session is None else f"session {session}"
             kind = "inner" if session is not None else "outer"
             rows += f'<line x1="{LEFT - 20}" x2="{width:.0f}" y1="{y}" y2="{y}" class="lane {kind}"/><text x="12" y="{y + 4}" class="{kind}">{name}</text>'
+        return (f'<svg xmlns="http://www.w3.org/2000/svg" width="{width:.0f}" height="{height}" viewBox="0 0 {width:.0f} {height}">{style}'
+                f'<defs>{heads}</defs>{rows}{"".join(self.parts)}</svg>')
+
+    def page(self):
+        """The page."""
         key = " ".join(f'<span style="color:{colour}">{kind}</span>' for kind, colour in COLOURS.items())
         return (f'<!doctype html><html lang="en"><meta charset="utf-8"><title>mdnsd: what happened</title><style>{STYLE}</style>'
                 f"<p>Moments are in ms. Point at an arrow to read it. {key}</p>"
-                f'<div><svg width="{width:.0f}" height="{self.bottom() + 20}"><defs>{heads}</defs>{rows}{"".join(self.parts)}</svg></div></html>')
+                f"<div>{self.picture()}</div></html>")
+
+    def alone(self):
+        """The picture as a file of its own."""
+        return self.picture(f'<style>svg{{font:14px system-ui,sans-serif;fill:#1a202c}}{STYLE.partition(chr(10))[2]}</style><rect width="100%" height="100%" fill="#fff"/>')
 
 
 STYLE = """body{font:14px system-ui,sans-serif;margin:16px;color:#1a202c;background:#fff}div{overflow-x:auto}p span{margin-left:12px;font-weight:600}
@@ -159,6 +170,7 @@ text.outer{font-weight:600}text.inner{fill:#4a5568}.hit line{stroke-width:2}.hit
 
 
 def main(words):
+    is_alone, words = words[:1] == ["--svg"], words[words[:1] == ["--svg"]:]
     if len(words) > 1 or words[:1] in (["-h"], ["--help"]):
         print(__doc__, file=sys.stderr)
         return 2 if len(words) > 1 else 0
@@ -171,7 +183,7 @@ def main(words):
     page = Page(lanes_of(found))
     for entry in found:
         page.put(entry)
-    print(page.whole())
+    print(page.alone() if is_alone else page.page())
     return 0
 
 
