@@ -61,14 +61,13 @@ owed_alike own one other like =
     ∙ or_nsec_alike (filter (matches (record { name = other.name; kind = other.kind })) own.records) (filter (λ rr. folded_eq rr.owner other.name) own.names) one other like.kind
 
 -- what is owed once one more question was answered
-pub one_more : (of : Question → List Owed) (items questions : List Question) (i : ℕ) (question : Question) (owed : List Owed) → i < length items → question ≡ get_or items i question → items ≡ questions
-    → owed ≡ insert_all owed_eq [] (flat_map of (take i questions)) → insert_all owed_eq owed (of question) ≡ insert_all owed_eq [] (flat_map of (take (i + 1) questions))
-one_more of items questions i question owed within is same before =
+pub one_more : (of : Question → List Owed) (start : List Owed) (questions : List Question) (i : ℕ) (question : Question) (owed : List Owed) → i < length questions → question ≡ get_or questions i question
+    → owed ≡ insert_all owed_eq start (flat_map of (take i questions)) → insert_all owed_eq owed (of question) ≡ insert_all owed_eq start (flat_map of (take (i + 1) questions))
+one_more of start questions i question owed within is before =
     ap (λ (keys : List Owed). insert_all owed_eq keys (of question)) before
-    ∙ sym (all_more owed_eq [] (flat_map of (take i questions)) (of question))
-    ∙ ap (insert_all owed_eq []) (flat_map_more of [] (take i questions) question)
-    ∙ ap (λ (qs : List Question). insert_all owed_eq [] (flat_map of qs)) (ap (λ (qs : List Question). take i qs ++ question ∷ []) (sym same) ∙ ap (λ (q : Question). take i items ++ q ∷ []) is
-    ∙ sym (take_more items i question within) ∙ ap (λ (qs : List Question). take (i + 1) qs) same)
+    ∙ sym (all_more owed_eq start (flat_map of (take i questions)) (of question))
+    ∙ ap (insert_all owed_eq start) (flat_map_more of [] (take i questions) question)
+    ∙ ap (λ (qs : List Question). insert_all owed_eq start (flat_map of qs)) (ap (λ (q : Question). take i questions ++ q ∷ []) is ∙ sym (take_more questions i question within))
 
 module _ (own : Ours) (lasts : Rr → Option ℕ) (heard : Heard) (moment : ℕ) where
   -- questions with one key are owed the same

@@ -6,3 +6,4 @@ pub mod Once
 pub mod Matching
 pub mod Asked
 pub mod Listing
+pub mod Collecting

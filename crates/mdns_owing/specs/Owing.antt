@@ -57,10 +57,13 @@ released_of lasts moment queries query = filter (is_let_go lasts moment (flat_ma
 abbrev pub heard_in : Said → Heard
 heard_in said = record { from = said.from.now; message = said.message }
 
+-- of records that a question of a query is owed those that its own answers don't strike, with the ways
+abbrev pub unstruck_for : (Rr → Option ℕ) → Heard → ℕ → Question → List Rr → List Owed
+unstruck_for lasts heard moment question rrs = map (λ rr. (rr, way_for lasts heard moment question rr)) (filter (λ rr. not (is_struck heard.message.answers rr)) rrs)
+
 -- what a question of a query is owed and isn't struck by its own answers, with the ways
 abbrev pub owed_for : Ours → (Rr → Option ℕ) → Heard → ℕ → Question → List Owed
-owed_for own lasts heard moment question =
-    map (λ rr. (rr, way_for lasts heard moment question rr)) (filter (λ rr. not (is_struck heard.message.answers rr)) (owed_to own question))
+owed_for own lasts heard moment question = unstruck_for lasts heard moment question (owed_to own question)
 
 -- the queries after an event: what it leaves of those before it, and the one that comes with it
 abbrev pub followed_by : News → List Query → List Query → List Query

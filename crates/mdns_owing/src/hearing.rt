@@ -1,14 +1,16 @@
 // The query that is heard, with what it is owed.
 ghost use Rattle.std.specs.Prelude.{◌≡◌, ◌+◌, ◌∷◌, [], nat_lt, length, filter, IfOk, OnOk};
-ghost use Rattle.std.specs.List.{list_all};
+ghost use Rattle.std.specs.List.{list_all, flat_map};
 ghost use Rattle.std.specs.Option.{option_to_list};
+ghost use Rattle.dns_name.specs.Names.{folded_eq};
 ghost use Rattle.dns_record.specs.Records.{matches};
 ghost use Rattle.indexmap.specs.IndexSet.{insert_all};
-ghost use Rattle.mdns_claims.specs.Owned.{own_in};
+ghost use Rattle.mdns_asked.specs.Asked.{key_of, AreOf};
+ghost use Rattle.mdns_claims.specs.Owned.{of_name, own_in, nsecs_in};
 ghost use Rattle.mdns_history.specs.Debts.{owed_eq, is_unique, debt_wait};
 ghost use Rattle.mdns_happened.specs.Told.{told_by};
 ghost use Rattle.mdns_debts.specs.Following.{has_owed, owed_to, owed_by, query_from, way_for};
-ghost use Rattle.mdns_owing.specs.Owing.{heard_in, last_in, news_told, ours_in, owed_for, query_told};
+ghost use Rattle.mdns_owing.specs.Owing.{heard_in, last_in, news_told, ours_in, owed_for, unstruck_for, query_told};
 ghost use Rattle.mdns_owing.specs.Asked.{asked_as};
 
 use crate::listed::Listed;
@@ -17,8 +19,10 @@ use crate::query::Query;
 use crate::terms::Terms;
 use by_name::{KeyedState, Place};
 use dns_message::{Questions, Rrs};
+use dns_name::Name;
 use dns_record::{Question, Rr};
 use indexmap::IndexSet;
+use mdns_asked::Asked;
 use mdns_base::Dest;
 use mdns_claims::Claims;
 use mdns_happened::{Happened, Heard, When};
@@ -65,7 +69,7 @@ impl Ours<'_> {
         Ok(Some(Query::new(terms, heard.message.id, questions, owed)))
     }
 
-    // What a query is owed, each record and way once. A question that it asks again is passed over.
+    // What a query is owed, each record and way once.
     fn owed(&self, now: u64, heard: &Heard<'_>) -> Result<Vec<Owed>, AllocError>
         ensures { IfOk result (λ owed. owed.items ≡ owed_by (ours_in self.now.claims.now.contents.kept) (last_in self.now.lasts.now.lasts) (heard_in heard.now) now) }
     {
@@ -76,13 +80,47 @@ impl Ours<'_> {
             listed,
         };
         let mut owed = IndexSet::with_hasher(self.alloc, KeyedState::new(self.key));
+        self.put_all_owed(&mut owed, &hearing, heard.message.questions.as_slice())?;
+        in_turn(self.alloc, owed)
+    }
+
+    // Puts what questions are owed behind others, each record and way once.
+    fn put_all_owed(
+        &self,
+        owed: &mut OwedSet,
+        hearing: &Hearing<'_>,
+        questions: &[Question],
+    ) -> Result<(), AllocError>
+        requires { hearing.now.listed ≡ hearing.now.heard.now.message.answers }
+        ensures { OnOk result (owed.new.keys ≡ insert_all owed_eq owed.old.keys (flat_map (owed_for (ours_in self.now.claims.now.contents.kept) (last_in self.now.lasts.now.lasts) (heard_in hearing.now.heard.now) hearing.now.moment) questions.now)) }
+    {
+        if questions.len() > 1 {
+            return self.put_several_owed(owed, hearing, questions);
+        }
+        for question in questions {
+            self.put_owed(owed, hearing, question)?;
+        }
+        Ok(())
+    }
+
+    // The same of several questions, whose own records are collected first. A question that is asked again is passed over.
+    fn put_several_owed(
+        &self,
+        owed: &mut OwedSet,
+        hearing: &Hearing<'_>,
+        questions: &[Question],
+    ) -> Result<(), AllocError>
+        requires { hearing.now.listed ≡ hearing.now.heard.now.message.answers }
+        ensures { OnOk result (owed.new.keys ≡ insert_all owed_eq owed.old.keys (flat_map (owed_for (ours_in self.now.claims.now.contents.kept) (last_in self.now.lasts.now.lasts) (heard_in hearing.now.heard.now) hearing.now.moment) questions.now)) }
+    {
+        let own = self.own_for_all(questions)?;
         let mut asked = IndexSet::with_hasher(self.alloc, KeyedState::new(self.key));
-        for question in heard.message.questions.as_slice() {
+        for question in questions {
             if asked.insert(asked_as(question))? {
-                self.put_owed(&mut owed, &hearing, question)?;
+                self.put_found(owed, hearing, question, own.records(question))?;
             }
         }
-        in_turn(self.alloc, owed)
+        Ok(())
     }
 
     // Puts what a question is owed behind others, each record and way once.
@@ -95,9 +133,64 @@ impl Ours<'_> {
         requires { hearing.now.listed ≡ hearing.now.heard.now.message.answers }
         ensures { OnOk result (owed.new.keys ≡ insert_all owed_eq owed.old.keys (owed_for (ours_in self.now.claims.now.contents.kept) (last_in self.now.lasts.now.lasts) (heard_in hearing.now.heard.now) hearing.now.moment question.now)) }
     {
-        for rr in self.owed_to(question)?.into_vec() {
+        let rrs = self.owed_to(question)?;
+        self.put_each(owed, hearing, question, rrs)
+    }
+
+    // The same where the own records that match the question were collected.
+    fn put_found(
+        &self,
+        owed: &mut OwedSet,
+        hearing: &Hearing<'_>,
+        question: &Question,
+        own: &[Rr],
+    ) -> Result<(), AllocError>
+        requires listed { hearing.now.listed ≡ hearing.now.heard.now.message.answers }
+        requires own { own.now ≡ filter (matches (key_of question.now)) (own_in self.now.claims.now.contents.kept) }
+        ensures { OnOk result (owed.new.keys ≡ insert_all owed_eq owed.old.keys (owed_for (ours_in self.now.claims.now.contents.kept) (last_in self.now.lasts.now.lasts) (heard_in hearing.now.heard.now) hearing.now.moment question.now)) }
+    {
+        if question.kind == ANY || !own.is_empty() {
+            return self.put_copies(owed, hearing, question, own);
+        }
+        let nsecs = self.nsecs_of(&question.name)?;
+        self.put_each(owed, hearing, question, nsecs)
+    }
+
+    // Puts those of a question's records behind others that the query doesn't list as known.
+    fn put_each(
+        &self,
+        owed: &mut OwedSet,
+        hearing: &Hearing<'_>,
+        question: &Question,
+        rrs: Rrs,
+    ) -> Result<(), AllocError>
+        requires { hearing.now.listed ≡ hearing.now.heard.now.message.answers }
+        ensures { OnOk result (owed.new.keys ≡ insert_all owed_eq owed.old.keys (unstruck_for (last_in self.now.lasts.now.lasts) (heard_in hearing.now.heard.now) hearing.now.moment question.now rrs)) }
+    {
+        for rr in rrs.into_vec() {
             if !hearing.listed.silence(&rr) {
                 let to = self.way(hearing, question, &rr);
+                owed.insert(Owed { rr, to })?;
+            }
+        }
+        Ok(())
+    }
+
+    // The same with copies of the records.
+    fn put_copies(
+        &self,
+        owed: &mut OwedSet,
+        hearing: &Hearing<'_>,
+        question: &Question,
+        rrs: &[Rr],
+    ) -> Result<(), AllocError>
+        requires { hearing.now.listed ≡ hearing.now.heard.now.message.answers }
+        ensures { OnOk result (owed.new.keys ≡ insert_all owed_eq owed.old.keys (unstruck_for (last_in self.now.lasts.now.lasts) (heard_in hearing.now.heard.now) hearing.now.moment question.now rrs.now)) }
+    {
+        for rr in rrs {
+            if !hearing.listed.silence(rr) {
+                let to = self.way(hearing, question, rr);
+                let rr = rr.copy()?;
                 owed.insert(Owed { rr, to })?;
             }
         }
@@ -112,20 +205,48 @@ impl Ours<'_> {
         if question.kind == ANY || !own.as_slice().is_empty() {
             return Ok(own);
         }
-        let mut nsecs = Rrs::new(self.alloc);
-        self.claims.put_nsecs(&mut nsecs, &question.name)?;
-        Ok(nsecs)
+        self.nsecs_of(&question.name)
     }
 
     // The own records that a question asks for.
     fn own_for(&self, question: &Question) -> Result<Rrs, AllocError>
-        ensures { IfOk result (λ own. own ≡ filter (matches (record { name = question.now.name; kind = question.now.kind })) (own_in self.now.claims.now.contents.kept)) }
+        ensures { IfOk result (λ own. own ≡ filter (matches (key_of question.now)) (own_in self.now.claims.now.contents.kept)) }
     {
-        let mut named = Rrs::new(self.alloc);
-        self.claims.put_own(&mut named, &question.name)?;
-        let mut own = named.into_vec();
+        let mut own = self.own_of(&question.name)?.into_vec();
         own.retain(|rr| question.kind == ANY || question.kind == rr.rdata.kind());
         Ok(Rrs::from_vec(own))
+    }
+
+    // The own records that several questions ask for. Those of each name are collected once, however often it is asked for.
+    fn own_for_all(&self, questions: &[Question]) -> Result<Asked, AllocError>
+        ensures { IfOk result (λ own. AreOf questions.now (own_in self.now.claims.now.contents.kept) own) }
+    {
+        let mut own = Asked::new(self.alloc, self.key, questions)?;
+        let mut names = IndexSet::with_hasher(self.alloc, KeyedState::new(self.key));
+        for question in questions {
+            if names.insert(Place::new(&question.name, 0))? {
+                own.put_all(self.own_of(&question.name)?)?;
+            }
+        }
+        Ok(own)
+    }
+
+    // The own records of a name.
+    fn own_of(&self, name: &Name) -> Result<Rrs, AllocError>
+        ensures { IfOk result (λ own. own ≡ of_name name.now (own_in self.now.claims.now.contents.kept)) }
+    {
+        let mut own = Rrs::new(self.alloc);
+        self.claims.put_own(&mut own, name)?;
+        Ok(own)
+    }
+
+    // The NSEC record of a name, if it is sure.
+    fn nsecs_of(&self, name: &Name) -> Result<Rrs, AllocError>
+        ensures { IfOk result (λ nsecs. nsecs ≡ filter (λ rr. folded_eq rr.owner name.now) (nsecs_in self.now.claims.now.contents.kept)) }
+    {
+        let mut nsecs = Rrs::new(self.alloc);
+        self.claims.put_nsecs(&mut nsecs, name)?;
+        Ok(nsecs)
     }
 
     // Where a record goes that a question is owed: to all, but to the asker where the question asks for that and the record was multicast
