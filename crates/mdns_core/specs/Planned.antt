@@ -17,6 +17,16 @@ use Rattle.sd_sessions.specs.Planned as sessions
 use Rattle.sd_sessions.specs.Answered.{answered}
 use Rattle.sd_sessions.specs.Settling.{cuts_of, gifts_of}
 use Rattle.mdns_core.specs.declared.plan.Plan.{Plan}
+use Rattle.mdns_core.specs.declared.plan.Led.{Led}
+use Rattle.mdns_core.specs.declared.plan.Traffic.{Traffic}
+use Rattle.mdns_claims.specs.declared.plan.Plan.{Plan as ClaimsPlan}
+use Rattle.mdns_question.specs.declared.tracked.Tracked.{Tracked}
+use Rattle.mdns_question.specs.Refreshing.{AreTimed}
+use Rattle.mdns_cache.specs.Lifetimes.{AllLive}
+use Rattle.mdns_happened.specs.declared.walk.Walk.{Walk}
+use Rattle.mdns_happened.specs.Walks.{AreWalks}
+use Rattle.mdns_asking.specs.Walked as for_asking
+use Rattle.sd_sessions.specs.Sessions.{Session}
 use Rattle.mdns_step.specs.State.{State}
 use Rattle.mdns_history.specs.declared.entry.Entry.{Entry}
 use Rattle.mdns_history.specs.declared.entry.Sent.{Sent}
@@ -33,6 +43,27 @@ use Rattle.mdns_step.specs.Enough.{AreEnough, claims_told}
 -- what is told of an event by its plan
 abbrev pub told_in : Plan → Told
 told_in plan = told_by plan.happened
+
+-- What an event asks and sends: `queried` are the messages that go before responses, whatever is held before and after, so far as these are the walks.
+pub record IsTraffic (told : Told) (now : ℕ) (sessions : List Session) (questions : List Tracked) (walks : List Walk) (probes responses : List Sent) (traffic : Traffic) : Type 0 where
+  pub queried : List Sent
+  pub asking : (held later : List Held) → AreTimed held questions → AreWalks held later walks → AllLive now later → for_asking.AreEnough told now questions held later walks
+      → asking.IsPlan told now sessions questions later walks probes queried traffic.asking
+  pub sent : traffic.sent ≡ queried ++ responses
+  pub multicasts : (entry : Entry) → entry.sent ≡ traffic.sent → multicasts_in entry ≡ traffic.multicasts
+
+-- What an event leads to behind what is kept, where `later` is what is held after it, and these are its walks and what is planned for claims.
+pub record IsLed (state : State) (later : List Held) (now word : ℕ) (told : Told) (claimed : ClaimsPlan) (walks : List Walk) (led : Led) : Type 0 where
+  pub queried : List Sent
+  pub asking : asking.IsPlan told now state.sessions state.questions later walks (probes_told told.ticks state.claims.kept now) queried led.traffic.asking
+  pub gaps : HaveGaps state.questions
+  pub sessions : sessions.IsPlan told (answered (viewed state.claims state.held)) (answered (viewed (claims_told state.claims told now word) later)) state.sessions led.sessions
+  pub marks : led.marks ≡ told.refusal ++ claimed.marks ++ map mark_of led.traffic.asking.asked.items ++ announced_told told now state.claims.kept ++ cuts_of led.sessions.changes.items
+  pub sent : led.traffic.sent ≡ queried ++ responses_told told now state.multicasts state.queries state.claims.kept (claims_told state.claims told now word).kept
+  pub multicasts : (entry : Entry) → entry.sent ≡ led.traffic.sent → multicasts_in entry ≡ led.traffic.multicasts
+  pub come : option_to_list led.traffic.come ≡ query_told state.claims.kept state.multicasts told now word
+  pub keeps : IsTrue led.keeps_own → (rr : Rr) → is_ours state.claims.kept rr ≡ true → is_ours (claims_told state.claims told now word).kept rr ≡ true
+  pub given : led.given ≡ gifts_of led.sessions.changes.items
 
 -- A plan is of an event behind what is kept, where `later` is what is held after it; `queried` are the messages that go before responses.
 pub record IsPlanFor (state : State) (later : List Held) (now word : ℕ) (event : Event) (plan : Plan) : Type 0 where

@@ -8,3 +8,4 @@ mod plan;
 mod reading;
 
 pub use daemon::Daemon;
+pub use mdns_step::steps_follow_the_history;

@@ -9,18 +9,21 @@ ghost use Rattle.mdns_question.specs.Refreshing.{AreTimed};
 ghost use Rattle.mdns_question.specs.Standing.{mark_of};
 ghost use Rattle.sd_sessions.specs.Settling.{cuts_of};
 ghost use Rattle.sd_sessions.specs.Kept.{IsWellFormedCall};
-ghost use Rattle.mdns_claims.specs.Behind.{occasion_of};
+ghost use Rattle.sd_sessions.specs.Planned.{IsTold};
+ghost use Rattle.mdns_claims.specs.Behind.{occasion_of, probes_told};
+ghost use Rattle.mdns_asking.specs.Kept.{HaveGaps};
+ghost use Rattle.mdns_asking.specs.Walked as for_asking;
 ghost use Rattle.mdns_claims.specs.Later.{groups_behind};
 ghost use Rattle.mdns_claims.specs.Owned.{own_in};
 ghost use Rattle.mdns_claims.specs.Planned as claiming;
 ghost use Rattle.mdns_step.specs.Enough.{AreEnough, claims_told, with_own};
-ghost use Rattle.mdns_core.specs.Planned.{IsPlan};
+ghost use Rattle.mdns_core.specs.Planned.{IsPlan, IsTraffic, IsLed};
 ghost use Rattle.mdns_core.specs.Kept.{state_of};
 ghost use Rattle.std.specs.Option.{option_to_list};
 ghost use Rattle.mdns_history.specs.declared.entry.Entry.{Entry};
 ghost use Rattle.mdns_history.specs.Debts.{multicasts_in};
 ghost use Rattle.mdns_owing.specs.Owing.{query_told};
-ghost use Rattle.mdns_responding.specs.Told.{announced_told};
+ghost use Rattle.mdns_responding.specs.Told.{announced_told, responses_told};
 
 use crate::parts::Parts;
 use crate::reading::{Reading, read_event};
@@ -57,6 +60,26 @@ pub struct Plan<'a> {
     pub given: Gifts,
 }
 
+/// What an event asks and sends, the records that are multicast with that, and the query that comes with it, if it is owed something.
+#[derive(Drop)]
+pub struct Traffic {
+    pub asking: AskingPlan,
+    pub sent: Sends,
+    pub multicasts: Multicasts,
+    pub come: Option<Query>,
+}
+
+/// What an event leads to beside what is held and claimed: what it asks and sends, what it changes in sessions, the marks of the entry, whether all
+/// that is the daemon's to send surely stays so, and the gifts.
+#[derive(Drop)]
+pub struct Led {
+    pub traffic: Traffic,
+    pub sessions: SessionsPlan,
+    pub marks: Marks,
+    pub keeps_own: bool,
+    pub given: Gifts,
+}
+
 /// What a daemon keeps before an event, in parts, and its last moment. The key is its own.
 #[derive(Drop)]
 pub struct Kept<'a> {
@@ -81,44 +104,108 @@ pub fn make_plan<'a, L: Ledger>(
     let reading = read_event(kept, when, event)?;
     let claims = kept.parts.claims.plan(when, &reading.happened)?;
     let walks = walk(kept, when, &reading, &claims, steps)?;
+    let led = led_to(kept, when, &reading, &claims, &walks)?;
     let Reading { happened, heard } = reading;
-    let behind = kept.parts.claims.behind(when, &happened, &claims);
-    let responder = Responder {
-        alloc: kept.alloc,
-        lasts: &kept.parts.lasts,
-        owing: &kept.parts.owing,
-        behind: &behind,
-    };
-    let keeps_own = behind.keeps_own();
-    let mut sent = kept.parts.claims.probes(when, &happened)?;
-    let asking = kept
-        .parts
-        .asking
-        .plan(when, &happened, &walks, &kept.parts.sessions, &mut sent)?;
-    responder.put_responses(&mut sent)?;
-    let multicasts = multicasts_of(kept.alloc, &sent)?;
-    let come = come(kept, when, &happened)?;
-    let registered = behind.registered(kept.alloc)?;
-    let around = Around {
-        walks: &walks,
-        registered: &registered,
-    };
-    let sessions = kept.parts.sessions.plan(&happened, &around)?;
-    let marks = make_marks(&responder, &claims, &asking, &sessions)?;
-    let given = sessions.gifts(kept.alloc)?;
+    let Traffic {
+        asking,
+        sent,
+        multicasts,
+        come,
+    } = led.traffic;
     Ok(Plan {
         happened,
         heard,
         claims,
         walks,
         asking,
-        sessions,
-        marks,
+        sessions: led.sessions,
+        marks: led.marks,
         sent,
         multicasts,
         come,
+        keeps_own: led.keeps_own,
+        given: led.given,
+    })
+}
+
+// What an event that was read leads to, where these are its walks and this is planned for claims. Refused only for want of memory.
+fn led_to(
+    kept: &Kept<'_>,
+    when: When,
+    reading: &Reading<'_>,
+    claims: &ClaimsPlan,
+    walks: &[Walk],
+) -> Result<Led, AllocError>
+    requires past { AllHeard when.moment kept.now.parts.now.records.held }
+    requires timed { AreTimed kept.now.parts.now.records.held kept.now.parts.now.asking.questions }
+    requires told { IsTold (told_by reading.now.happened) kept.now.parts.now.sessions }
+    requires call { IsWellFormedCall (told_by reading.now.happened).call }
+    requires planned { claiming.IsPlan kept.now.parts.now.claims.contents (occasion_of kept.now.parts.now.claims.contents (told_by reading.now.happened) when.moment when.word) claims.now }
+    requires walked { AreEnough (told_by reading.now.happened) when.moment kept.now.parts.now.records.held
+        (held_after when.moment when.word reading.now.heard kept.now.parts.now.records.held)
+        (own_in kept.now.parts.now.claims.contents.kept) (own_in (claims_told kept.now.parts.now.claims.contents (told_by reading.now.happened) when.moment when.word).kept)
+        kept.now.parts.now.asking.questions kept.now.parts.now.sessions.sessions walks.now }
+    ensures { IfOk result (λ led. IsLed (state_of kept.now.last kept.now.parts.now)
+        (held_after when.moment when.word reading.now.heard kept.now.parts.now.records.held) when.moment when.word (told_by reading.now.happened) claims.now walks.now led) }
+{
+    let parts = kept.parts;
+    let happened = &reading.happened;
+    let behind = parts.claims.behind(when, happened, claims);
+    let responder = Responder {
+        alloc: kept.alloc,
+        lasts: &parts.lasts,
+        owing: &parts.owing,
+        behind: &behind,
+    };
+    let traffic = make_traffic(kept, &responder, when, happened, walks)?;
+    let registered = behind.registered(kept.alloc)?;
+    let around = Around {
+        walks,
+        registered: &registered,
+    };
+    let sessions = parts.sessions.plan(happened, &around)?;
+    let marks = make_marks(&responder, claims, &traffic.asking, &sessions)?;
+    let given = sessions.gifts(kept.alloc)?;
+    let keeps_own = behind.keeps_own();
+    Ok(Led {
+        traffic,
+        sessions,
+        marks,
         keeps_own,
         given,
+    })
+}
+
+// What an event asks and sends, and the query that comes with it. Refused only for want of memory.
+fn make_traffic(
+    kept: &Kept<'_>,
+    responder: &Responder<'_>,
+    when: When,
+    happened: &Happened<'_>,
+    walks: &[Walk],
+) -> Result<Traffic, AllocError>
+    requires call { IsWellFormedCall (told_by happened.now).call }
+    requires heard { for_asking.AreHeard when.moment walks.now }
+    ensures is { IfOk result (λ made. IsTraffic (told_by happened.now) when.moment kept.now.parts.now.sessions.sessions kept.now.parts.now.asking.questions walks.now
+        (probes_told (told_by happened.now).ticks kept.now.parts.now.claims.contents.kept when.moment)
+        (responses_told (told_by responder.now.behind.now.means.happened.now) responder.now.behind.now.means.moment responder.now.lasts.now.lasts
+        responder.now.owing.now.queries responder.now.behind.now.groups.now (groups_behind responder.now.behind.now)) made) }
+    ensures come { IfOk result (λ made. option_to_list made.come ≡ query_told kept.now.parts.now.claims.contents.kept kept.now.parts.now.lasts.lasts (told_by happened.now) when.moment when.word) }
+    ensures gaps { IfOk result (λ _. HaveGaps kept.now.parts.now.asking.questions) }
+{
+    let parts = kept.parts;
+    let mut sent = parts.claims.probes(when, happened)?;
+    let asking = parts
+        .asking
+        .plan(when, happened, walks, &parts.sessions, &mut sent)?;
+    responder.put_responses(&mut sent)?;
+    let multicasts = multicasts_of(kept.alloc, &sent)?;
+    let come = come(kept, when, happened)?;
+    Ok(Traffic {
+        asking,
+        sent,
+        multicasts,
+        come,
     })
 }
 

@@ -6,9 +6,9 @@ use Rattle.mdns_history.specs.declared.config.Config.{Config}
 use Rattle.mdns_history.specs.declared.entry.Entry.{Entry}
 use Rattle.mdns_history.specs.History.{config_of}
 use Rattle.mdns_history.specs.Due.{IsNextDue, NextDue, is_idle}
-use Rattle.mdns_step.specs.InForce.{in_force}
-use Rattle.mdns_step.specs.State.{due_of}
-use Rattle.mdns_step.specs.Laws.{StatesAreDue}
+use Rattle.mdns_core.specs.InForce.{in_force}
+use Rattle.mdns_core.specs.State.{due_of}
+use Rattle.mdns_core.specs.Laws.{StatesAreDue}
 use Rattle.mdns_hub.specs.declared.hub.Hub.{Hub}
 use Rattle.mdns_hub.specs.declared.daemons.Booted.{Booted}
 use Rattle.mdns_hub.specs.Played.{Played, history_of, is_booted}

@@ -10,7 +10,7 @@ use Rattle.mdns_history.specs.declared.event.Event.TheVariants as event
 use Rattle.mdns_history.specs.declared.entry.Entry.{Entry}
 use Rattle.mdns_history.specs.EntryText.{entry_text}
 use Rattle.mdns_history.specs.Fitting.{is_boot, boot_entry, last_moment}
-use Rattle.mdns_step.specs.State.{Stands}
+use Rattle.mdns_core.specs.State.{Stands}
 use Rattle.mdns_hub.specs.declared.hub.Hub.{Hub}
 use Rattle.mdns_hub.specs.declared.daemons.Booted.{Booted}
 use Rattle.mdns_hub.specs.Links.{LinkState, with_packets}

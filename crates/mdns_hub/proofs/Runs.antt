@@ -3,7 +3,7 @@ use Rattle.std.proofs.Common.{◌≡◌, ◌⊎◌, inl, inr, ℕ, zero, suc, �
 use Rattle.std.specs.Io.KnownBytes.{Appends}
 use Rattle.std.proofs.KnownBytes.{Appends-trans}
 use Rattle.mdns_history.specs.declared.event.Event.TheVariants as event
-use Rattle.mdns_step.specs.Laws.{StatesAreDue}
+use Rattle.mdns_core.specs.Laws.{StatesAreDue}
 use Rattle.mdns_hub.specs.declared.delivery.Delivery.{Delivery}
 use Rattle.mdns_hub.specs.declared.hub.Hub.{Hub}
 use Rattle.mdns_hub.specs.Links.{LinkState}

@@ -9,8 +9,8 @@ use Rattle.mdns_history.specs.declared.event.Event.TheVariants as event
 use Rattle.mdns_history.specs.declared.entry.Entry.{Entry}
 use Rattle.mdns_history.specs.History.{config_of, booted}
 use Rattle.mdns_history.specs.Fitting.{Fits, boot_entry, is_boot}
-use Rattle.mdns_step.specs.InForce.{in_force}
-use Rattle.mdns_step.specs.State.{State, Stands}
+use Rattle.mdns_core.specs.InForce.{in_force}
+use Rattle.mdns_core.specs.State.{State, Stands}
 use Rattle.mdns_hub.specs.declared.daemons.Booted.{Booted}
 use Rattle.mdns_hub.specs.Played.{Told, history_of, config_in, is_booted, address_in}
 use Rattle.mdns_hub.specs.Slots.{slot_at, is_kept, address_at, tally_at}

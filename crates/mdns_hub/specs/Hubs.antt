@@ -5,7 +5,7 @@ use Rattle.std.specs.Io.KnownBytes.{Appends}
 use Rattle.mdns_history.specs.declared.entry.Entry.{Entry}
 use Rattle.mdns_history.specs.History.{config_of}
 use Rattle.mdns_script.specs.declared.command.Command.{Command}
-use Rattle.mdns_step.specs.State.{Stands}
+use Rattle.mdns_core.specs.State.{Stands}
 use Rattle.mdns_hub.specs.declared.hub.Hub.{Hub}
 use Rattle.mdns_hub.specs.declared.link.Link.{Link}
 use Rattle.mdns_hub.specs.declared.daemons.Booted.{Booted}

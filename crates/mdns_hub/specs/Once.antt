@@ -2,7 +2,7 @@
 use Rattle.std.specs.Prelude.{◌≡◌, ℕ, List, [], ◌∷◌}
 use Rattle.mdns_history.specs.declared.entry.Entry.{Entry}
 use Rattle.mdns_history.specs.Fitting.{IsLegal}
-use Rattle.mdns_step.specs.InForce.{in_force}
+use Rattle.mdns_core.specs.InForce.{in_force}
 use Rattle.mdns_script.specs.declared.command.Command.{Command}
 use Rattle.mdns_hub.specs.Played.{Played, start, history_of}
 use Rattle.mdns_hub.specs.Plays.{Plays}

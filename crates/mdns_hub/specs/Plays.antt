@@ -8,7 +8,7 @@ use Rattle.mdns_history.specs.declared.event.Event.TheVariants as event
 use Rattle.mdns_history.specs.declared.entry.Entry.{Entry}
 use Rattle.mdns_history.specs.Fitting.{Fits, boot_entry, is_boot, is_host_label, last_moment}
 use Rattle.mdns_history.specs.Due.{IsNextDue}
-use Rattle.mdns_step.specs.InForce.{in_force}
+use Rattle.mdns_core.specs.InForce.{in_force}
 use Rattle.mdns_script.specs.declared.command.Command.{Command}
 use Rattle.mdns_script.specs.declared.command.Command.TheVariants.{Pass, Daemon, At, Word, Seed, Delay, Lose, Part, Meet, Attach, Event as Happening}
 use Rattle.mdns_hub.specs.declared.delivery.Delivery.{Delivery}

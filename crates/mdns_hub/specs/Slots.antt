@@ -1,7 +1,7 @@
 -- The daemons that a hub keeps: one in the slot of its number, and nothing in the others.
 use Rattle.std.specs.Prelude.{◌≡◌, ℕ, ◌<◌, ◌≤◌, max, Bool, List, Option, Some, None, option_and_then, slice_get}
 use Rattle.std.specs.Option.{is_some, option_map, option_map_or}
-use Rattle.mdns_step.specs.State.{due_of}
+use Rattle.mdns_core.specs.State.{due_of}
 use Rattle.mdns_hub.specs.declared.daemons.Booted.{Booted}
 use Rattle.mdns_hub.specs.declared.tally.Tally.{Tally}
 use Rattle.mdns_hub.specs.Tallies.{no_tally}

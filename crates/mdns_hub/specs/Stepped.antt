@@ -4,8 +4,8 @@ use Rattle.mdns_history.specs.declared.event.Event.{Event}
 use Rattle.mdns_history.specs.declared.event.Event.TheVariants.{Tick}
 use Rattle.mdns_history.specs.declared.entry.Entry.{Entry}
 use Rattle.mdns_history.specs.Fitting.{Fits}
-use Rattle.mdns_step.specs.InForce.{in_force}
-use Rattle.mdns_step.specs.State.{Stands, due_of}
+use Rattle.mdns_core.specs.InForce.{in_force}
+use Rattle.mdns_core.specs.State.{Stands, due_of}
 use Rattle.mdns_hub.specs.declared.daemons.Booted.{Booted}
 use Rattle.mdns_hub.specs.Slots.{slot_at}
 use Rattle.mdns_hub.specs.Tallies.{with_gifts}

@@ -2,8 +2,8 @@
 ghost use Rattle.std.specs.Prelude.{◌≡◌, ◌<◌, ◌≤◌, ◌^◌, [], ◌∷◌, List, false, IsTrue, IfOk, IfSome, OnOk, OnErr};
 ghost use Rattle.mdns_history.specs.declared.entry.Entry.{Entry};
 ghost use Rattle.mdns_history.specs.Fitting.{Fits, boot_entry, is_boot, is_host_label};
-ghost use Rattle.mdns_step.specs.InForce.{in_force};
-ghost use Rattle.mdns_step.specs.State.{Stands, due_of};
+ghost use Rattle.mdns_core.specs.InForce.{in_force};
+ghost use Rattle.mdns_core.specs.State.{Stands, due_of};
 
 use mdns_cache::Steps;
 use mdns_core::Daemon;
@@ -19,7 +19,7 @@ pub(crate) struct Standing {
 }
 
 impl Model for Standing {
-    ghost use Rattle.mdns_step.specs.State.{State};
+    ghost use Rattle.mdns_core.specs.State.{State};
     ghost use Rattle.mdns_hub.specs.Standing.{IsStanding};
 
     ghost Value = { State };

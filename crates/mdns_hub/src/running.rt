@@ -12,8 +12,8 @@ use crate::HubError;
 use crate::hub::Hub;
 use crate::steps::put_entry;
 use mdns_base::Sink;
+use mdns_core::steps_follow_the_history;
 use mdns_history::{Entry, Event};
-use mdns_step::steps_follow_the_history;
 
 impl Hub {
     ghost use Rattle.mdns_hub.specs.Plays.{AreSomeDone, RunsTo};

@@ -3,9 +3,9 @@ ghost use Rattle.std.specs.Prelude.{ℕ, ◌≡◌, ◌<◌, ◌≤◌, ◌^◌,
 ghost use Rattle.std.specs.Io.KnownBytes.{Appends};
 ghost use Rattle.mdns_history.specs.declared.entry.Entry.{Entry};
 ghost use Rattle.mdns_history.specs.EntryText.{entry_text};
-ghost use Rattle.mdns_step.specs.InForce.{in_force};
+ghost use Rattle.mdns_core.specs.InForce.{in_force};
 ghost use Rattle.mdns_history.specs.Fitting.{Fits, is_boot};
-ghost use Rattle.mdns_step.specs.State.{Stands, due_of};
+ghost use Rattle.mdns_core.specs.State.{Stands, due_of};
 ghost use Rattle.mdns_hub.specs.Output.{HasWriteCause};
 
 use crate::HubError;

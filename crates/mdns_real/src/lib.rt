@@ -14,6 +14,3 @@ pub use place::{RealPlace, Trouble};
 pub use relay::{RelayAir, RelayEar};
 pub use socket::open_socket;
 pub use threads::RealSpawner;
-
-#[cfg(test)]
-mod tests;

@@ -8,7 +8,7 @@ use Rattle.mdns_history.specs.declared.entry.Entry.{Entry}
 use Rattle.mdns_history.specs.History as history
 use Rattle.mdns_history.specs.History.{Turn, entries, latest}
 use Rattle.mdns_history.specs.Sessions.{opened, detached, is_number, attaching, is_attached, attached_sessions}
-use Rattle.mdns_step.specs.InForce.{in_force}
+use Rattle.mdns_core.specs.InForce.{in_force}
 use Rattle.mdns_serve.specs.Turns.{owed, is_owed, drop_number}
 use Rattle.mdns_serve.specs.Room.{OwedEndsHaveRoom}
 use Rattle.mdns_serve.proofs.OnceEach.{has, IsOnce, has-filter, IsOnce-filter, IsOnce-append, no_longer}

@@ -5,8 +5,8 @@ use Rattle.mdns_history.specs.History as history
 use Rattle.mdns_history.specs.History.{Turn, entries}
 use Rattle.mdns_history.specs.Fitting.{Fits, AreLegal, begins_entered}
 use Rattle.mdns_history.specs.Sessions.{detached}
-use Rattle.mdns_step.specs.InForce.{in_force}
-use Rattle.mdns_step.specs.State.{Stands}
+use Rattle.mdns_core.specs.InForce.{in_force}
+use Rattle.mdns_core.specs.State.{Stands}
 use Rattle.mdns_serve.specs.declared.happening.Happening.{Happening}
 use Rattle.mdns_serve.specs.declared.happening.Happening.TheVariants.{Entered, Missed}
 use Rattle.mdns_serve.specs.declared.shared.Shared.{Shared}

@@ -1,3 +1,5 @@
+-- What the shared daemon stands for.
+pub use Rattle.mdns_core.specs.State
 pub mod Turns
 pub mod Shares
 pub mod Packets

@@ -4,7 +4,7 @@ use Rattle.std.specs.List.{list_any}
 use Rattle.mdns_history.specs.History.{Turn, entries}
 use Rattle.mdns_history.specs.Fitting.{AreLegal}
 use Rattle.mdns_history.specs.Sessions.{is_attached}
-use Rattle.mdns_step.specs.InForce.{in_force}
+use Rattle.mdns_core.specs.InForce.{in_force}
 use Rattle.mdns_serve.specs.Turns.{owed}
 
 -- In legal turns fewer than 64 ends are owed, where that of an attached session isn't.

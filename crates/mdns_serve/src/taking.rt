@@ -2,7 +2,7 @@
 ghost use Rattle.std.specs.Arc.{arc_value};
 ghost use Rattle.std.specs.Prelude.{◌≡◌, ◌≤◌, ◌++◌, ◌∷◌, [], false};
 ghost use Rattle.mdns_history.specs.Fitting.{is_boot, AreLegal};
-ghost use Rattle.mdns_step.specs.InForce.{in_force};
+ghost use Rattle.mdns_core.specs.InForce.{in_force};
 ghost use Rattle.mdns_turn.specs.History.{turns, StartsWith};
 ghost use Rattle.mdns_turn.specs.Models.{IsSeatOf, IsSameSeat, HasItsTurns};
 ghost use Rattle.mdns_serve.specs.Turns.{turns_of};

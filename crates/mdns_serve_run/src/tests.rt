@@ -7,10 +7,11 @@ mod serving;
 use bytes::Bytes;
 use dns_name::Name;
 use mdns_base::Host;
-use mdns_core::Daemon;
 use mdns_history::{Config, Event};
 use mdns_outside::{Clock, Incoming, MemAir, MemClock, MemEar, MemWords};
-use mdns_serve::{Bell, Common, Happening, HearEnd, Kit, Shared, Step, hear_loop, tick_loop};
+use mdns_serve::{
+    Bell, Common, Daemon, Happening, HearEnd, Kit, Shared, Step, hear_loop, tick_loop,
+};
 use mdns_turn::{Seat, Turn};
 use sd_call::Request;
 use std::alloc::{AllocError, Global};

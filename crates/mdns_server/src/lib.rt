@@ -1,7 +1,10 @@
-//! A server: it accepts connections, and gives each two halves in threads that share one daemon by turns.
+//! A server: it boots the daemon that the words of `mdnsd serve` ask for, accepts connections, and gives each two halves in threads that
+//! share this daemon by turns.
 #![tactic(auto)]
 
 mod accepting;
+mod booting;
+mod by_words;
 mod chair;
 mod closing;
 mod making;
@@ -11,5 +14,9 @@ mod slot;
 mod starting;
 mod status;
 mod stop;
+mod wrong;
 
+pub use booting::boot_plan;
+pub use by_words::serve_by_words;
 pub use serving::serve;
+pub use wrong::say_wrong;

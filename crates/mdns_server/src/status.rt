@@ -3,6 +3,9 @@
 /// All is done: the door gave its last connection, and all sessions ended.
 pub(crate) const DONE: u8 = 0;
 
+/// The words aren't as the command wants them.
+pub(crate) const USAGE: u8 = 2;
+
 /// The output failed.
 pub(crate) const WRITE_FAULT: u8 = 5;
 

@@ -5,7 +5,7 @@ use Rattle.std.specs.Prelude.{codes, take}
 use Rattle.std.specs.Str.{bytes_eq}
 use Rattle.std.specs.Io.KnownBytes.{Appends}
 use Rattle.mdns_base.specs.Digits.{◌>>=◌}
-use Rattle.mdnsd_serve.specs.Serving.{plan_of}
+use Rattle.mdns_server.specs.Serving.{plan_of}
 use Rattle.std.proofs.Common.{◌≡◌, ◌≢◌, ℕ, length, List, [], ◌∷◌, ◌++◌, Option, None, Some, Bool, true, false, if◌then◌else◌, Result, Ok, Err, String, Global, map, drop, refl, sym, ap, ◌∙◌, arith}
 use Rattle.std.specs.String.{string_bytes}
 use Rattle.std.specs.Vec.Iter.{into_iter_items, into_iter_len, into_iter_steps}

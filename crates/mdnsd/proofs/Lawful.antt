@@ -1,7 +1,7 @@
 -- What the laws of histories say of a legal one, at each of its moments.
 use Rattle.std.proofs.Common.{List, [], ◌∷◌, ap, sym, ◌∙◌}
 use Rattle.mdns_history.specs.declared.entry.Entry.{Entry}
-use Rattle.mdns_step.specs.InForce.{in_force}
+use Rattle.mdns_core.specs.InForce.{in_force}
 use Rattle.mdns_history.specs.Fitting.{IsLegal}
 use Rattle.mdns_history.specs.Replays.{IsReplayed, IsQueued}
 use Rattle.mdns_history.specs.Calls.{GoodCallsSucceed}

@@ -10,7 +10,7 @@ use Rattle.std.specs.declared.io.Error.{Error}
 use Rattle.std.specs.declared.io.ErrorKind.TheVariants.{OutOfMemory}
 use Rattle.mdns_base.specs.Digits.{◌>>=◌, decimal_of}
 use Rattle.mdns_outside.specs.declared.plan.ServePlan.{ServePlan}
-use Rattle.mdnsd_serve.specs.Serving.{plan_of}
+use Rattle.mdns_server.specs.Serving.{plan_of}
 
 -- the words behind the program's own name
 abbrev pub words_of : IntoIter (String Global) Global → List (List ℕ)

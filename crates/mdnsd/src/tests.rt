@@ -1,4 +1,5 @@
-// Scripts and command lines, with the statuses and outputs that they must have.
+// Scripts and command lines, with the statuses and outputs that they must have. Scripts of which the whole test is what they print are rows of
+// `script_tests`.
 use crate::script::run_script;
 use crate::stop::{NO_MEMORY, WRITE_FAULT};
 use mdns_base::{MemSink, MemSource, Source};
@@ -7,18 +8,9 @@ use std::process::Abort;
 use std::test::Fail;
 
 mod adapters;
-mod announced;
-mod claims;
 mod generated;
-mod held_back;
 mod large;
-mod linked;
-mod played;
 mod program;
-mod replied;
-mod rows;
-mod story;
-mod transcripts;
 
 // The status of a script. Want of memory is passed on; a sink of which no call is listed fails for that alone.
 fn status_of<S: Source>(

@@ -6,7 +6,7 @@ use crate::stop::{
     WRITE_FAULT,
 };
 use mdns_real::Trouble;
-use mdnsd_serve::say_wrong;
+use mdns_server::say_wrong;
 use std::alloc::{AllocError, Global};
 use std::io;
 use std::io::ErrorKind;

@@ -1,8 +1,8 @@
 // A server over a place in memory, by the words of `serve`.
-use crate::Holding;
+use crate::holding::Holding;
 use mdns_base::{MemSink, MemSource};
 use mdns_outside::{Gate, MemPlace, NotedSink, Notes, OpenGate, Packet, Scene};
-use mdnsd_serve::serve_by_words;
+use mdns_server::serve_by_words;
 use std::alloc::{AllocError, Global};
 use std::sync::{Arc, Wait};
 use std::test::Fail;

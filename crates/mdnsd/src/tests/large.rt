@@ -4,16 +4,14 @@ use crate::tests::{expect, expect_lines};
 use std::alloc::{AllocError, Global};
 use std::test::Fail;
 
-// The owner of records: the root, or `a.local`.
-const ROOT: &str = "00";
-
+// The owner of records.
 const A_LOCAL: &str = "0161056c6f63616c00";
 
-// A line in which a response of so many address records of one owner is heard, from an address on.
-fn addresses(alloc: Global, owner: &str, first: u32, count: u32) -> Result<String, AllocError> {
+// A line in which a response of so many address records of the root is heard, from an address on.
+fn addresses(alloc: Global, first: u32, count: u32) -> Result<String, AllocError> {
     let mut line = format!(in alloc; "hear 1 10.0.0.9 5353 000084000000{count:04x}00000000")?;
     for place in 0..count {
-        line.push_str(if place == 0 { owner } else { "c00c" })?;
+        line.push_str(if place == 0 { "00" } else { "c00c" })?;
         let address = first.wrapping_add(place);
         let rest = format!(in alloc; "00010001000000780004{address:08x}")?;
         line.push_str(&rest)?;
@@ -27,49 +25,17 @@ fn zeros(alloc: Global, count: usize) -> Result<String, AllocError> {
     "00".repeat(alloc, count)
 }
 
-// Two dozen questions, which no single message holds, are asked in two.
-#[test]
-fn many_questions(rt: HostRuntime) -> Result<(), Fail> {
-    let alloc = rt.alloc();
-    let mut script = String::from_str(alloc, "daemon 1\nopen 1\nopen 1\n")?;
-    for op in 0..24u32 {
-        let session = 1 + op % 2;
-        let call = format!(in alloc;
-            "call 1 {session} {op} query A one-of-so-many-names-that-no-single-message-can-hold-them-{op:02}.local\n"
-        )?;
-        script.push_str(&call)?;
-    }
-    script.push_str("at 1500\n")?;
-    let sent = "20 > all query 0\n20 > all query 0\n1020 > all query 0\n1020 > all query 0\n";
-    expect_lines(&rt, alloc, &script, &[" >"], sent)
-}
-
-// A hundred known answers need two messages, and the first says that more come.
-#[test]
-fn many_known_answers(rt: HostRuntime) -> Result<(), Fail> {
-    let alloc = rt.alloc();
-    let mut script = String::from_str(
-        alloc,
-        "daemon 1\nopen 1\ncall 1 1 1 query A a.local\nat 1000\n",
-    )?;
-    let heard = addresses(alloc, A_LOCAL, 0xc000_0200, 100)?;
-    script.push_str(&heard)?;
-    script.push_str("at 1500\n")?;
-    let sent = "20 > all query 0\n1020 > all query 0 tc\n1020 > all query 0\n";
-    expect_lines(&rt, alloc, &script, &[" >"], sent)
-}
-
 // 32,768 records are held, and no packet that would leave more is heard; one that renews some is.
 #[test]
 fn a_full_table(rt: HostRuntime) -> Result<(), Fail> {
     let alloc = rt.alloc();
     let mut script = String::from_str(alloc, "daemon 1\n")?;
     for packet in 0..64u32 {
-        let heard = addresses(alloc, ROOT, 512 * packet, 512)?;
+        let heard = addresses(alloc, 512 * packet, 512)?;
         script.push_str(&heard)?;
     }
-    let more = addresses(alloc, ROOT, 512 * 64, 1)?;
-    let renewed = addresses(alloc, ROOT, 512 * 63, 512)?;
+    let more = addresses(alloc, 512 * 64, 1)?;
+    let renewed = addresses(alloc, 512 * 63, 512)?;
     script.push_str(&more)?;
     script.push_str(&renewed)?;
     expect_lines(&rt, alloc, &script, &[" !"], "0 ! full\n")
@@ -106,23 +72,33 @@ fn a_cut_session(rt: HostRuntime) -> Result<(), Fail> {
     expect_lines(&rt, alloc, &script, &beginnings, told)
 }
 
-// A session that doesn't read is cut where 16,777,216 bytes would be queued for it: a reply of 14 bytes and 2,047 answers of 8,192 are not
-// too much, and one more is. The other session has nothing to take.
+// A response with a text of 8,180 bytes of a name, which makes an answer of 8,192 bytes.
+fn large_text(alloc: Global, name: &str, place: u32, rest: &str) -> Result<String, AllocError> {
+    format!(in alloc;
+        "hear 1 10.0.0.9 5353 00008400000000010000000003{name}056c6f63616c0000100001000000781ff4{place:04x}{rest}\n"
+    )
+}
+
+// A session that doesn't read is cut where 16,777,216 bytes would be queued for it: 64 replies of 14 bytes and 2,047 answers of 8,192 are not
+// too much, and one more is. Each text of the one name answers 63 operations, each of the other name one. The other session has nothing to take.
 #[test]
 fn a_session_that_does_not_read(rt: HostRuntime) -> Result<(), Fail> {
     let alloc = rt.alloc();
-    let asked = "daemon 1\nopen 1\nopen 1\ncall 1 1 1 query TXT big.local\n";
+    let asked = "daemon 1\nopen 1\nopen 1\ncall 1 1 64 query TXT odd.local\n";
     let mut script = String::from_str(alloc, asked)?;
-    let rest = zeros(alloc, 8178)?;
-    for packet in 0..2048u32 {
-        if packet == 2047 {
-            script.push_str("take 1 2 1\n")?;
-        }
-        let heard = format!(in alloc;
-            "hear 1 10.0.0.9 5353 00008400000000010000000003626967056c6f63616c0000100001000000781ff4{packet:04x}{rest}\n"
-        )?;
-        script.push_str(&heard)?;
+    for op in 1..64u32 {
+        let call = format!(in alloc; "call 1 1 {op} query TXT big.local\n")?;
+        script.push_str(&call)?;
     }
+    let rest = zeros(alloc, 8178)?;
+    for place in 0..32u32 {
+        script.push_str(&large_text(alloc, "626967", place, &rest)?)?;
+    }
+    for place in 0..31u32 {
+        script.push_str(&large_text(alloc, "6f6464", place, &rest)?)?;
+    }
+    script.push_str("take 1 2 1\n")?;
+    script.push_str(&large_text(alloc, "6f6464", 31, &rest)?)?;
     script.push_str("take 1 1 1\ntake 1 2 1\n")?;
     let told = "0 = empty\n0 ! cut 1\n0 = cut\n0 = empty\n";
     let beginnings = [" !", " = cut", " = e"];

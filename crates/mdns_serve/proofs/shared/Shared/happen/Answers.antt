@@ -1,5 +1,5 @@
 use Rattle.std.proofs.Common.{◌∙◌, sym, subst, ◌∷◌}
-use Rattle.mdns_step.specs.State.{State, Stands}
+use Rattle.mdns_core.specs.State.{State, Stands}
 use Rattle.mdns_serve.proofs.Turning as turning
 use Rattle.mdns_serve.proofs.shared.Shared.happen.Goals as goal
 

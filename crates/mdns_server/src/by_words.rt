@@ -5,13 +5,13 @@ ghost use Rattle.mdns_base.specs.Outside.{Rose};
 ghost use Rattle.mdns_outside.specs.declared.plan.ServePlan.{ServePlan};
 ghost use Rattle.mdns_server.specs.Endings.{IsServeStatus, serving_line};
 ghost use Rattle.mdns_words.specs.Options.{texts};
-ghost use Rattle.mdnsd_serve.specs.Serving.{plan_of, Serves};
+ghost use Rattle.mdns_server.specs.Serving.{plan_of, Serves};
 
 use crate::booting::boot_plan;
+use crate::serving::serve;
 use crate::status::{NO_MEMORY, USAGE};
 use mdns_base::Sink;
 use mdns_outside::Place;
-use mdns_server::serve;
 use mdns_words::{Asked, serve_words};
 use std::alloc::Global;
 use std::sync::Wait;

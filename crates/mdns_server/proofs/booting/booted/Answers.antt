@@ -1,9 +1,9 @@
 use Rattle.std.proofs.Common.{◌≡◌, ◌∙◌, Some, None}
 use Rattle.std.specs.Prelude.{◌^◌, min}
 use Rattle.mdns_history.specs.Fitting.{boot_entry}
-use Rattle.mdnsd_serve.specs.Booting.{Boots, config_with}
-use Rattle.mdnsd_serve.proofs.Standing.{boots}
-use Rattle.mdnsd_serve.proofs.booting.booted.Goals as goal
+use Rattle.mdns_server.specs.Booting.{Boots, config_with}
+use Rattle.mdns_server.proofs.Standing.{boots}
+use Rattle.mdns_server.proofs.booting.booted.Goals as goal
 
 pub returns-clause-boots : goal.returns-clause-boots
 returns-clause-boots c =

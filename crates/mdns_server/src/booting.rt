@@ -3,15 +3,14 @@ ghost use Rattle.std.specs.Arc.{arc_value};
 ghost use Rattle.std.specs.Prelude.{◌≡◌, ◌⊎◌, ◌^◌, min, Some, IfOk, IfErr, OnOk};
 ghost use Rattle.mdns_outside.specs.Places.{MakesLink};
 ghost use Rattle.mdns_turn.specs.Models.{IsSeatOf};
-ghost use Rattle.mdnsd_serve.specs.Booting.{Boots, BootsAt, config_with};
-ghost use Rattle.mdnsd_serve.specs.Serving.{Serves};
+ghost use Rattle.mdns_server.specs.Booting.{Boots, BootsAt, config_with};
+ghost use Rattle.mdns_server.specs.Serving.{Serves};
 
 use crate::status::{LINK_FAULT, NO_MEMORY};
 use mdns_base::Failed;
-use mdns_core::Daemon;
 use mdns_history::{Config, HostConfig};
 use mdns_outside::{Clock, Place, Words};
-use mdns_serve::Shared;
+use mdns_serve::{Daemon, Shared};
 use mdns_turn::{Seat, Turn};
 use mdns_words::{Asked, HostLabel};
 use std::alloc::{AllocError, Global};
