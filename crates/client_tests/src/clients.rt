@@ -1,149 +1,163 @@
-// Calls over a plug in memory, with frames that were made outside.
+// Rows of a client over a plug in memory.
+use crate::error::RowError;
+use crate::plugs::{MemClient, Plugged};
+use crate::spelled::{bytes_of, number, text_of, told, word};
 use bytes::Bytes;
-use mdns_base::{MemSink, MemSource};
-use mdns_outside::{Counted, MemPlug, Peer, Plug};
-use sd_call::{Item, put_item};
+use mdns_outside::Plug;
+use sd_call::put_item;
 use sd_client::*;
 use std::alloc::{AllocError, Global};
-use std::process::Abort;
-use std::test::Fail;
 
-type MemClient = Client<Counted<MemSource>, Counted<MemSink>>;
-
-// A reply to operation 1, and an address for it.
-const ITEMS: &[u8] = b"\x00\x00\x00\x0a\x40\x00\x00\x00\x01\x01\x00\x00\x00\x00\
-\x00\x00\x00\x0c\x41\x00\x00\x00\x01\x01\x00\x01\xc0\x00\x02\x01";
-
-// A frame of a client, which is no item.
-const BROWSE: &[u8] = b"\x00\x00\x00\x10\x02\x00\x00\x00\x01\x00\x09_ipp._tcp";
-
-// One frame of each kind.
-const ALL: &[u8] = b"\x00\x00\x00\x10\x02\x00\x00\x00\x01\x00\x09_ipp._tcp\
-\x00\x00\x00\x13\x03\x00\x00\x00\x02\x00\x01P\x00\x09_ipp._tcp\
-\x00\x00\x00\x10\x01\x00\x00\x00\x03\x00\x01\x01a\x05local\x00\
-\x00\x00\x00\x0f\x04\x00\x00\x00\x04\x03\x01a\x05local\x00\
-\x00\x00\x00\x1a\x05\x00\x00\x00\x05\x08\x02\x77\x00\x01P\x00\x09_ipp._tcp\x00\x02\x01a\
-\x00\x00\x00\x09\x06\x00\x00\x00\x05\x00\x02\x01b\
-\x00\x00\x00\x05\x07\x00\x00\x00\x01";
-
-// A plug to a peer that says these bytes.
-fn plug(
-    alloc: Global,
-    bytes: &[u8],
-    failing_reads: &[u64],
-    failing_puts: &[u64],
-) -> Result<MemPlug, AllocError> {
-    let mut peers = Vec::new(alloc);
-    peers.push(Peer {
-        bytes: Vec::from_slice(alloc, bytes)?,
-        failing_reads: Vec::from_slice(alloc, failing_reads)?,
-        failing_puts: Vec::from_slice(alloc, failing_puts)?,
-    })?;
-    Ok(MemPlug::new(alloc, peers, Vec::new(alloc)))
+/// `client browse TYPE` and others: a call of a client, whose connection the kept plug makes.
+pub fn row(alloc: Global, kept: &mut Plugged, words: &[&str]) -> Result<String, RowError> {
+    match words {
+        ["connect", path] => connect_row(alloc, kept, path),
+        ["back"] => back_row(alloc, kept),
+        _ => match &mut kept.client {
+            Some(client) => call_row(alloc, client, words),
+            None => Err(RowError::NotUnderstood),
+        },
+    }
 }
 
-// Gives the connection back, and says whether these bytes were said on it.
-fn expect_said(
-    rt: &impl Abort,
-    plug: &mut MemPlug,
-    client: MemClient,
-    bytes: &[u8],
-) -> Result<(), Fail> {
+fn connect_row(alloc: Global, kept: &mut Plugged, path: &str) -> Result<String, RowError> {
+    match Client::connect(alloc, &mut kept.plug, path) {
+        Ok(client) => {
+            kept.client = Some(client);
+            word(alloc, "done")
+        }
+        Err(fault) => word(alloc, fault_word(fault)?),
+    }
+}
+
+// Gives the connection back to the plug.
+fn back_row(alloc: Global, kept: &mut Plugged) -> Result<String, RowError> {
+    let Some(client) = kept.client.take() else {
+        return Err(RowError::NotUnderstood);
+    };
     let (input, output) = client.parts();
-    plug.back(input, output);
-    let said = plug.said().ok_or("told")?;
-    let sink = said.first().ok_or("given back")?;
-    assert_eq!(rt; sink.inner().bytes(), bytes);
-    Ok(())
+    kept.plug.back(input, output);
+    word(alloc, "done")
 }
 
-fn expect_item(
-    rt: &impl Abort,
+fn call_row(alloc: Global, client: &mut MemClient, words: &[&str]) -> Result<String, RowError> {
+    match words {
+        ["item"] => item_row(alloc, client),
+        ["browse", regtype] => browse_row(alloc, client, regtype),
+        ["resolve", label, regtype] => resolve_row(alloc, client, label, regtype),
+        ["query", name, kind] => query_row(alloc, client, name, kind),
+        ["address", families, name] => address_row(alloc, client, families, name),
+        ["register", settings @ ..] => register_row(alloc, client, settings),
+        ["update", op, txt] => update_row(alloc, client, op, txt),
+        ["stop", op] => stop_row(alloc, client, op),
+        _ => Err(RowError::NotUnderstood),
+    }
+}
+
+fn browse_row(alloc: Global, client: &mut MemClient, regtype: &str) -> Result<String, RowError> {
+    let regtype = text_of(alloc, regtype)?;
+    number_text(alloc, client.browse(regtype.as_str()))
+}
+
+fn resolve_row(
     alloc: Global,
     client: &mut MemClient,
-    text: &str,
-) -> Result<(), Fail> {
-    let item: Item = client.process_result()?;
-    let mut out = Vec::new(alloc);
-    put_item(&mut out, &item)?;
-    assert_eq!(rt; out.as_slice(), text.as_bytes());
-    Ok(())
+    label: &str,
+    regtype: &str,
+) -> Result<String, RowError> {
+    let regtype = text_of(alloc, regtype)?;
+    number_text(alloc, client.resolve(label, regtype.as_str()))
 }
 
-// So many letters.
-fn letters(alloc: Global, count: u32) -> Result<String, AllocError> {
-    let mut text = String::new(alloc);
-    for _ in 0..count {
-        text.push('x')?;
-    }
-    Ok(text)
+fn query_row(
+    alloc: Global,
+    client: &mut MemClient,
+    name: &str,
+    kind: &str,
+) -> Result<String, RowError> {
+    let kind = number(kind)?;
+    number_text(alloc, client.query_record(name, kind))
 }
 
-#[test]
-fn each_call_sends_its_frame(rt: HostRuntime) -> Result<(), Fail> {
-    let alloc = rt.alloc();
-    let mut plug = plug(alloc, ITEMS, &[], &[])?;
-    let mut client: MemClient = Client::connect(alloc, &mut plug, "a.sock")?;
-    let txt = Bytes::copy_from_slice(alloc, b"\x01a")?;
-    assert_eq!(rt; client.browse("_ipp._tcp")?, 1);
-    assert_eq!(rt; client.resolve("P", "_ipp._tcp")?, 2);
-    assert_eq!(rt; client.query_record("a.local", 1)?, 3);
-    assert_eq!(rt; client.get_addr_info(3, "a.local.")?, 4);
-    assert_eq!(rt; client.register(8, "P", "_ipp._tcp", 631, &txt)?, 5);
-    let txt = Bytes::copy_from_slice(alloc, b"\x01b")?;
-    client.update_record(5, &txt)?;
-    client.deallocate(1)?;
-    expect_item(&rt, alloc, &mut client, "reply 1 start 0")?;
-    expect_item(&rt, alloc, &mut client, "add 1 A 192.0.2.1")?;
-    assert_eq!(rt; client.process_result().err(), Some(ClientError::Ended));
-    assert_eq!(rt; client.browse("_ipp._tcp").err(), Some(ClientError::Ended));
-    expect_said(&rt, &mut plug, client, ALL)
+fn address_row(
+    alloc: Global,
+    client: &mut MemClient,
+    families: &str,
+    name: &str,
+) -> Result<String, RowError> {
+    let families = number(families)?;
+    let name = text_of(alloc, name)?;
+    number_text(alloc, client.get_addr_info(families, name.as_str()))
 }
 
-#[test]
-fn faulty_arguments_send_nothing(rt: HostRuntime) -> Result<(), Fail> {
-    let alloc = rt.alloc();
-    let mut plug = plug(alloc, BROWSE, &[], &[])?;
-    let mut client: MemClient = Client::connect(alloc, &mut plug, "a.sock")?;
-    let long = letters(alloc, 1025)?;
-    let text = long.as_str();
-    let txt = Bytes::copy_from_slice(alloc, letters(alloc, 8193)?.as_bytes())?;
-    let bad = Some(ClientError::BadParam);
-    assert_eq!(rt; client.browse(text).err(), bad);
-    assert_eq!(rt; client.resolve("P", text).err(), bad);
-    assert_eq!(rt; client.query_record("a..local", 1).err(), bad);
-    assert_eq!(rt; client.get_addr_info(1, "").err(), bad);
-    assert_eq!(rt; client.update_record(1, &txt).err(), bad);
-    assert_eq!(rt; client.register(0, "P", "_ipp._tcp", 631, &txt).err(), bad);
-    let txt = Bytes::copy_from_slice(alloc, b"")?;
-    assert_eq!(rt; client.register(4, "P", "_ipp._tcp", 631, &txt).err(), bad);
-    assert_eq!(rt; client.browse("_ipp._tcp")?, 1);
-    assert_eq!(rt; client.process_result().err(), Some(ClientError::BadFrame));
-    assert_eq!(rt; client.browse(text).err(), bad);
-    assert_eq!(rt; client.deallocate(1).err(), Some(ClientError::Ended));
-    expect_said(&rt, &mut plug, client, BROWSE)
+// The flags, the label, the type, the port and the TXT data of a service.
+fn register_row(
+    alloc: Global,
+    client: &mut MemClient,
+    settings: &[&str],
+) -> Result<String, RowError> {
+    let [flags, label, regtype, port, txt] = settings else {
+        return Err(RowError::NotUnderstood);
+    };
+    let (flags, port) = (number(flags)?, number(port)?);
+    let txt = data_of(alloc, txt)?;
+    number_text(alloc, client.register(flags, label, regtype, port, &txt))
 }
 
-#[test]
-fn faults_of_the_connection(rt: HostRuntime) -> Result<(), Fail> {
-    let alloc = rt.alloc();
-    let fault = Some(ClientError::PeerFault);
-    let mut failing = MemPlug::new(alloc, Vec::new(alloc), Vec::from_slice(alloc, &[1])?);
-    let refused: Result<MemClient, ClientError> = Client::connect(alloc, &mut failing, "a.sock");
-    assert_eq!(rt; refused.err(), fault);
-    for read in 1..5 {
-        let mut plug = plug(alloc, ITEMS, &[read], &[])?;
-        let mut client: MemClient = Client::connect(alloc, &mut plug, "a.sock")?;
-        if read > 2 {
-            expect_item(&rt, alloc, &mut client, "reply 1 start 0")?;
+fn update_row(
+    alloc: Global,
+    client: &mut MemClient,
+    op: &str,
+    txt: &str,
+) -> Result<String, RowError> {
+    let op = number(op)?;
+    let txt = data_of(alloc, txt)?;
+    done_text(alloc, client.update_record(op, &txt))
+}
+
+fn stop_row(alloc: Global, client: &mut MemClient, op: &str) -> Result<String, RowError> {
+    let op = number(op)?;
+    done_text(alloc, client.deallocate(op))
+}
+
+fn data_of(alloc: Global, word: &str) -> Result<Bytes, RowError> {
+    Ok(Bytes::from_vec(bytes_of(alloc, word)?)?)
+}
+
+// The text of the next item.
+fn item_row(alloc: Global, client: &mut MemClient) -> Result<String, RowError> {
+    match client.process_result() {
+        Ok(item) => {
+            let mut out = Vec::new(alloc);
+            put_item(&mut out, &item)?;
+            told(out)
         }
-        assert_eq!(rt; client.process_result().err(), fault);
-        assert_eq!(rt; client.process_result().err(), Some(ClientError::Ended));
+        Err(fault) => word(alloc, fault_word(fault)?),
     }
-    let mut plug = plug(alloc, ITEMS, &[], &[2])?;
-    let mut client: MemClient = Client::connect(alloc, &mut plug, "a.sock")?;
-    assert_eq!(rt; client.browse("_ipp._tcp")?, 1);
-    assert_eq!(rt; client.deallocate(1).err(), fault);
-    assert_eq!(rt; client.process_result().err(), Some(ClientError::Ended));
-    expect_said(&rt, &mut plug, client, BROWSE)
+}
+
+// The number of the operation that a call started.
+fn number_text(alloc: Global, started: Result<u32, ClientError>) -> Result<String, RowError> {
+    match started {
+        Ok(op) => Ok(op.to_string(alloc)?),
+        Err(fault) => word(alloc, fault_word(fault)?),
+    }
+}
+
+fn done_text(alloc: Global, done: Result<(), ClientError>) -> Result<String, RowError> {
+    match done {
+        Ok(()) => word(alloc, "done"),
+        Err(fault) => word(alloc, fault_word(fault)?),
+    }
+}
+
+// Why a call failed. Want of memory is passed on.
+fn fault_word(fault: ClientError) -> Result<&'static str, RowError> {
+    match fault {
+        ClientError::BadParam => Ok("bad parameter"),
+        ClientError::PeerFault => Ok("peer fault"),
+        ClientError::Ended => Ok("ended"),
+        ClientError::BadFrame => Ok("bad frame"),
+        ClientError::NoMemory => Err(RowError::NoMemory(AllocError)),
+    }
 }

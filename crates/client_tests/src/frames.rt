@@ -1,11 +1,15 @@
+// Rows of frames on a socket.
+ghost use Rattle.std.specs.Prelude.{◌≡◌};
+ghost use Rattle.sd_ipc.specs.Frames.{is_short};
+
+use crate::error::RowError;
+use crate::spelled::{bytes_of, number, shown, told, word};
 use bytes::Bytes;
 use dns_record::Rdata;
 use mdns_base::{Failed, MemSource, Source};
 use sd_call::{Answer, Item, Request, Text, put_item, put_request};
 use sd_ipc::*;
 use std::alloc::{AllocError, Global};
-use std::process::Abort;
-use std::test::Fail;
 
 // A source that gives one byte at a time.
 #[derive(Drop)]
@@ -25,312 +29,197 @@ impl Source for Slow {
     }
 }
 
-fn source(alloc: Global, bytes: &[u8], failing: &[u64]) -> Result<MemSource, AllocError> {
-    Ok(MemSource::new(
-        Vec::from_slice(alloc, bytes)?,
-        Vec::from_slice(alloc, failing)?,
-    ))
+/// `frame request BYTES` and others: what is read of bytes, and what is written of that.
+pub fn row(alloc: Global, kept: &mut MemSource, words: &[&str]) -> Result<String, RowError> {
+    match words {
+        ["request" | "item", ..] => read_row(alloc, words),
+        ["again" | "slow", ..] => again_row(alloc, words),
+        ["source", ..] | ["next", _] => source_row(alloc, kept, words),
+        _ => write_row(alloc, words),
+    }
+}
+
+// A request or an item of bytes, or of a kind and the body of a frame for operation 1.
+fn read_row(alloc: Global, words: &[&str]) -> Result<String, RowError> {
+    match words {
+        [side, bytes] => next(alloc, &mut source(alloc, bytes_of(alloc, bytes)?), side),
+        [side, kind, body] => next(alloc, &mut source(alloc, frame(alloc, kind, body)?), side),
+        _ => Err(RowError::NotUnderstood),
+    }
+}
+
+// A source of bytes that is kept, of whose reads one fails, and the next request or item of it.
+fn source_row(alloc: Global, kept: &mut MemSource, words: &[&str]) -> Result<String, RowError> {
+    match words {
+        ["source", call, bytes] => {
+            *kept = failing_source(alloc, call, bytes)?;
+            word(alloc, "done")
+        }
+        ["next", side] => next(alloc, kept, side),
+        _ => Err(RowError::NotUnderstood),
+    }
+}
+
+fn failing_source(alloc: Global, call: &str, bytes: &str) -> Result<MemSource, RowError> {
+    let failing = Vec::from_slice(alloc, &[number(call)?])?;
+    Ok(MemSource::new(bytes_of(alloc, bytes)?, failing))
+}
+
+// What is read, and whether the same is written again: of bytes, or of a kind and a body, whose frame comes a byte at a time.
+fn again_row(alloc: Global, words: &[&str]) -> Result<String, RowError> {
+    match words {
+        ["again", side, bytes] => {
+            let bytes = bytes_of(alloc, bytes)?;
+            again(alloc, &mut source_of(alloc, &bytes)?, side, &bytes)
+        }
+        ["slow", side, kind, body] => {
+            let bytes = frame(alloc, kind, body)?;
+            again(alloc, &mut Slow(source_of(alloc, &bytes)?), side, &bytes)
+        }
+        _ => Err(RowError::NotUnderstood),
+    }
+}
+
+fn source_of(alloc: Global, bytes: &[u8]) -> Result<MemSource, RowError> {
+    Ok(source(alloc, Vec::from_slice(alloc, bytes)?))
+}
+
+fn source(alloc: Global, bytes: Vec<u8>) -> MemSource {
+    MemSource::new(bytes, Vec::new(alloc))
 }
 
 // A frame for operation 1.
-fn frame(alloc: Global, kind: u8, body: &[u8]) -> Result<Vec<u8>, AllocError> {
-    let size = body.len().min(100_000) as u32 + 5;
-    let mut out = Vec::from_slice(alloc, &size.to_be_bytes())?;
-    out.push(kind)?;
+fn frame(alloc: Global, kind: &str, body: &str) -> Result<Vec<u8>, RowError> {
+    let body = bytes_of(alloc, body)?;
+    let size = u32::try_from(body.len()).unwrap_or(100_000);
+    let mut out = Vec::from_slice(alloc, &size.saturating_add(5).to_be_bytes())?;
+    out.push(number(kind)?)?;
     out.extend_from_slice(&[0, 0, 0, 1])?;
-    out.extend_from_slice(body)?;
+    out.extend_from_slice(&body)?;
     Ok(out)
 }
 
-// A text or TXT data, behind its count.
-fn counted(alloc: Global, len: usize) -> Result<Vec<u8>, AllocError> {
-    let size = len.min(60_000) as u16;
-    let mut out = Vec::from_slice(alloc, &size.to_be_bytes())?;
-    for _ in 0..len {
-        out.push(b'x')?;
+// Whether a request or an item is read.
+fn next<S: Source>(alloc: Global, input: &mut S, side: &str) -> Result<String, RowError> {
+    let is_read = match side {
+        "request" => read_request(alloc, input).map(|found| found.is_some()),
+        "item" => read_item(alloc, input).map(|found| found.is_some()),
+        _ => return Err(RowError::NotUnderstood),
+    };
+    match is_read {
+        Ok(true) => word(alloc, "read"),
+        Ok(false) => word(alloc, "nothing"),
+        Err(fault) => word(alloc, fault_word(fault)?),
     }
-    Ok(out)
 }
 
 // Why no frame was read. Want of memory is passed on.
-fn fault_of<F: Drop>(read: Result<F, FrameError>) -> Result<Option<FrameError>, AllocError> {
-    match read {
-        Ok(_) => Ok(None),
-        Err(FrameError::NoMemory) => Err(AllocError),
-        Err(fault) => Ok(Some(fault)),
+fn fault_word(fault: FrameError) -> Result<&'static str, RowError> {
+    match fault {
+        FrameError::BadLength => Ok("bad length"),
+        FrameError::BadKind => Ok("bad kind"),
+        FrameError::BadBody => Ok("bad body"),
+        FrameError::Truncated => Ok("truncated"),
+        FrameError::ReadFault => Ok("read fault"),
+        FrameError::NoMemory => Err(RowError::NoMemory(AllocError)),
     }
 }
 
-fn request_fault(alloc: Global, bytes: &[u8]) -> Result<Option<FrameError>, AllocError> {
-    fault_of(read_request(alloc, &mut source(alloc, bytes, &[])?))
-}
-
-fn item_fault(alloc: Global, bytes: &[u8]) -> Result<Option<FrameError>, AllocError> {
-    fault_of(read_item(alloc, &mut source(alloc, bytes, &[])?))
-}
-
-// The text of the request that was read, and the frame that is written of it.
-fn expect_request<S: Source>(
-    rt: &impl Abort,
+// The text of what is read, and whether the frame that is written of it has these bytes.
+fn again<S: Source>(
     alloc: Global,
     input: &mut S,
+    side: &str,
     bytes: &[u8],
-    text: &str,
-) -> Result<(), Fail> {
-    let (op, request) = read_request(alloc, input)?.ok_or("none")?;
+) -> Result<String, RowError> {
     let mut out = Vec::new(alloc);
-    put_request(&mut out, &request)?;
-    assert_eq!(rt; out.as_slice(), text.as_bytes(), "{text}");
-    if let Request::Register { txt, .. } | Request::Update { txt } = &request {
-        assert!(rt; txt.as_slice().len() <= 8192);
+    let written = match side {
+        "request" => request_again(alloc, input, &mut out)?,
+        "item" => item_again(alloc, input, &mut out)?,
+        _ => return Err(RowError::NotUnderstood),
+    };
+    if written.as_slice() == bytes {
+        out.extend_from_slice(b", written again")?;
     }
-    let written = write_request(alloc, op, &request)?;
-    assert_eq!(rt; written.as_slice(), bytes, "{text}");
-    Ok(())
+    told(out)
 }
 
-fn expect_item<S: Source>(
-    rt: &impl Abort,
+fn request_again<S: Source>(
     alloc: Global,
     input: &mut S,
-    bytes: &[u8],
-    text: &str,
-) -> Result<(), Fail> {
-    let item = read_item(alloc, input)?.ok_or("none")?;
-    let mut out = Vec::new(alloc);
-    put_item(&mut out, &item)?;
-    assert_eq!(rt; out.as_slice(), text.as_bytes(), "{text}");
-    let written = write_item(alloc, &item)?;
-    assert_eq!(rt; written.as_slice(), bytes, "{text}");
-    Ok(())
+    out: &mut Vec<u8>,
+) -> Result<Bytes, RowError> {
+    let Ok(Some((op, request))) = read_request(alloc, input) else {
+        return Err(RowError::NotUnderstood);
+    };
+    put_request(out, &request)?;
+    if !is_short(&request) {
+        return Err(RowError::NotUnderstood);
+    }
+    Ok(write_request(alloc, op, &request)?)
 }
 
-const REQUESTS: [(u8, &[u8], &str); 7] = [
-    (1, b"\x00\x01\x01a\x05local\x00", "query A a.local."),
-    (2, b"\x00\x09_ipp._tcp", "browse _ipp._tcp"),
-    (3, b"\x00\x01P\x00\x09_ipp._tcp", "resolve P _ipp._tcp"),
-    (4, b"\x03\x01a\x05local\x00", "address both a.local."),
-    (
-        5,
-        b"\x08\x02\x77\x00\x01P\x00\x09_ipp._tcp\x00\x02\x01a",
-        "register P _ipp._tcp 631 norename 0161",
-    ),
-    (6, b"\x00\x02\x01a", "update 0161"),
-    (7, b"", "stop"),
-];
-
-const ITEMS: [(u8, &[u8], &str); 7] = [
-    (64, b"\x01\x00\x00\x00\x00", "reply 1 start 0"),
-    (64, b"\x03\xff\xfe\xff\xf4", "reply 1 stop -65548"),
-    (65, b"\x01\x00\x01\xc0\x00\x02\x01", "add 1 A 192.0.2.1"),
-    (66, b"\x01\x00\x0c\x01a\x05local\x00", "rem 1 PTR a.local."),
-    (65, b"\x02\x01a\x05local\x00", "add 1 found a.local."),
-    (66, b"\x04\x01a\x05local\x00", "rem 1 named a.local."),
-    (65, b"\x05", "add 1 conflict"),
-];
-
-#[test]
-fn outside_frames_are_read_and_written(rt: HostRuntime) -> Result<(), Fail> {
-    let alloc = rt.alloc();
-    for (bytes, text) in [
-        (
-            b"\x00\x00\x00\x0a\x40\x00\x00\x00\x01\x01\x00\x00\x00\x00".as_slice(),
-            "reply 1 start 0",
-        ),
-        (
-            b"\x00\x00\x00\x0a\x40\x00\x00\x00\x02\x01\xff\xfe\xff\xf4".as_slice(),
-            "reply 2 start -65548",
-        ),
-        (
-            b"\x00\x00\x00\x0c\x41\x00\x00\x00\x01\x01\x00\x01\xc0\x00\x02\x01".as_slice(),
-            "add 1 A 192.0.2.1",
-        ),
-    ] {
-        expect_item(&rt, alloc, &mut source(alloc, bytes, &[])?, bytes, text)?;
+// Whether a frame can hold the request's TXT data.
+fn is_short(request: &Request) -> bool
+    ensures { result ≡ is_short request.now }
+{
+    match request {
+        Request::Register { txt, .. } | Request::Update { txt } => txt.as_slice().len() <= 8192,
+        _ => true,
     }
-    for (bytes, text) in [
-        (
-            b"\x00\x00\x00\x10\x02\x00\x00\x00\x01\x00\x09_ipp._tcp".as_slice(),
-            "browse _ipp._tcp",
-        ),
-        (b"\x00\x00\x00\x05\x07\x00\x00\x00\x01".as_slice(), "stop"),
-    ] {
-        expect_request(&rt, alloc, &mut source(alloc, bytes, &[])?, bytes, text)?;
-    }
-    Ok(())
 }
 
-#[test]
-fn each_kind_of_request(rt: HostRuntime) -> Result<(), Fail> {
-    let alloc = rt.alloc();
-    for (kind, body, text) in REQUESTS {
-        let bytes = frame(alloc, kind, body)?;
-        let mut slow = Slow(source(alloc, &bytes, &[])?);
-        expect_request(&rt, alloc, &mut slow, &bytes, text)?;
-        let mut long = Vec::from_slice(alloc, body)?;
-        long.push(0)?;
-        let bytes = frame(alloc, kind, &long)?;
-        assert_eq!(rt;
-            request_fault(alloc, &bytes)?,
-            Some(FrameError::BadBody),
-            "{text}"
-        );
-        if let Some((_, short)) = body.split_last() {
-            let bytes = frame(alloc, kind, short)?;
-            assert_eq!(rt;
-                request_fault(alloc, &bytes)?,
-                Some(FrameError::BadBody),
-                "{text}"
-            );
-        }
-    }
-    Ok(())
+fn item_again<S: Source>(
+    alloc: Global,
+    input: &mut S,
+    out: &mut Vec<u8>,
+) -> Result<Bytes, RowError> {
+    let Ok(Some(item)) = read_item(alloc, input) else {
+        return Err(RowError::NotUnderstood);
+    };
+    put_item(out, &item)?;
+    Ok(write_item(alloc, &item)?)
 }
 
-#[test]
-fn each_kind_of_item(rt: HostRuntime) -> Result<(), Fail> {
-    let alloc = rt.alloc();
-    for (kind, body, text) in ITEMS {
-        let bytes = frame(alloc, kind, body)?;
-        let mut slow = Slow(source(alloc, &bytes, &[])?);
-        expect_item(&rt, alloc, &mut slow, &bytes, text)?;
-        let mut long = Vec::from_slice(alloc, body)?;
-        long.push(0)?;
-        let bytes = frame(alloc, kind, &long)?;
-        assert_eq!(rt;
-            item_fault(alloc, &bytes)?,
-            Some(FrameError::BadBody),
-            "{text}"
-        );
-        if let Some((_, short)) = body.split_last() {
-            let bytes = frame(alloc, kind, short)?;
-            assert_eq!(rt;
-                item_fault(alloc, &bytes)?,
-                Some(FrameError::BadBody),
-                "{text}"
-            );
-        }
+fn write_row(alloc: Global, words: &[&str]) -> Result<String, RowError> {
+    match words {
+        ["browse", regtype] => browse_row(alloc, regtype),
+        ["datum", len] => datum_row(alloc, number(len)?),
+        ["codes"] => codes_row(alloc),
+        _ => Err(RowError::NotUnderstood),
     }
-    Ok(())
 }
 
-#[test]
-fn faults_in_the_order_of_the_tests(rt: HostRuntime) -> Result<(), Fail> {
-    let alloc = rt.alloc();
-    for (bytes, fault) in [
-        (b"".as_slice(), None),
-        (b"\x00\x00\x00", Some(FrameError::Truncated)),
-        (
-            b"\x00\x00\x00\x04\x07\x00\x00\x00",
-            Some(FrameError::BadLength),
-        ),
-        (b"\x00\x01\x00\x01", Some(FrameError::BadLength)),
-        (b"\x05\x00\x00\x00", Some(FrameError::BadLength)),
-        (b"\x00\x00\x00\x05", Some(FrameError::Truncated)),
-        (b"\x00\x01\x00\x00\x63", Some(FrameError::Truncated)),
-        (
-            b"\x00\x00\x00\x06\x63\x00\x00\x00\x01",
-            Some(FrameError::Truncated),
-        ),
-        (b"\x00\x00\x00\x05\x07\x00\x00\x00\x01\x63", None),
-        (
-            b"\x00\x00\x00\x08\x02\x00\x00\x00\x01\x00\x01\xff",
-            Some(FrameError::BadBody),
-        ),
-    ] {
-        assert_eq!(rt; request_fault(alloc, bytes)?, fault);
-    }
-    for kind in [0, 8, 63, 64, 67, 99] {
-        let bytes = frame(alloc, kind, b"")?;
-        assert_eq!(rt; request_fault(alloc, &bytes)?, Some(FrameError::BadKind));
-    }
-    for kind in [0, 7, 63, 67, 99] {
-        let bytes = frame(alloc, kind, b"")?;
-        assert_eq!(rt; item_fault(alloc, &bytes)?, Some(FrameError::BadKind));
-    }
-    let flags = frame(
-        alloc,
-        5,
-        b"\x04\x02\x77\x00\x01P\x00\x09_ipp._tcp\x00\x02\x01a",
-    )?;
-    assert_eq!(rt; request_fault(alloc, &flags)?, Some(FrameError::BadBody));
-    let reply = b"\x00\x00\x00\x0a\x40\x00\x00\x00\x01\x01\x00\x00\x00";
-    assert_eq!(rt; item_fault(alloc, reply)?, Some(FrameError::Truncated));
-    assert_eq!(rt;
-        [
-            FrameError::BadLength as u8,
-            FrameError::BadKind as u8,
-            FrameError::BadBody as u8,
-            FrameError::Truncated as u8,
-            FrameError::ReadFault as u8,
-            FrameError::NoMemory as u8
-        ]
-        .as_slice(),
-        [1, 2, 3, 4, 5, 6].as_slice()
-    );
-    Ok(())
-}
-
-#[test]
-fn lengths_up_to_their_limits(rt: HostRuntime) -> Result<(), Fail> {
-    let alloc = rt.alloc();
-    for (kind, len, fault) in [
-        (2, 1024, None),
-        (2, 1025, Some(FrameError::BadBody)),
-        (6, 8192, None),
-        (6, 8193, Some(FrameError::BadBody)),
-    ] {
-        let bytes = frame(alloc, kind, &counted(alloc, len)?)?;
-        assert_eq!(rt; request_fault(alloc, &bytes)?, fault);
-    }
-    for (len, fault) in [(65528, None), (65529, Some(FrameError::BadLength))] {
-        let item = Item::Add {
-            op: 1,
-            answer: Answer::Datum {
-                rdata: Rdata::Txt(Bytes::from_vec(counted(alloc, len - 2)?)?),
-            },
-        };
-        let written = write_item(alloc, &item)?;
-        assert_eq!(rt; written.as_slice().len(), len + 12);
-        assert_eq!(rt; item_fault(alloc, written.as_slice())?, fault);
-    }
-    Ok(())
-}
-
-#[test]
-fn each_read_fails_in_turn(rt: HostRuntime) -> Result<(), Fail> {
-    let alloc = rt.alloc();
-    let bytes = b"\x00\x00\x00\x05\x07\x00\x00\x00\x01";
-    for failing in 1..3 {
-        let mut input = source(alloc, bytes, &[failing])?;
-        assert_eq!(rt;
-            fault_of(read_request(alloc, &mut input))?,
-            Some(FrameError::ReadFault)
-        );
-        let mut input = source(alloc, bytes, &[failing])?;
-        assert_eq!(rt;
-            fault_of(read_item(alloc, &mut input))?,
-            Some(FrameError::ReadFault)
-        );
-    }
-    let mut input = source(alloc, bytes, &[3])?;
-    assert!(rt; read_request(alloc, &mut input)?.is_some());
-    assert_eq!(rt;
-        fault_of(read_request(alloc, &mut input))?,
-        Some(FrameError::ReadFault)
-    );
-    assert!(rt; read_request(alloc, &mut input)?.is_none());
-    Ok(())
-}
-
-#[test]
-fn texts_of_a_client_are_written(rt: HostRuntime) -> Result<(), Fail> {
-    let alloc = rt.alloc();
-    let regtype = Text::new(alloc, "_ipp._tcp")?.ok_or("text")?;
+// The frame that asks for instances of a type, for operation 1.
+fn browse_row(alloc: Global, regtype: &str) -> Result<String, RowError> {
+    let Some(regtype) = Text::new(alloc, regtype)? else {
+        return Err(RowError::NotUnderstood);
+    };
     let written = write_request(alloc, 1, &Request::Browse { regtype })?;
-    assert_eq!(rt;
-        written.as_slice(),
-        b"\x00\x00\x00\x10\x02\x00\x00\x00\x01\x00\x09_ipp._tcp".as_slice()
-    );
-    Ok(())
+    shown(alloc, written.as_slice())
+}
+
+// How long the frame of an item with a datum of so many bytes is, and whether it is read.
+fn datum_row(alloc: Global, len: usize) -> Result<String, RowError> {
+    let frame = datum_frame(alloc, len)?;
+    let mut out = frame.as_slice().len().to_string(alloc)?;
+    out.push_str(" bytes, ")?;
+    let mut input = source_of(alloc, frame.as_slice())?;
+    out.push_str(next(alloc, &mut input, "item")?.as_str())?;
+    Ok(out)
+}
+
+fn datum_frame(alloc: Global, len: usize) -> Result<Bytes, AllocError> {
+    let mut bytes = Vec::new(alloc);
+    bytes.resize(len, b'x')?;
+    let rdata = Rdata::Txt(Bytes::from_vec(bytes)?);
+    let answer = Answer::Datum { rdata };
+    write_item(alloc, &Item::Add { op: 1, answer })
+}
+
+fn codes_row(alloc: Global) -> Result<String, RowError> {
+    let (length, kind) = (FrameError::BadLength as u8, FrameError::BadKind as u8);
+    let (body, end) = (FrameError::BadBody as u8, FrameError::Truncated as u8);
+    let (read, memory) = (FrameError::ReadFault as u8, FrameError::NoMemory as u8);
+    Ok(format!(in alloc; "{length} {kind} {body} {end} {read} {memory}")?)
 }

@@ -1,9 +1,57 @@
+// Rows of a session's queue.
+use crate::error::RowError;
+use crate::spelled::{number, word, yes_or_no};
 use bytes::Bytes;
 use dns_record::Rdata;
 use sd_call::{Answer, Item, Verb};
 use sd_outbox::*;
 use std::alloc::{AllocError, Global};
-use std::test::Fail;
+
+/// `queue take` and others: a call on the queue.
+pub fn row(alloc: Global, queue: &mut Outbox, words: &[&str]) -> Result<String, RowError> {
+    match words {
+        ["new"] => *queue = Outbox::new(alloc),
+        ["reserve", more] => queue.reserve(number(more)?)?,
+        ["cut"] => queue.cut(),
+        ["append", ..] => return append_row(alloc, queue, words),
+        _ => return look_row(alloc, queue, words),
+    }
+    word(alloc, "done")
+}
+
+// An item behind what is queued: a reply, a conflict, or data of so many bytes, which may be queued several times.
+fn append_row(alloc: Global, queue: &mut Outbox, words: &[&str]) -> Result<String, RowError> {
+    match words {
+        ["append", "reply"] => append(alloc, queue, reply()),
+        ["append", "conflict", op] => append(alloc, queue, conflict(number(op)?)),
+        ["append", "data", len] => append_data(alloc, queue, len, "1"),
+        ["append", "data", len, times] => append_data(alloc, queue, len, times),
+        _ => Err(RowError::NotUnderstood),
+    }
+}
+
+// Data of so many bytes, so many times; what came of the last.
+fn append_data(
+    alloc: Global,
+    queue: &mut Outbox,
+    len: &str,
+    times: &str,
+) -> Result<String, RowError> {
+    let len = number(len)?;
+    let mut told = word(alloc, "none")?;
+    for _ in 0..number::<u16>(times)? {
+        told = append(alloc, queue, datum(alloc, len)?)?;
+    }
+    Ok(told)
+}
+
+fn append(alloc: Global, queue: &mut Outbox, item: Item) -> Result<String, RowError> {
+    match queue.append(item) {
+        Ok(()) => word(alloc, "done"),
+        Err(AppendError::Cut) => word(alloc, "cut"),
+        Err(AppendError::NoMemory) => Err(RowError::NoMemory(AllocError)),
+    }
+}
 
 fn reply() -> Item {
     Item::Reply {
@@ -13,91 +61,49 @@ fn reply() -> Item {
     }
 }
 
-// An item with so many bytes of data, and 12 more in its frame.
+fn conflict(op: u32) -> Item {
+    Item::Add {
+        op,
+        answer: Answer::Conflict,
+    }
+}
+
+// An item for operation 1 with so many bytes of data, and 12 more in its frame.
 fn datum(alloc: Global, len: usize) -> Result<Item, AllocError> {
     let mut bytes = Vec::new(alloc);
     bytes.resize(len, 7)?;
+    let rdata = Rdata::Txt(Bytes::from_vec(bytes)?);
     Ok(Item::Add {
         op: 1,
-        answer: Answer::Datum {
-            rdata: Rdata::Txt(Bytes::from_vec(bytes)?),
-        },
+        answer: Answer::Datum { rdata },
     })
 }
 
-fn op_of(taken: Taken) -> Option<u32> {
+fn look_row(alloc: Global, queue: &mut Outbox, words: &[&str]) -> Result<String, RowError> {
+    match words {
+        ["take"] => taken_text(alloc, queue.take()),
+        ["bytes"] => Ok(queue.bytes().to_string(alloc)?),
+        ["count"] => Ok(queue.len().to_string(alloc)?),
+        ["is", "empty"] => yes_or_no(alloc, queue.is_empty()),
+        ["is", "cut"] => yes_or_no(alloc, queue.is_cut()),
+        ["codes"] => codes_row(alloc),
+        _ => Err(RowError::NotUnderstood),
+    }
+}
+
+// The operation of an item that was taken.
+fn taken_text(alloc: Global, taken: Taken) -> Result<String, RowError> {
     match taken {
         Taken::One(Item::Reply { op, .. } | Item::Add { op, .. } | Item::Remove { op, .. }) => {
-            Some(op)
+            Ok(op.to_string(alloc)?)
         }
-        Taken::Empty | Taken::Cut => None,
+        Taken::Empty => word(alloc, "empty"),
+        Taken::Cut => word(alloc, "cut"),
     }
 }
 
-#[test]
-fn what_was_appended_is_taken_in_order(rt: HostRuntime) -> Result<(), Fail> {
-    let alloc = rt.alloc();
-    let mut outbox = Outbox::new(alloc);
-    outbox.reserve(3)?;
-    for op in 1..4 {
-        let item = Item::Add {
-            op,
-            answer: Answer::Conflict,
-        };
-        outbox.append(item)?;
-    }
-    assert_eq!(rt; outbox.bytes(), 30);
-    assert_eq!(rt; op_of(outbox.take()), Some(1));
-    assert_eq!(rt; outbox.bytes(), 20);
-    outbox.append(reply())?;
-    assert_eq!(rt; op_of(outbox.take()), Some(2));
-    assert_eq!(rt; op_of(outbox.take()), Some(3));
-    assert_eq!(rt; outbox.bytes(), 14);
-    assert_eq!(rt; op_of(outbox.take()), Some(1));
-    assert!(rt; matches!(outbox.take(), Taken::Empty));
-    assert!(rt; outbox.is_empty() && !outbox.is_cut());
-    Ok(())
-}
-
-#[test]
-fn a_queue_that_passes_the_limit_is_cut(rt: HostRuntime) -> Result<(), Fail> {
-    let alloc = rt.alloc();
-    let mut outbox = Outbox::new(alloc);
-    outbox.append(reply())?;
-    for _ in 0..2047 {
-        outbox.append(datum(alloc, 8180)?)?;
-    }
-    assert_eq!(rt; outbox.bytes(), 16_769_038);
-    assert_eq!(rt; outbox.len(), 2048);
-    assert_eq!(rt; outbox.append(datum(alloc, 8180)?), Err(AppendError::Cut));
-    assert!(rt; matches!(outbox.take(), Taken::Cut));
-    assert_eq!(rt; outbox.append(reply()), Err(AppendError::Cut));
-    assert!(rt; matches!(outbox.take(), Taken::Cut));
-    assert!(rt; outbox.is_cut());
-    assert_eq!(rt; outbox.bytes(), 0);
-    assert_eq!(rt;
-        [AppendError::Cut as u8, AppendError::NoMemory as u8].as_slice(),
-        [1, 2].as_slice()
-    );
-    Ok(())
-}
-
-#[test]
-fn an_item_of_exactly_the_rest_is_queued(rt: HostRuntime) -> Result<(), Fail> {
-    let alloc = rt.alloc();
-    let mut outbox = Outbox::new(alloc);
-    outbox.append(reply())?;
-    outbox.append(datum(alloc, 16_777_216 - 14 - 12)?)?;
-    assert_eq!(rt; outbox.bytes(), 16_777_216);
-    assert_eq!(rt; op_of(outbox.take()), Some(1));
-    outbox.append(reply())?;
-    assert_eq!(rt; outbox.append(reply()), Err(AppendError::Cut));
-    Ok(())
-}
-
-#[test]
-fn a_queue_can_be_cut(rt: HostRuntime) {
-    let mut outbox = Outbox::new(rt.alloc());
-    outbox.cut();
-    assert!(rt; matches!(outbox.take(), Taken::Cut));
+fn codes_row(alloc: Global) -> Result<String, RowError> {
+    let cut = AppendError::Cut as u8;
+    let memory = AppendError::NoMemory as u8;
+    Ok(format!(in alloc; "{cut} {memory}")?)
 }

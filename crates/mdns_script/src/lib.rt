@@ -19,6 +19,3 @@ pub use command::{Command, Line};
 pub use laws::printed_commands_are_read;
 pub use line::read_line;
 pub use print::print_command;
-
-#[cfg(test)]
-mod print_tests;

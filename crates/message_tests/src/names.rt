@@ -1,187 +1,118 @@
-use arrayvec::ArrayString;
-use dns_name::{Label, Name, NameError, TextItem, TextItems, read_label, write_label_byte};
-use std::cmp::Ordering;
-use std::process::Abort;
-use std::test::Fail;
+// Rows of names.
 
-const LABEL_63: &str = "abcdefghijklmnopqrstuvwxyz-abcdefghijklmnopqrstuvwxyz-123456789";
+use crate::error::RowError;
+use crate::fields::{first_word, name_of, text_of, two_parts};
+use crate::told::{
+    order_word, put_bytes, put_comma, put_numbered, put_text, standing_word, yes_word,
+};
+use dns_name::{Label, Name, NameError};
+use mdns_base::{put_decimal, put_hex};
 
-// Three labels of 63 bytes and a dot behind each, which are 192 bytes in wire form.
-const THREE: &str =
-    "abcdefghijklmnopqrstuvwxyz-abcdefghijklmnopqrstuvwxyz-123456789.abcdefghijklmnopqrstuvwxyz-abcdefghijklmnopqrstuvwxyz-123456789.abcdefghijklmnopqrstuvwxyz-abcdefghijklmnopqrstuvwxyz-123456789.";
+/// `name ..`: what a text is read as, a name's wire form, labels, parent and child, and how two names stand to each other.
+pub fn name_row(out: &mut Vec<u8>, row: &str) -> Result<(), RowError> {
+    let (word, rest) = first_word(row);
+    match word {
+        "read" => put_read(out, text_of(rest)),
+        "wire" => Ok(put_hex(out, name_of(rest)?.as_wire())?),
+        "length" => put_count(out, name_of(rest)?.wire_len()),
+        "count" => put_count(out, name_of(rest)?.count()),
+        "label" => put_label(out, rest),
+        "parent" => put_parent(out, &name_of(rest)?),
+        "child" => put_child(out, rest),
+        "compare" => put_order(out, rest),
+        "again" => put_again(out, rest),
+        "under" => put_under(out, rest),
+        "faults" => put_faults(out),
+        _ => Err(RowError::NotUnderstood),
+    }
+}
 
-fn expect_name(rt: &impl Abort, text: &str, written: &str) {
+/// Appends the text of a name.
+pub fn put_name(out: &mut Vec<u8>, name: &Name) -> Result<(), RowError> {
+    put_text(out, name.write_text().as_str())
+}
+
+// The words of a fault.
+fn fault_word(fault: NameError) -> &'static str {
+    match fault {
+        NameError::EmptyLabel => "empty label",
+        NameError::LongLabel => "long label",
+        NameError::LongName => "long name",
+        NameError::BadEscape => "bad escape",
+    }
+}
+
+// `read TEXT`: the name as it is written, or why the text is none.
+fn put_read(out: &mut Vec<u8>, text: &str) -> Result<(), RowError> {
     match Name::parse_text(text) {
-        Ok(name) => assert_eq!(rt; name.write_text().as_str(), written, "{text}"),
-        Err(_) => panic!(rt; "{text} is no name"),
+        Ok(name) => put_name(out, &name),
+        Err(fault) => put_text(out, fault_word(fault)),
     }
 }
 
-fn expect_fault(rt: &impl Abort, text: &str, fault: NameError) {
-    match Name::parse_text(text) {
-        Ok(_) => panic!(rt; "{text} is a name"),
-        Err(found) => assert_eq!(rt; found, fault, "{text}"),
+// `length NAME`, `count NAME`: how many bytes the wire form has, how many labels the name has.
+fn put_count(out: &mut Vec<u8>, count: usize) -> Result<(), RowError> {
+    Ok(put_decimal(out, count as u64)?)
+}
+
+// `label PLACE NAME`: the label at that place, counted from 0.
+fn put_label(out: &mut Vec<u8>, rest: &str) -> Result<(), RowError> {
+    let (place, text) = two_parts(rest)?;
+    put_bytes(out, name_of(text)?.label(place.parse::<usize>()?))
+}
+
+// `parent NAME`
+fn put_parent(out: &mut Vec<u8>, name: &Name) -> Result<(), RowError> {
+    match name.parent() {
+        Some(parent) => put_name(out, &parent),
+        None => put_text(out, "none"),
     }
 }
 
-#[test]
-fn names_are_read_and_written(rt: HostRuntime) {
-    for (text, written) in [
-        (".", "."),
-        ("local", "local."),
-        ("Host-1.Local.", "Host-1.Local."),
-        (r"a\.b.c", r"a\.b.c."),
-        (r"a\\b", r"a\\b."),
-        (r"\046\092\065", r"\.\\A."),
-        (r"\000\032\127\255.local", r"\000\032\127\255.local."),
-        ("a b\tc\u{7f}.local", r"a\032b\009c\127.local."),
-        ("\u{e9}.local", r"\195\169.local."),
-        // RFC 4343 2.1
-        (
-            r"Donald\032E\.\032Eastlake\0323rd.example",
-            r"Donald\032E\.\032Eastlake\0323rd.example.",
-        ),
-        (r"a\000\\\255z.example", r"a\000\\\255z.example."),
-    ] {
-        expect_name(&rt, text, written);
+// `child LABEL NAME`: the name with that label in front.
+fn put_child(out: &mut Vec<u8>, rest: &str) -> Result<(), RowError> {
+    let (label, text) = two_parts(rest)?;
+    let label = Label::new(label.as_bytes()).ok_or(RowError::NotUnderstood)?;
+    match name_of(text)?.child(&label) {
+        Ok(child) => put_name(out, &child),
+        Err(fault) => put_text(out, fault_word(fault)),
     }
 }
 
-#[test]
-fn the_first_fault_is_told(rt: HostRuntime) {
-    for (text, fault) in [
-        ("", NameError::EmptyLabel),
-        ("..", NameError::EmptyLabel),
-        (".local", NameError::EmptyLabel),
-        ("a..local", NameError::EmptyLabel),
-        ("local..", NameError::EmptyLabel),
-        (r"a..\x", NameError::EmptyLabel),
-        (r"\", NameError::BadEscape),
-        (r"\a", NameError::BadEscape),
-        (r"\1", NameError::BadEscape),
-        (r"\12.a", NameError::BadEscape),
-        (r"\256", NameError::BadEscape),
-        (r"a\999..b", NameError::BadEscape),
-    ] {
-        expect_fault(&rt, text, fault);
-    }
-    assert_eq!(rt;
-        [
-            NameError::EmptyLabel as u8,
-            NameError::LongLabel as u8,
-            NameError::LongName as u8,
-            NameError::BadEscape as u8
-        ]
-        .as_slice(),
-        [1, 2, 3, 4].as_slice()
-    );
+// `compare LEFT RIGHT`: their order; they are equal exactly where they are one name.
+fn put_order(out: &mut Vec<u8>, rest: &str) -> Result<(), RowError> {
+    let (left, right) = two_parts(rest)?;
+    let (left, right) = (name_of(left)?, name_of(right)?);
+    put_text(
+        out,
+        standing_word(left.folded_cmp(&right), left.folded_eq(&right)),
+    )
 }
 
-#[test]
-fn lengths_are_tested(rt: HostRuntime) -> Result<(), Fail> {
-    let alloc = rt.alloc();
-    let label = format!(in alloc; "{LABEL_63}.")?;
-    expect_name(&rt, LABEL_63, label.as_str());
-    let long_label = format!(in alloc; "{LABEL_63}x")?;
-    expect_fault(&rt, long_label.as_str(), NameError::LongLabel);
-
-    // 192 bytes, a label of 61 behind its length and the zero byte are 255.
-    let most = format!(in alloc;
-        "{THREE}{}.",
-        "abcdefghijklmnopqrstuvwxyz-abcdefghijklmnopqrstuvwxyz-1234567"
-    )?;
-    expect_name(&rt, most.as_str(), most.as_str());
-    let too_long = format!(in alloc;
-        "{THREE}{}",
-        "abcdefghijklmnopqrstuvwxyz-abcdefghijklmnopqrstuvwxyz-12345678"
-    )?;
-    expect_fault(&rt, too_long.as_str(), NameError::LongName);
-    let name = Name::parse_text(most.as_str())?;
-    assert_eq!(rt; name.wire_len(), 255);
-    let x = Label::new(b"x").ok_or("x")?;
-    assert_eq!(rt; name.child(&x).err(), Some(NameError::LongName));
-    Ok(())
+// `again LEFT RIGHT`: the order of the name that is made again of a copy's labels, and the right one.
+fn put_again(out: &mut Vec<u8>, rest: &str) -> Result<(), RowError> {
+    let (left, right) = two_parts(rest)?;
+    let again = name_of(left)?.copy().labels().to_name();
+    put_text(out, order_word(again.folded_cmp(&name_of(right)?)))
 }
 
-#[test]
-fn a_name_is_kept_in_wire_form(rt: HostRuntime) -> Result<(), Fail> {
-    // RFC 1035 4.1.4
-    let name = Name::parse_text("F.ISI.ARPA")?;
-    assert_eq!(rt; name.as_wire(), b"\x01F\x03ISI\x04ARPA\x00".as_slice());
-    assert_eq!(rt; name.count(), 3);
-    assert_eq!(rt; name.label(1), Some(b"ISI".as_slice()));
-    assert_eq!(rt; name.label(3), None);
-    let parent = name.parent().ok_or("no parent")?;
-    assert_eq!(rt; parent.write_text().as_str(), "ISI.ARPA.");
-    assert_eq!(rt; Name::root().parent().is_none(), true);
-    let label = Label::new(b"f").ok_or("f")?;
-    let child = parent.child(&label)?;
-    assert_eq!(rt; child.write_text().as_str(), "f.ISI.ARPA.");
-    assert_eq!(rt; child.folded_eq(&name), true);
-    assert_eq!(rt;
-        child.copy().labels().to_name().folded_cmp(&name),
-        Ordering::Equal
-    );
-    Ok(())
+// `under NAME TOP`
+fn put_under(out: &mut Vec<u8>, rest: &str) -> Result<(), RowError> {
+    let (name, top) = two_parts(rest)?;
+    put_text(out, yes_word(name_of(name)?.under(&name_of(top)?)))
 }
 
-#[test]
-fn names_are_compared_in_any_case(rt: HostRuntime) -> Result<(), Fail> {
-    // Shorter labels come first, and case is aside.
-    for (left, right, order) in [
-        ("b", "aa", Ordering::Less),
-        ("LOCAL", "local", Ordering::Equal),
-        ("Zed.local", "zebra.local", Ordering::Less),
-        (r"\091", "{", Ordering::Less),
-        ("@", "`", Ordering::Less),
-        (r"\200", r"\199", Ordering::Greater),
-        (".", "a", Ordering::Less),
-    ] {
-        let (left, right) = (Name::parse_text(left)?, Name::parse_text(right)?);
-        assert_eq!(rt; left.folded_cmp(&right), order);
-        assert_eq!(rt; left.folded_eq(&right), order == Ordering::Equal);
-    }
-    for (name, top, under) in [
-        ("a.Local", "local", true),
-        ("local", "local", true),
-        ("local", ".", true),
-        ("xlocal", "local", false),
-        (r"a\.local", "local", false),
-        ("local", "a.local", false),
-    ] {
-        let (name, top) = (Name::parse_text(name)?, Name::parse_text(top)?);
-        assert_eq!(rt; name.under(&top), under);
+// `faults`: the number and the words of each.
+fn put_faults(out: &mut Vec<u8>) -> Result<(), RowError> {
+    let faults = [
+        NameError::EmptyLabel,
+        NameError::LongLabel,
+        NameError::LongName,
+        NameError::BadEscape,
+    ];
+    for (place, fault) in faults.iter().enumerate() {
+        put_comma(out, place)?;
+        put_numbered(out, *fault as u8, fault_word(*fault))?;
     }
     Ok(())
-}
-
-#[test]
-fn labels_are_read_and_written(rt: HostRuntime) -> Result<(), Fail> {
-    let label = read_label::<63>(br"a\.b\255").ok_or("no label")?;
-    assert_eq!(rt; label.as_slice(), b"a.b\xff".as_slice());
-    assert_eq!(rt; read_label::<63>(b"a.b").is_none(), true);
-    assert_eq!(rt; read_label::<3>(b"abcd").is_none(), true);
-    assert_eq!(rt; read_label::<3>(b"abc").is_some(), true);
-    let mut text = ArrayString::<4>::new();
-    write_label_byte(&mut text, 255);
-    assert_eq!(rt; text.as_str(), r"\255");
-    let mut name = Name::root();
-    name.push_bytes(b"a");
-    name.push(&Label::new(b"local").ok_or("local")?);
-    assert_eq!(rt; name.exact_eq(&Name::parse_text("a.local")?), true);
-    assert_eq!(rt; name.exact_eq(&Name::parse_text("A.local")?), false);
-    let mut labels = name.labels();
-    assert_eq!(rt; labels.next_label(), Some(b"a".as_slice()));
-    assert_eq!(rt; labels.as_wire(), b"\x05local\x00".as_slice());
-    Ok(())
-}
-
-#[test]
-fn a_text_has_items(rt: HostRuntime) {
-    let mut items = TextItems::new(br"a.\046\x");
-    assert_eq!(rt; items.next_item(), Some(TextItem::Byte(b'a')));
-    assert_eq!(rt; items.next_item(), Some(TextItem::Dot));
-    assert_eq!(rt; items.next_item(), Some(TextItem::Byte(b'.')));
-    assert_eq!(rt; items.next_item(), Some(TextItem::Bad));
-    assert_eq!(rt; Label::new(b"").is_none(), true);
 }

@@ -1,159 +1,115 @@
-use mdns_base::*;
-use std::alloc::{AllocError, Global};
-use std::process::Abort;
-use std::test::Fail;
+// Rows of numbers, addresses and bytes as text.
 
-#[test]
-fn reads_to_the_end(rt: HostRuntime) -> Result<(), Fail> {
-    let alloc = rt.alloc();
-    let mut source = MemSource::new(
-        Vec::from_slice(alloc, b"abc")?,
-        Vec::from_slice(alloc, &[2])?,
-    );
-    let mut buffer = [0u8; 2];
-    assert_eq!(rt; source.read(&mut buffer), Ok(2));
-    assert_eq!(rt; buffer, *b"ab");
-    assert_eq!(rt; source.read(&mut buffer), Err(Failed));
-    assert_eq!(rt; source.read(&mut buffer), Ok(1));
-    assert_eq!(rt; source.read(&mut buffer), Ok(0));
-    Ok(())
-}
+use crate::error::RowError;
+use crate::fields::{bytes_of, first_word, text_of, two_parts};
+use crate::told::{put_comma, put_text, yes_word};
+use mdns_base::{
+    cut_at, is_same, put_decimal, put_hex, put_ipv4, put_ipv6, read_decimal, read_decimal_u8,
+    read_decimal_u16, read_decimal_u32, read_hex, read_ipv4, read_ipv6,
+};
+use std::alloc::Global;
 
-// A put that isn't listed fails for want of memory alone.
-fn put(sink: &mut MemSink, piece: &[u8]) -> Result<(), AllocError> {
-    sink.put(piece).map_err(|_| AllocError)
-}
-
-#[test]
-fn the_listed_put_fails(rt: HostRuntime) -> Result<(), Fail> {
-    let alloc = rt.alloc();
-    let mut sink = MemSink::new(alloc, Vec::from_slice(alloc, &[2])?);
-    put(&mut sink, b"ab")?;
-    assert_eq!(rt; sink.put(b"cd"), Err(Failed));
-    put(&mut sink, b"ef")?;
-    sink.finish();
-    assert_eq!(rt; sink.bytes(), b"abef".as_slice());
-    Ok(())
-}
-
-#[test]
-fn cuts_are_at_the_first_byte(rt: HostRuntime) {
-    assert_eq!(rt;
-        cut_at(b"a b c", b' ') == Some((b"a".as_slice(), b"b c".as_slice())),
-        true
-    );
-    assert_eq!(rt;
-        cut_at(b" ", b' ') == Some((b"".as_slice(), b"".as_slice())),
-        true
-    );
-    assert_eq!(rt; cut_at(b"abc", b' ').is_none(), true);
-    assert_eq!(rt; is_same(b"ab", b"ab") && !is_same(b"ab", b"aB"), true);
-}
-
-#[test]
-fn decimals_are_read(rt: HostRuntime) {
-    for (text, number) in [
-        ("0", Some(0)),
-        ("10", Some(10)),
-        ("18446744073709551615", Some(u64::MAX)),
-        ("18446744073709551616", None),
-        ("00", None),
-        ("01", None),
-        ("+1", None),
-        ("-1", None),
-        ("1 ", None),
-        ("", None),
-    ] {
-        assert_eq!(rt; read_decimal(text.as_bytes()), number, "{text}");
-    }
-    assert_eq!(rt; read_decimal(b"\xff"), None);
-    assert_eq!(rt; read_decimal_u32(b"4294967295"), Some(u32::MAX));
-    assert_eq!(rt; read_decimal_u32(b"4294967296"), None);
-    assert_eq!(rt; read_decimal_u16(b"65535"), Some(u16::MAX));
-    assert_eq!(rt; read_decimal_u16(b"65536"), None);
-    assert_eq!(rt; read_decimal_u8(b"255"), Some(u8::MAX));
-    assert_eq!(rt; read_decimal_u8(b"256"), None);
-}
-
-#[test]
-fn addresses_are_read(rt: HostRuntime) {
-    for (text, address) in [
-        ("192.0.2.1", Some(0xc000_0201)),
-        ("0.0.0.0", Some(0)),
-        ("255.255.255.255", Some(u32::MAX)),
-        ("192.0.2", None),
-        ("192.0.2.1.1", None),
-        ("192.0.2.256", None),
-        ("192.0.02.1", None),
-        ("192.0..1", None),
-        ("", None),
-    ] {
-        assert_eq!(rt; read_ipv4(text.as_bytes()), address, "{text}");
-    }
-    for (text, address) in [
-        (
-            "2001:0db8:0000:0000:0008:0800:200c:417a",
-            Some(0x2001_0db8_0000_0000_0008_0800_200c_417a),
-        ),
-        (
-            "2001:0DB8:0000:0000:0008:0800:200C:417A",
-            Some(0x2001_0db8_0000_0000_0008_0800_200c_417a),
-        ),
-        ("2001:db8:0:0:8:800:200c:417a", None),
-        ("2001:0db8::0008:0800:200c:417a", None),
-        ("2001:0db8:0000:0000:0008:0800:200c:417g", None),
-        ("2001:0db8:0000:0000:0008:0800:200c:417a:", None),
-        ("2001:0db8:0000:0000:0008:0800:200c417a:", None),
-        ("", None),
-    ] {
-        assert_eq!(rt; read_ipv6(text.as_bytes()), address, "{text}");
+/// `number ..`: what a text is read as, and what a number, an address or bytes are written as.
+pub fn number_row(alloc: Global, out: &mut Vec<u8>, row: &str) -> Result<(), RowError> {
+    match first_word(row) {
+        ("decimal", rest) => put_read(out, rest),
+        ("bytes", digits) => put_number(out, read_decimal(bytes_of(alloc, digits)?.as_slice())),
+        ("ipv4", text) => put_read_ipv4(out, text_of(text)),
+        ("ipv6", text) => put_read_ipv6(out, text_of(text)),
+        ("hex", text) => put_read_hex(alloc, out, text_of(text)),
+        ("cut", text) => put_cut(out, text_of(text)),
+        ("same", rest) => put_same(out, rest),
+        ("put", rest) => put_written(alloc, out, rest),
+        _ => Err(RowError::NotUnderstood),
     }
 }
 
-fn expect_hex(
-    rt: &impl Abort,
-    alloc: Global,
-    text: &str,
-    bytes: Option<&[u8]>,
-) -> Result<(), AllocError> {
-    match (read_hex(alloc, text.as_bytes())?, bytes) {
-        (Some(found), Some(bytes)) => assert_eq!(rt; found.as_slice(), bytes, "{text}"),
-        (None, None) => {}
-        _ => panic!(rt; "{text}"),
+// `decimal BITS TEXT`: the number of so many bits.
+fn put_read(out: &mut Vec<u8>, rest: &str) -> Result<(), RowError> {
+    let (bits, text) = two_parts(rest)?;
+    let text = text_of(text).as_bytes();
+    let number = match bits {
+        "64" => read_decimal(text),
+        "32" => read_decimal_u32(text).map(u64::from),
+        "16" => read_decimal_u16(text).map(u64::from),
+        "8" => read_decimal_u8(text).map(u64::from),
+        _ => return Err(RowError::NotUnderstood),
+    };
+    put_number(out, number)
+}
+
+fn put_number(out: &mut Vec<u8>, number: Option<u64>) -> Result<(), RowError> {
+    match number {
+        Some(number) => Ok(put_decimal(out, number)?),
+        None => put_text(out, "none"),
+    }
+}
+
+// `ipv4 TEXT`: the four bytes of the address.
+fn put_read_ipv4(out: &mut Vec<u8>, text: &str) -> Result<(), RowError> {
+    match read_ipv4(text.as_bytes()) {
+        Some(address) => Ok(put_hex(out, &address.to_be_bytes())?),
+        None => put_text(out, "none"),
+    }
+}
+
+// `ipv6 TEXT`: the sixteen bytes of the address.
+fn put_read_ipv6(out: &mut Vec<u8>, text: &str) -> Result<(), RowError> {
+    match read_ipv6(text.as_bytes()) {
+        Some(address) => Ok(put_hex(out, &address.to_be_bytes())?),
+        None => put_text(out, "none"),
+    }
+}
+
+// `hex TEXT`: the bytes, each in decimal.
+fn put_read_hex(alloc: Global, out: &mut Vec<u8>, text: &str) -> Result<(), RowError> {
+    let Some(bytes) = read_hex(alloc, text.as_bytes())? else {
+        return put_text(out, "none");
+    };
+    if bytes.is_empty() {
+        return put_text(out, "no bytes");
+    }
+    for (place, byte) in bytes.iter().enumerate() {
+        put_comma(out, place)?;
+        put_decimal(out, u64::from(*byte))?;
     }
     Ok(())
 }
 
-#[test]
-fn bytes_are_read(rt: HostRuntime) -> Result<(), Fail> {
-    let alloc = rt.alloc();
-    expect_hex(&rt, alloc, "-", Some(b""))?;
-    expect_hex(&rt, alloc, "00", Some(b"\x00"))?;
-    expect_hex(&rt, alloc, "000140", Some(b"\x00\x01\x40"))?;
-    expect_hex(&rt, alloc, "0aFF", Some(b"\x0a\xff"))?;
-    expect_hex(&rt, alloc, "", None)?;
-    expect_hex(&rt, alloc, "0", None)?;
-    expect_hex(&rt, alloc, "0g", None)?;
-    expect_hex(&rt, alloc, "--", None)?;
-    expect_hex(&rt, alloc, "00 ", None)?;
-    Ok(())
+// `cut TEXT`: what stands before and after the first space.
+fn put_cut(out: &mut Vec<u8>, text: &str) -> Result<(), RowError> {
+    let Some((before, after)) = cut_at(text.as_bytes(), b' ') else {
+        return put_text(out, "none");
+    };
+    put_text(out, "\"")?;
+    out.extend_from_slice(before)?;
+    put_text(out, "\", \"")?;
+    out.extend_from_slice(after)?;
+    put_text(out, "\"")
 }
 
-#[test]
-fn texts_are_written(rt: HostRuntime) -> Result<(), Fail> {
-    let mut out = Vec::new(rt.alloc());
-    put_decimal(&mut out, u64::MAX)?;
-    out.push(b' ')?;
-    put_ipv4(&mut out, 0xc000_0201)?;
-    out.push(b' ')?;
-    put_ipv6(&mut out, 0x2001_0db8_0000_0000_0008_0800_200c_417a)?;
-    out.push(b' ')?;
-    put_hex(&mut out, b"\x0a\xff")?;
-    out.push(b' ')?;
-    put_hex(&mut out, b"")?;
-    assert_eq!(rt;
-        out.as_slice(),
-        b"18446744073709551615 192.0.2.1 2001:0db8:0000:0000:0008:0800:200c:417a 0aff -".as_slice()
-    );
-    Ok(())
+// `same LEFT RIGHT`
+fn put_same(out: &mut Vec<u8>, rest: &str) -> Result<(), RowError> {
+    let (left, right) = two_parts(rest)?;
+    put_text(out, yes_word(is_same(left.as_bytes(), right.as_bytes())))
+}
+
+// `put decimal NUMBER`, `put ipv4 NUMBER`, `put ipv6 NUMBER`, `put hex BYTE ..`: their text. All stand in the row in decimal.
+fn put_written(alloc: Global, out: &mut Vec<u8>, rest: &str) -> Result<(), RowError> {
+    match first_word(rest) {
+        ("decimal", number) => Ok(put_decimal(out, number.parse::<u64>()?)?),
+        ("ipv4", number) => Ok(put_ipv4(out, number.parse::<u32>()?)?),
+        ("ipv6", number) => Ok(put_ipv6(out, number.parse::<u128>()?)?),
+        ("hex", numbers) => Ok(put_hex(out, numbered(alloc, numbers)?.as_slice())?),
+        _ => Err(RowError::NotUnderstood),
+    }
+}
+
+// The bytes of these numbers.
+fn numbered(alloc: Global, numbers: &str) -> Result<Vec<u8>, RowError> {
+    let mut bytes = Vec::new(alloc);
+    for number in numbers.split_whitespace() {
+        bytes.push(number.parse::<u8>()?)?;
+    }
+    Ok(bytes)
 }

@@ -1,236 +1,107 @@
+// Rows of records and their types.
+
+use crate::error::RowError;
+use crate::fields::{bytes_of, first_word, name_of, record_of, text_of, two_parts};
+use crate::told::{order_word, put_text, standing_word};
 use bytes::Bytes;
-use dns_name::Name;
-use dns_record::*;
+use dns_record::{
+    Key, Rdata, RecordError, Rr, matches, put_kind, rdata_cmp, read_kind, record_cmp,
+};
+use mdns_base::put_decimal;
 use std::alloc::{AllocError, Global};
-use std::cmp::Ordering;
-use std::process::Abort;
-use std::test::Fail;
 
-fn expect_text(
-    rt: &impl Abort,
-    alloc: Global,
-    text: &str,
-    written: &str,
-) -> Result<(), RecordError> {
-    let rr = Rr::parse_text(alloc, text)?;
-    assert_eq!(rt;
-        rr.write_text(alloc)?.as_slice(),
-        written.as_bytes(),
-        "{text}"
-    );
-    let copy = rr.copy()?;
-    assert_eq!(rt;
-        copy.write_text(alloc)?.as_slice(),
-        written.as_bytes(),
-        "{text}"
-    );
-    assert_eq!(rt; copy.same(&rr), true, "{text}");
-    Ok(())
+/// `record ..`: what a text is read as, types, how two records stand to each other, and which a question asks for.
+pub fn record_row(alloc: Global, out: &mut Vec<u8>, row: &str) -> Result<(), RowError> {
+    match first_word(row) {
+        ("read", text) => put_read(alloc, out, text_of(text)),
+        ("type", text) => put_type(out, text_of(text)),
+        ("compare", rest) => put_order(alloc, out, rest),
+        ("asked", rest) => put_asked(alloc, out, rest),
+        ("raw", rest) => put_raw(alloc, out, rest),
+        _ => Err(RowError::NotUnderstood),
+    }
 }
 
-#[test]
-fn records_are_read_and_written(rt: HostRuntime) -> Result<(), Fail> {
-    let alloc = rt.alloc();
-    for text in [
-        "a.local. 120 flush A 192.0.2.1",
-        "h.local. 10 - A 10.0.0.1",
-        "h.local. 120 flush AAAA 2001:0db8:0000:0000:0008:0800:200c:417a",
-        "_ipp._tcp.local. 4500 - PTR Printer._ipp._tcp.local.",
-        "a.local. 0 - CNAME b.local.",
-        r"Office\032Printer._ipp._tcp.local. 120 flush SRV 0 0 631 h.local.",
-        "Printer._ipp._tcp.local. 4500 flush TXT 00",
-        "Printer._ipp._tcp.local. 4294967295 - TXT -",
-        "h.local. 120 flush NSEC h.local. 000140",
-        "local. 120 - NS 0161056c6f63616c00",
-        "local. 120 - MX 000a0161056c6f63616c00",
-        "local. 120 - SOA 0161056c6f63616c00000000000100000002000000030000000400000005",
-        "a.local. 120 - HINFO 03415054034f5358",
-        ". 120 - ANY -",
-        "a.local. 120 - TYPE99 00ff",
-        "a.local. 120 - TYPE0 -",
-    ] {
-        expect_text(&rt, alloc, text, text)?;
-    }
-    for (text, written) in [
-        ("a.local 1 - A 10.0.0.1", "a.local. 1 - A 10.0.0.1"),
-        (
-            "h. 1 - AAAA FE80:0000:0000:0000:0000:0000:0000:00aB",
-            "h. 1 - AAAA fe80:0000:0000:0000:0000:0000:0000:00ab",
-        ),
-        ("h. 1 - TXT 0AfF", "h. 1 - TXT 0aff"),
-        (r"\097\.. 1 - NSEC . -", r"a\.. 1 - NSEC . -"),
-    ] {
-        expect_text(&rt, alloc, text, written)?;
-    }
-    Ok(())
+// The two parts of a row around `|`.
+fn two_sides(rest: &str) -> Result<(&str, &str), RowError> {
+    rest.split_once(" | ").ok_or(RowError::NotUnderstood)
 }
 
-// Whether a text is no record's. Want of memory is passed on.
-fn is_bad(alloc: Global, text: &str) -> Result<bool, AllocError> {
+// `read TEXT`: the record as it is written. Its copy is the same and is written so, too.
+fn put_read(alloc: Global, out: &mut Vec<u8>, text: &str) -> Result<(), RowError> {
     match Rr::parse_text(alloc, text) {
-        Ok(_) => Ok(false),
-        Err(RecordError::BadText) => Ok(true),
-        Err(RecordError::NoMemory) => Err(AllocError),
+        Ok(rr) => put_with_copy(alloc, out, &rr),
+        Err(RecordError::BadText) => put_text(out, "bad text"),
+        Err(RecordError::NoMemory) => Err(RowError::NoMemory(AllocError)),
     }
 }
 
-#[test]
-fn other_texts_are_bad(rt: HostRuntime) -> Result<(), Fail> {
-    let alloc = rt.alloc();
-    for text in [
-        "",
-        "a. 1 - A",
-        "a. 1 - A 10.0.0.1 ",
-        "a.  1 - A 10.0.0.1",
-        " a. 1 - A 10.0.0.1",
-        "a.. 1 - A 10.0.0.1",
-        "a. 01 - A 10.0.0.1",
-        "a. 4294967296 - A 10.0.0.1",
-        "a. 1 FLUSH A 10.0.0.1",
-        "a. 1 - a 10.0.0.1",
-        "a. 1 - TYPE1 0a000001",
-        "a. 1 - TYPE16 -",
-        "a. 1 - A 0a000001",
-        "a. 1 - SRV 0 0 65536 h.",
-        "a. 1 - SRV 0 0 631",
-        "a. 1 - SRV 0 0 631 h. x",
-        "a. 1 - PTR  b.",
-        "a. 1 - PTR b. ",
-        "a. 1 - CNAME b c.",
-        "a. 1 - TXT 0",
-        "a. 1 - NSEC h.",
-        "a. 1 - OPT -",
-        "a. 1 - TYPE41 -",
-        "a. 1 - NS 016100ff",
-        "a. 1 - NS 0261",
-        "a. 1 - NS -",
-        "a. 1 - NS c000",
-        "a. 1 - MX 000a",
-        "a. 1 - MX 00",
-        "a. 1 - SOA 00000000000001",
-    ] {
-        assert!(rt; is_bad(alloc, text)?, "{text}");
-    }
-    Ok(())
+fn put_with_copy(alloc: Global, out: &mut Vec<u8>, rr: &Rr) -> Result<(), RowError> {
+    let text = rr.write_text(alloc)?;
+    out.extend_from_slice(text.as_slice())?;
+    let copy = rr.copy()?;
+    let copied = copy.write_text(alloc)?;
+    let is_same = copy.same(rr) && copied.as_slice() == text.as_slice();
+    put_text(out, if is_same { "" } else { ", not so its copy" })
 }
 
-#[test]
-fn types_are_read_and_written(rt: HostRuntime) -> Result<(), Fail> {
-    // The IANA registry of types.
-    for (text, kind) in [
-        ("A", 1),
-        ("NS", 2),
-        ("CNAME", 5),
-        ("SOA", 6),
-        ("PTR", 12),
-        ("HINFO", 13),
-        ("MX", 15),
-        ("TXT", 16),
-        ("AAAA", 28),
-        ("SRV", 33),
-        ("OPT", 41),
-        ("NSEC", 47),
-        ("ANY", 255),
-        ("TYPE0", 0),
-        ("TYPE3", 3),
-        ("TYPE65535", 65535),
-    ] {
-        assert_eq!(rt; read_kind(text.as_bytes()), Some(kind), "{text}");
-        let mut out = Vec::new(rt.alloc());
-        put_kind(&mut out, kind)?;
-        assert_eq!(rt; out.as_slice(), text.as_bytes());
-    }
-    for text in [
-        "a",
-        "TYPE1",
-        "TYPE255",
-        "TYPE03",
-        "TYPE65536",
-        "TYPE",
-        "TYPE-1",
-        "",
-    ] {
-        assert_eq!(rt; read_kind(text.as_bytes()), None, "{text}");
-    }
-    Ok(())
+// `type TEXT`: the number of the type, and the text of that number.
+fn put_type(out: &mut Vec<u8>, text: &str) -> Result<(), RowError> {
+    let Some(kind) = read_kind(text.as_bytes()) else {
+        return put_text(out, "none");
+    };
+    put_decimal(out, u64::from(kind))?;
+    put_text(out, " ")?;
+    Ok(put_kind(out, kind)?)
 }
 
-fn order(alloc: Global, left: &str, right: &str) -> Result<(Ordering, bool), RecordError> {
-    let (left, right) = (Rr::parse_text(alloc, left)?, Rr::parse_text(alloc, right)?);
-    Ok((record_cmp(&left, &right), left.same(&right)))
+// `compare LEFT | RIGHT`: their order; they are equal exactly where they are the same.
+fn put_order(alloc: Global, out: &mut Vec<u8>, rest: &str) -> Result<(), RowError> {
+    let (left, right) = two_sides(rest)?;
+    let left = record_of(alloc, left)?;
+    let right = record_of(alloc, right)?;
+    put_text(
+        out,
+        standing_word(record_cmp(&left, &right), left.same(&right)),
+    )
 }
 
-#[test]
-fn records_are_compared(rt: HostRuntime) -> Result<(), Fail> {
-    let alloc = rt.alloc();
-    for (left, right, expected) in [
-        // The owner's case, the TTL and the flush bit don't count.
-        (
-            "a.local. 1 - A 10.0.0.1",
-            "A.LOCAL. 2 flush A 10.0.0.1",
-            Ordering::Equal,
-        ),
-        (
-            "A.local. 1 - A 10.0.0.1",
-            "a.Local. 1 - A 10.0.0.1",
-            Ordering::Equal,
-        ),
-        // A name in data is compared byte for byte.
-        ("a. 1 - PTR b.", "a. 1 - PTR B.", Ordering::Greater),
-        // Owners go by wire form, so a shorter label is first.
-        ("b. 1 - A 10.0.0.1", "aa. 1 - A 10.0.0.1", Ordering::Less),
-        // Then the number of the type, and then the bytes of the data. (RFC 6762 8.2.1)
-        ("a. 1 - TXT ff", "a. 1 - SRV 0 0 0 .", Ordering::Less),
-        (
-            "a. 1 - A 169.254.99.200",
-            "a. 1 - A 169.254.200.50",
-            Ordering::Less,
-        ),
-        ("a. 1 - A 200.0.0.1", "a. 1 - A 2.0.0.1", Ordering::Greater),
-        ("a. 1 - TXT -", "a. 1 - TXT 00", Ordering::Less),
-        (
-            "a. 1 - SRV 0 1 0 b.",
-            "a. 1 - SRV 0 0 255 c.",
-            Ordering::Greater,
-        ),
-        ("a. 1 - NSEC b. 00", "a. 1 - NSEC b. 01", Ordering::Less),
-    ] {
-        assert_eq!(rt;
-            order(alloc, left, right)?,
-            (expected, expected == Ordering::Equal),
-            "{left}"
-        );
-    }
-    Ok(())
+// `asked NAME NUMBER | RECORD`: whether a question for the name and the type asks for the record. Its copy does the same.
+fn put_asked(alloc: Global, out: &mut Vec<u8>, rest: &str) -> Result<(), RowError> {
+    let (question, record) = two_sides(rest)?;
+    let rr = record_of(alloc, record)?;
+    let key = key_of(question)?;
+    let word = match (matches(&key, &rr), matches(&key.copy(), &rr)) {
+        (true, true) => "yes",
+        (false, false) => "no",
+        _ => "not so its copy",
+    };
+    put_text(out, word)
 }
 
-#[test]
-fn questions_match(rt: HostRuntime) -> Result<(), Fail> {
-    let alloc = rt.alloc();
-    let rr = Rr::parse_text(alloc, "a.local. 1 - A 10.0.0.1")?;
-    for (name, kind, expected) in [
-        ("A.local", 1, true),
-        ("a.local", 255, true),
-        ("a.local", 28, false),
-        ("b.local", 255, false),
-    ] {
-        let key = Key {
-            name: Name::parse_text(name)?,
-            kind,
-        };
-        assert_eq!(rt; matches(&key, &rr), expected, "{name}");
-        assert_eq!(rt; matches(&key.copy(), &rr), expected, "{name}");
-    }
-    Ok(())
+/// The question for a name and the number of a type.
+pub fn key_of(question: &str) -> Result<Key, RowError> {
+    let (name, kind) = two_parts(question)?;
+    Ok(Key {
+        name: name_of(name)?,
+        kind: kind.parse::<u16>()?,
+    })
 }
 
-#[test]
-fn data_without_their_form_are_of_no_record(rt: HostRuntime) -> Result<(), Fail> {
-    let alloc = rt.alloc();
-    let bytes = Bytes::copy_from_slice(alloc, &[7, 8])?;
-    let raw = Rdata::Raw { kind: 16, bytes };
-    assert_eq!(rt; raw.is_valid(), false);
-    let txt = Rdata::Txt(Bytes::new());
-    assert_eq!(rt; rdata_cmp(&raw, &txt), Ordering::Greater);
-    Ok(())
+// `raw NUMBER BYTES`: whether these are data of a type without a form of its own, and their order to TXT data of no bytes.
+fn put_raw(alloc: Global, out: &mut Vec<u8>, rest: &str) -> Result<(), RowError> {
+    let (kind, bytes) = two_parts(rest)?;
+    let raw = Rdata::Raw {
+        kind: kind.parse::<u16>()?,
+        bytes: Bytes::from_vec(bytes_of(alloc, bytes)?)?,
+    };
+    put_text(
+        out,
+        if raw.is_valid() {
+            "good form, "
+        } else {
+            "bad form, "
+        },
+    )?;
+    put_text(out, order_word(rdata_cmp(&raw, &Rdata::Txt(Bytes::new()))))
 }

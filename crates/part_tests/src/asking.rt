@@ -1,103 +1,80 @@
-// That the calls succeed with ample memory, and the moments of RFC 6762 5.2 as numbers.
+// Rows of a daemon's questions: which begin, and when each is asked. (RFC 6762 5.2)
 ghost use Rattle.std.specs.Prelude.{IfOk};
 ghost use Rattle.mdns_happened.specs.Told.{told_by};
 ghost use Rattle.sd_sessions.specs.Kept.{IsWellFormedCall};
 ghost use Rattle.mdns_asking.specs.Walked.{AreHeard};
 
+use crate::error::RowError;
+use crate::read::{held, key, when};
+use crate::told::Told;
 use dns_name::Name;
-use dns_record::Rr;
 use mdns_asking::{Asking, Plan};
 use mdns_happened::{Happened, OwnWalk, Walk, When};
-use mdns_history::{Cause, Held, Marks, Sends};
+use mdns_history::{Held, Marks, Sends};
 use sd_call::{Request, well_formed};
 use sd_sessions::Sessions;
 use std::alloc::Global;
-use std::process::Abort;
-use std::test::Fail;
 
-// A question that begins at 1000 with a word of 0, and a record of 120 seconds that answers it and was heard then: the series is due 20 ms
-// later, a second behind its first asking and twice as long each time; the record is refreshed at 80, 85, 90 and 95 percent of its life.
-const ASKINGS: [(u32, Cause); 13] = [
-    (1020, Cause::Series),
-    (2020, Cause::Series),
-    (4020, Cause::Series),
-    (8020, Cause::Series),
-    (16_020, Cause::Series),
-    (32_020, Cause::Series),
-    (64_020, Cause::Series),
-    (97_000, Cause::Refresh),
-    (103_000, Cause::Refresh),
-    (109_000, Cause::Refresh),
-    (115_000, Cause::Refresh),
-    (128_020, Cause::Series),
-    (256_020, Cause::Series),
-];
-
-fn name(text: &str) -> Result<Name, Fail> {
-    Ok(Name::parse_text(text).map_err(|_| "name")?)
-}
-
-// The walk of the question's name: its record, which was heard at 1000, with this end.
-fn walks(alloc: Global, now: u64, end: u64) -> Result<Vec<Walk>, Fail>
-    ensures { IfOk result (λ walks. AreHeard now walks.items) }
-{
-    let mut later = Vec::new(alloc);
-    if 1000 <= now {
-        let rr = Rr::parse_text(alloc, "a.local. 120 - A 192.0.2.1")?;
-        later.push(Held {
-            rr,
-            heard: 1000,
-            word: 0,
-            end,
-        })?;
+/// A row of a daemon's questions. `call` has a moment, a random word and what a session queries, `tick` a moment, a word and the name that
+/// is touched, or `-`; both have the name that is walked and the one record that is held of it. They tell when the first question was due,
+/// what is asked, begun and ended, and how many names are walked, messages sent and askings marked.
+pub fn asking_row(told: &mut Told, asking: &mut Asking, row: &[&str]) -> Result<(), RowError> {
+    match row {
+        ["new"] => {
+            *asking = Asking::new(told.alloc);
+            told.put("done")
+        }
+        ["call", now, word, asked, name, record] => {
+            let event = Event::new(told.alloc, when(*now, *word)?, *name, *record)?;
+            call(told, asking, event, *asked)
+        }
+        ["tick", now, word, touched, name, record] => {
+            let mut event = Event::new(told.alloc, when(*now, *word)?, *name, *record)?;
+            event.touch(*touched)?;
+            step(told, asking, event, &Happened::Ticked)
+        }
+        ["next"] => told.put_number(asking.first_due()),
+        _ => Err(RowError::NotUnderstood),
     }
-    let mut walks = Vec::new(alloc);
-    walks.push(Walk {
-        name: name("A.local")?,
-        earlier: Vec::new(alloc),
-        later,
-        own: OwnWalk::none(alloc),
-    })?;
-    Ok(walks)
 }
 
-// Does one event, and answers its plan, how many names it walks and how many messages it sends.
-fn step(
-    alloc: Global,
-    asking: &mut Asking,
-    now: u32,
-    happened: &Happened<'_>,
-    end: u64,
-) -> Result<(Plan, usize, usize), Fail>
-    requires { IsWellFormedCall (told_by happened.now).call }
-{
-    let when = When {
-        moment: u64::from(now),
-        word: 0,
-    };
-    let mut touched = Vec::new(alloc);
-    if end < 121_000 {
-        touched.push(name("a.LOCAL")?)?;
+// When an event comes, the names that it touches, and the name that is walked, of which one record is held.
+#[derive(Drop)]
+struct Event {
+    when: When,
+    touched: Vec<Name>,
+    name: Name,
+    held: Held,
+}
+
+impl Event {
+    fn new(alloc: Global, when: When, name: &str, record: &str) -> Result<Event, RowError> {
+        Ok(Event {
+            when,
+            touched: Vec::new(alloc),
+            name: Name::parse_text(name)?,
+            held: held(alloc, record)?,
+        })
     }
-    let mut names = Vec::new(alloc);
-    asking.put_names(&mut names, when, happened, &touched)?;
-    let walks = walks(alloc, when.moment, end)?;
-    let mut sent = Sends::new(alloc);
-    let plan = asking.plan(when, happened, &walks, &Sessions::new(alloc), &mut sent)?;
-    asking.reserve(&plan)?;
-    asking.apply(when, &plan, &walks);
-    Ok((plan, names.len(), sent.as_slice().len()))
+
+    // Touches a name too; `-` is none.
+    fn touch(&mut self, name: &str) -> Result<(), RowError> {
+        if name != "-" {
+            self.touched.push(Name::parse_text(name)?)?;
+        }
+        Ok(())
+    }
 }
 
-// A call starts the question at 1000.
-fn started(rt: &impl Abort, alloc: Global) -> Result<Asking, Fail> {
-    let mut asking = Asking::new(alloc);
+// A call of the first session is accepted.
+fn call(told: &mut Told, asking: &mut Asking, event: Event, asked: &str) -> Result<(), RowError> {
+    let asked = key(asked)?;
     let request = Request::Query {
-        kind: 1,
-        name: name("a.local")?,
+        kind: asked.kind,
+        name: asked.name,
     };
     if !well_formed(&request) {
-        Err("request")?;
+        return Err(RowError::NotUnderstood);
     }
     let happened = Happened::Called {
         session: 1,
@@ -105,49 +82,62 @@ fn started(rt: &impl Abort, alloc: Global) -> Result<Asking, Fail> {
         request: &request,
         code: 0,
     };
-    let (plan, walked, sent) = step(alloc, &mut asking, 1000, &happened, 121_000)?;
-    assert_eq!(rt;
-        (plan.begun.len(), plan.ended.len(), walked, sent),
-        (1, 0, 1, 0)
-    );
-    Ok(asking)
+    step(told, asking, event, &happened)
 }
 
-// Asks what is due, each at the first moment at which it is, and expects these moments and causes.
-fn expect_askings(
-    rt: &impl Abort,
-    alloc: Global,
+fn step(
+    told: &mut Told,
     asking: &mut Asking,
-    expected: &[(u32, Cause)],
-) -> Result<(), Fail> {
-    for (now, cause) in expected {
-        assert_eq!(rt; asking.first_due(), Some(u64::from(*now)));
-        let (plan, walked, sent) = step(alloc, asking, *now, &Happened::Ticked, 121_000)?;
-        assert_eq!(rt; (plan.asked.len(), sent, walked), (1, 1, 1));
-        assert!(rt; plan.asked.iter().all(|asked| asked.1 == *cause), "{now}");
-        let mut marks = Marks::new(alloc);
-        plan.put_askings(&mut marks)?;
-        assert_eq!(rt; marks.as_slice().len(), 1);
+    event: Event,
+    happened: &Happened<'_>,
+) -> Result<(), RowError>
+    requires { IsWellFormedCall (told_by happened.now).call }
+{
+    let alloc = told.alloc;
+    told.put("due ")?;
+    told.put_number(asking.first_due())?;
+    let when = event.when;
+    let mut names = Vec::new(alloc);
+    asking.put_names(&mut names, when, happened, &event.touched)?;
+    let walks = walks(alloc, when.moment, event.name, event.held)?;
+    let mut sent = Sends::new(alloc);
+    let plan = asking.plan(when, happened, &walks, &Sessions::new(alloc), &mut sent)?;
+    asking.reserve(&plan)?;
+    asking.apply(when, &plan, &walks);
+    told.put_count(", walked ", names.len())?;
+    told.put_count(", sent ", sent.as_slice().len())?;
+    put_plan(told, &plan)
+}
+
+// The walk of a name: its record, once it was heard.
+fn walks(alloc: Global, now: u64, name: Name, one: Held) -> Result<Vec<Walk>, RowError>
+    ensures { IfOk result (λ walks. AreHeard now walks.items) }
+{
+    let mut later = Vec::new(alloc);
+    if one.heard <= now {
+        later.push(one)?;
     }
-    Ok(())
+    let mut walks = Vec::new(alloc);
+    walks.push(Walk {
+        name,
+        earlier: Vec::new(alloc),
+        later,
+        own: OwnWalk::none(alloc),
+    })?;
+    Ok(walks)
 }
 
-#[test]
-fn a_question_is_asked_in_series_and_for_refreshes(rt: HostRuntime) -> Result<(), Fail> {
-    let alloc = rt.alloc();
-    let mut asking = started(&rt, alloc)?;
-    expect_askings(&rt, alloc, &mut asking, &ASKINGS)
-}
-
-// A record whose end is cut isn't refreshed, and a tick that asks nothing walks what is touched alone.
-#[test]
-fn a_touched_question_is_told_its_point(rt: HostRuntime) -> Result<(), Fail> {
-    let alloc = rt.alloc();
-    let mut asking = started(&rt, alloc)?;
-    expect_askings(&rt, alloc, &mut asking, ASKINGS.split_at(7).0)?;
-    assert_eq!(rt; asking.first_due(), Some(97_000));
-    let (plan, walked, sent) = step(alloc, &mut asking, 90_000, &Happened::Ticked, 91_000)?;
-    assert_eq!(rt; (plan.asked.len(), sent, walked), (0, 0, 1));
-    assert_eq!(rt; asking.first_due(), Some(128_020));
-    Ok(())
+// What is asked, and why; how many questions begin and end, and how many askings are marked.
+fn put_plan(told: &mut Told, plan: &Plan) -> Result<(), RowError> {
+    told.put_count(", begun ", plan.begun.len())?;
+    told.put_count(", ended ", plan.ended.len())?;
+    let mut marks = Marks::new(told.alloc);
+    plan.put_askings(&mut marks)?;
+    told.put_count(", marked ", marks.as_slice().len())?;
+    told.put(", asked ")?;
+    for (place, asked) in plan.asked.iter().enumerate() {
+        told.put_plus(place)?;
+        told.put_cause(asked.1)?;
+    }
+    told.put_none(plan.asked.is_empty())
 }

@@ -1,4 +1,8 @@
-// Last multicasts: what stays in memory, and each call once with ample memory.
+// Rows of last multicasts. (RFC 6762 5.4 and 6)
+
+use crate::error::RowError;
+use crate::read::{moment, number, record};
+use crate::told::Told;
 use bytes::Bytes;
 use dns_message::{Message, Questions, Rrs};
 use dns_name::Name;
@@ -7,78 +11,81 @@ use mdns_base::Dest;
 use mdns_history::Sent;
 use mdns_reply::{Lasts, multicasts};
 use std::alloc::Global;
-use std::test::Fail;
 
-// Ten thousand updates of a TXT record, a second apart: of a quarter of 4500 seconds each is kept, and of twice as many none.
-#[test]
-fn updates_stay_few(rt: HostRuntime) -> Result<(), Fail> {
-    let alloc = rt.alloc();
-    let mut lasts = Lasts::new(alloc, 1);
-    let mut most = 0;
-    for second in 0..10_000u32 {
-        let mut sent = Rrs::new(alloc);
-        sent.push(txt(alloc, second)?)?;
-        note(&mut lasts, 1000 * u64::from(second), sent)?;
-        most = most.max(lasts.len());
+/// A row of last multicasts: `send` multicasts a record in a response, `update` multicasts so many updates of a TXT record a second apart,
+/// and tells whether the most that were kept lie between two numbers. The other rows ask when a record was multicast, and whether that
+/// is long ago.
+pub fn last_row(told: &mut Told, lasts: &mut Lasts, row: &[&str]) -> Result<(), RowError> {
+    let alloc = told.alloc;
+    match row {
+        ["new"] => {
+            *lasts = Lasts::new(alloc, 1);
+            told.put("done")
+        }
+        ["send", now, rr] => {
+            let sent = [response(alloc, record(alloc, *rr)?)?];
+            let made = multicasts(alloc, &sent)?;
+            told.put_count("", made.as_slice().len())?;
+            note(lasts, number(*now)?, made)
+        }
+        ["update", count, least, greatest] => {
+            let most = update(alloc, lasts, number(*count)?)?;
+            let (least, greatest) = (moment(*least)?, moment(*greatest)?);
+            told.put_yes(least < most as u64 && (most as u64) < greatest)
+        }
+        _ => last_look(told, lasts, row),
     }
-    assert!(rt; most > 1125 && most < 2300, "{most}");
-    assert!(rt; lasts.last(&txt(alloc, 9000)?) == Some(9_000_000));
-    assert!(rt; lasts.last(&txt(alloc, 0)?).is_none());
-    Ok(())
 }
 
-// A record that was multicast at 5000 ms, and then taken back.
-#[test]
-fn time_passes_since_a_multicast(rt: HostRuntime) -> Result<(), Fail> {
-    let alloc = rt.alloc();
-    let mut lasts = Lasts::new(alloc, 1);
-    let rr = Rr::parse_text(alloc, "a.local. 120 flush A 192.0.2.1")?;
-    assert!(rt; lasts.is_empty() && lasts.is_free(&rr, 0) && !lasts.is_recent(&rr, 0));
-
-    let sent = response(alloc, "A.local. 120 - A 192.0.2.1")?;
-    let made = multicasts(alloc, &[sent])?;
-    assert!(rt; made.as_slice().len() == 1);
-    note(&mut lasts, 5000, made)?;
-    assert!(rt; lasts.last(&rr) == Some(5000));
-    assert!(rt; !lasts.is_free(&rr, 5999) && lasts.is_free(&rr, 6000));
-    assert!(rt; !lasts.is_free_to_defend(&rr, 5249) && lasts.is_free_to_defend(&rr, 5250));
-    assert!(rt; lasts.is_recent(&rr, 34_999) && !lasts.is_recent(&rr, 35_000));
-
-    let goodbye = response(alloc, "a.local. 0 - A 192.0.2.1")?;
-    let made = multicasts(alloc, &[goodbye])?;
-    note(&mut lasts, 7000, made)?;
-    assert!(rt; lasts.is_empty());
-    Ok(())
+// A row that changes nothing.
+fn last_look(told: &mut Told, lasts: &Lasts, row: &[&str]) -> Result<(), RowError> {
+    let alloc = told.alloc;
+    match row {
+        ["empty"] => told.put_yes(lasts.is_empty()),
+        ["of", rr] => told.put_number(lasts.last(&record(alloc, *rr)?)),
+        ["free", now, rr] => told.put_yes(lasts.is_free(&record(alloc, *rr)?, moment(*now)?)),
+        ["defend", now, rr] => {
+            let rr = record(alloc, *rr)?;
+            told.put_yes(lasts.is_free_to_defend(&rr, moment(*now)?))
+        }
+        ["recent", now, rr] => told.put_yes(lasts.is_recent(&record(alloc, *rr)?, moment(*now)?)),
+        _ => Err(RowError::NotUnderstood),
+    }
 }
-
-// The greatest moment, in ms.
-const LAST_MOMENT: u64 = 1 << 53;
 
 // Takes room for what is multicast, and notes it.
-fn note(lasts: &mut Lasts, now: u64, sent: Rrs) -> Result<(), Fail> {
+fn note(lasts: &mut Lasts, now: u32, sent: Rrs) -> Result<(), RowError> {
     lasts.reserve(&sent)?;
-    if now <= LAST_MOMENT {
-        lasts.apply(now, sent);
-    }
+    lasts.apply(u64::from(now), sent);
     Ok(())
+}
+
+// Multicasts so many updates of a TXT record, a second apart; how many moments were kept at most.
+fn update(alloc: Global, lasts: &mut Lasts, count: u32) -> Result<usize, RowError> {
+    let mut most = 0;
+    for second in 0..count {
+        let mut sent = Rrs::new(alloc);
+        sent.push(txt(alloc, second)?)?;
+        note(lasts, second.saturating_mul(1000), sent)?;
+        most = most.max(lasts.len());
+    }
+    Ok(most)
 }
 
 // A TXT record with four bytes of data that count.
-fn txt(alloc: Global, number: u32) -> Result<Rr, Fail> {
-    let mut bytes = Vec::new(alloc);
-    bytes.extend_from_slice(&number.to_be_bytes())?;
+fn txt(alloc: Global, number: u32) -> Result<Rr, RowError> {
     Ok(Rr {
-        owner: Name::parse_text("a.local").map_err(|_| "name")?,
+        owner: Name::parse_text("a.local")?,
         flush: true,
         ttl: 4500,
-        rdata: Rdata::Txt(Bytes::from_vec(bytes)?),
+        rdata: Rdata::Txt(Bytes::copy_from_slice(alloc, &number.to_be_bytes())?),
     })
 }
 
 // A response to all with one answer.
-fn response(alloc: Global, answer: &str) -> Result<Sent, Fail> {
+fn response(alloc: Global, answer: Rr) -> Result<Sent, RowError> {
     let mut answers = Rrs::new(alloc);
-    answers.push(Rr::parse_text(alloc, answer)?)?;
+    answers.push(answer)?;
     Ok(Sent {
         to: Dest::All,
         message: Message {

@@ -1,148 +1,129 @@
-use dns_name::Name;
-use dns_record::{Key, Rr};
+// Rows of a question's askings: its series, and the refreshes of a record that answers it. (RFC 6762 5.2)
+
+use crate::error::RowError;
+use crate::read::{held, key, moment, number};
+use crate::told::Told;
+use dns_record::{Key, put_name};
+use mdns_base::put_decimal;
 use mdns_history::{Cause, Held};
-use mdns_question::*;
+use mdns_question::{Asker, first_refresh};
 use std::alloc::Global;
-use std::process::Abort;
-use std::test::Fail;
 
-// The series of RFC 6762 5.2 with a word of 0: a second behind the first asking, twice as long each time, an hour at most.
-const SERIES: [(u32, Cause); 14] = [
-    (20, Cause::Series),
-    (1020, Cause::Series),
-    (3020, Cause::Series),
-    (7020, Cause::Series),
-    (15_020, Cause::Series),
-    (31_020, Cause::Series),
-    (63_020, Cause::Series),
-    (127_020, Cause::Series),
-    (255_020, Cause::Series),
-    (511_020, Cause::Series),
-    (1_023_020, Cause::Series),
-    (2_047_020, Cause::Series),
-    (4_095_020, Cause::Series),
-    (7_695_020, Cause::Series),
-];
-
-// A record of 120 seconds that was heard at 1000 is refreshed at 80, 85, 90 and 95 percent of them.
-const REFRESHES: [(u32, Cause); 12] = [
-    (20, Cause::Series),
-    (1020, Cause::Series),
-    (3020, Cause::Series),
-    (7020, Cause::Series),
-    (15_020, Cause::Series),
-    (31_020, Cause::Series),
-    (63_020, Cause::Series),
-    (97_000, Cause::Refresh),
-    (103_000, Cause::Refresh),
-    (109_000, Cause::Refresh),
-    (115_000, Cause::Refresh),
-    (127_020, Cause::Series),
-];
-
-fn question(text: &str, kind: u16) -> Result<Key, Fail> {
-    let name = Name::parse_text(text).map_err(|_| "name")?;
-    Ok(Key { name, kind })
+/// The questions, and the records that are held.
+#[derive(Drop)]
+pub struct Asked {
+    asker: Asker,
+    held: Vec<Held>,
 }
 
-fn record(alloc: Global, end: u64) -> Result<Held, Fail> {
-    let rr = Rr::parse_text(alloc, "a.local. 120 - A 192.0.2.1")?;
-    Ok(Held {
-        rr,
-        heard: 1000,
-        word: 0,
-        end,
-    })
-}
-
-// Tells the first refresh point of the question over these records.
-fn tell(asker: &mut Asker, held: &[Held]) -> Result<(), Fail> {
-    let one = asker.questions().first().ok_or("a question")?;
-    let (key, point) = (one.key.copy(), first_refresh(one, held));
-    asker.tell(&key, point);
-    Ok(())
-}
-
-// Asks what is due, each at the first moment at which it is, and expects these moments and causes.
-fn expect_askings(
-    rt: &impl Abort,
-    alloc: Global,
-    asker: &mut Asker,
-    held: &[Held],
-    expected: &[(u32, Cause)],
-) -> Result<(), Fail> {
-    for (moment, cause) in expected {
-        let now = u64::from(*moment);
-        assert_eq!(rt; asker.first_due(), Some(now));
-        let due = asker.due_by_kept(alloc, now)?;
-        assert_eq!(rt; due.len(), 1);
-        for one in &due {
-            assert!(rt; one.1 == *cause, "{now}");
-            asker.asked(now, &one.0, *cause);
+impl Asked {
+    /// No questions and no records.
+    pub fn new(alloc: Global) -> Asked {
+        Asked {
+            asker: Asker::new(alloc),
+            held: Vec::new(alloc),
         }
-        tell(asker, held)?;
     }
-    Ok(())
+
+    /// A row of questions: `start` and `stop` give a question a user and take one from it, `ask` asks what is due at a moment, `hold` has
+    /// the one record that is held, and `forget` drops what a question was told of it.
+    pub fn row(&mut self, told: &mut Told, row: &[&str]) -> Result<(), RowError> {
+        let alloc = told.alloc;
+        match row {
+            ["new"] => {
+                *self = Asked::new(alloc);
+                told.put("done")
+            }
+            ["reserve", more] => {
+                self.asker.reserve(number(*more)? as usize)?;
+                told.put("done")
+            }
+            ["start", now, word, question] => {
+                let question = key(*question)?;
+                start(&mut self.asker, number(*now)?, number(*word)?, &question)?;
+                told.put("done")
+            }
+            ["stop", question] => told.put_yes(self.asker.stop(&key(*question)?)),
+            ["hold", record] => self.hold(told, *record),
+            ["forget", question] => {
+                self.asker.tell(&key(*question)?, None);
+                told.put("done")
+            }
+            ["ask", now] => self.ask(told, number(*now)?),
+            _ => self.look(told, row),
+        }
+    }
+
+    // A row that changes nothing.
+    fn look(&self, told: &mut Told, row: &[&str]) -> Result<(), RowError> {
+        let alloc = told.alloc;
+        match row {
+            ["next"] => told.put_number(self.asker.first_due()),
+            ["due", now] => {
+                let due = self.asker.due_by_kept(alloc, moment(*now)?)?;
+                told.put_count("", due.len())
+            }
+            ["count"] => told.put_count("", self.asker.questions().len()),
+            ["first"] => self.tell_first(told),
+            _ => Err(RowError::NotUnderstood),
+        }
+    }
+
+    // Another record is held in place of those before.
+    fn hold(&mut self, told: &mut Told, text: &str) -> Result<(), RowError> {
+        let alloc = told.alloc;
+        self.held = Vec::new(alloc);
+        self.held.push(held(alloc, text)?)?;
+        self.tell_refresh()?;
+        told.put("done")
+    }
+
+    // Tells the first question the first refresh of the held records.
+    fn tell_refresh(&mut self) -> Result<(), RowError> {
+        let one = self
+            .asker
+            .questions()
+            .first()
+            .ok_or(RowError::NotUnderstood)?;
+        let (key, point) = (one.key.copy(), first_refresh(one, &self.held));
+        self.asker.tell(&key, point);
+        Ok(())
+    }
+
+    // When the first question is due, and why each that is due at a moment is asked then.
+    fn ask(&mut self, told: &mut Told, now: u32) -> Result<(), RowError> {
+        let alloc = told.alloc;
+        told.put("due ")?;
+        told.put_number(self.asker.first_due())?;
+        told.put(", asked ")?;
+        let due = self.asker.due_by_kept(alloc, u64::from(now))?;
+        for (place, one) in due.iter().enumerate() {
+            told.put_plus(place)?;
+            told.put_cause(one.1)?;
+            note(&mut self.asker, now, &one.0, one.1);
+        }
+        self.tell_refresh()
+    }
+
+    // The first question as it is spelled, how many users it has, and when it is next due in its series.
+    fn tell_first(&self, told: &mut Told) -> Result<(), RowError> {
+        let one = self
+            .asker
+            .questions()
+            .first()
+            .ok_or(RowError::NotUnderstood)?;
+        put_name(&mut told.text, &one.key.name)?;
+        told.put(", users ")?;
+        put_decimal(&mut told.text, one.users)?;
+        told.put(", next ")?;
+        Ok(put_decimal(&mut told.text, one.next)?)
+    }
 }
 
-#[test]
-fn the_series_of_a_question(rt: HostRuntime) -> Result<(), Fail> {
-    let alloc = rt.alloc();
-    let browse = question("_ipp._tcp.local", 12)?;
-    let mut asker = Asker::new(alloc);
-    asker.start(0, 0, &browse)?;
-    expect_askings(&rt, alloc, &mut asker, &[], &SERIES)?;
-    assert!(rt; asker.stop(&browse));
-    assert_eq!(rt; asker.first_due(), None);
-    asker.start(0, 100, &browse)?;
-    assert_eq!(rt; asker.first_due(), Some(120));
-    Ok(())
+fn start(asker: &mut Asker, now: u32, word: u32, question: &Key) -> Result<(), RowError> {
+    Ok(asker.start(u64::from(now), word, question)?)
 }
 
-#[test]
-fn the_refreshes_of_a_record(rt: HostRuntime) -> Result<(), Fail> {
-    let alloc = rt.alloc();
-    let mut asker = Asker::new(alloc);
-    asker.reserve(2)?;
-    asker.start(0, 0, &question("a.local", 1)?)?;
-    let held = [record(alloc, 121_000)?];
-    tell(&mut asker, &held)?;
-    expect_askings(&rt, alloc, &mut asker, &held, &REFRESHES)?;
-    Ok(())
-}
-
-#[test]
-fn a_cut_or_gone_record_is_not_refreshed(rt: HostRuntime) -> Result<(), Fail> {
-    let alloc = rt.alloc();
-    let mut asker = Asker::new(alloc);
-    asker.start(0, 0, &question("a.local", 1)?)?;
-    let held = [record(alloc, 121_000)?];
-    tell(&mut asker, &held)?;
-    expect_askings(&rt, alloc, &mut asker, &held, REFRESHES.split_at(7).0)?;
-    assert_eq!(rt; asker.first_due(), Some(97_000));
-    tell(&mut asker, &[record(alloc, 98_000)?])?;
-    assert_eq!(rt; asker.first_due(), Some(127_020));
-    tell(&mut asker, &held)?;
-    assert_eq!(rt; asker.first_due(), Some(97_000));
-    asker.tell(&question("A.LOCAL", 1)?, None);
-    assert_eq!(rt; asker.first_due(), Some(127_020));
-    Ok(())
-}
-
-#[test]
-fn a_question_lasts_as_long_as_its_users(rt: HostRuntime) -> Result<(), Fail> {
-    let alloc = rt.alloc();
-    let (first, again) = (question("A.local", 1)?, question("a.LOCAL", 1)?);
-    let mut asker = Asker::new(alloc);
-    asker.start(5, 0, &question("b.local", 1)?)?;
-    asker.start(7, 0, &first)?;
-    asker.start(9, 3, &again)?;
-    assert_eq!(rt; asker.questions().len(), 2);
-    let kept = &asker.questions()[0];
-    assert!(rt; kept.key.name.exact_eq(&first.name));
-    assert_eq!(rt; (kept.users, kept.next), (2, 27));
-    assert_eq!(rt; asker.due_by_kept(alloc, 27)?.len(), 2);
-    assert!(rt; asker.stop(&again) && asker.stop(&first) && !asker.stop(&first));
-    assert_eq!(rt; asker.questions().len(), 1);
-    Ok(())
+fn note(asker: &mut Asker, now: u32, question: &Key, cause: Cause) {
+    asker.asked(u64::from(now), question, cause);
 }

@@ -1,247 +1,150 @@
-// The records of hosts and services, as RFC 6762 and 6763 have them.
-ghost use Rattle.std.specs.Prelude.{IfOk, IsTrue};
+// Rows of the records of hosts and services. (RFC 6762 and 6763)
+ghost use Rattle.std.specs.Prelude.{◌≡◌, IfOk, IsTrue};
 ghost use Rattle.sd_service.specs.Bitmaps.{have_bitmap};
 
+use crate::error::RowError;
+use crate::read::{number, record};
+use crate::told::Told;
 use bytes::Bytes;
-use dns_message::Rrs;
 use dns_name::{Label, Name};
-use dns_record::{Rdata, Rr, put_record};
+use dns_record::{Rdata, Rr, put_name, put_record};
+use mdns_base::{read_hex, read_ipv4, read_ipv6};
 use mdns_history::{Config, HostConfig};
 use sd_name::RegType;
 use sd_service::{
     Service, host_name, host_records, is_nsec_of, nsec_of, service_name, service_records,
 };
 use std::alloc::Global;
-use std::test::Fail;
 
-fn label_of(text: &str) -> Result<Label, Fail> {
-    Ok(Label::new(text.as_bytes()).ok_or("label")?)
-}
-
-fn name_of(text: &str) -> Result<Name, Fail> {
-    Ok(Name::parse_text(text).map_err(|_| "name")?)
-}
-
-fn type_of(text: &str) -> Result<RegType, Fail> {
-    Ok(RegType::parse(text).map_err(|_| "type")?)
-}
-
-// Each record with a line feed.
-fn text_of(alloc: Global, rrs: &Rrs) -> Result<Vec<u8>, Fail> {
-    let mut out = Vec::new(alloc);
-    for rr in rrs.as_slice() {
-        put_record(&mut out, rr)?;
-        out.push(b'\n')?;
+/// A row of a host: `name` has a label and a number, `records` a name, a label, an address and an IPv6 address or `-`.
+pub fn host_row(told: &mut Told, row: &[&str]) -> Result<(), RowError> {
+    let alloc = told.alloc;
+    match row {
+        ["name", text, count] => {
+            let name = host_name(&label(*text)?, number(*count)?);
+            Ok(put_name(&mut told.text, &name)?)
+        }
+        ["records", name, text, v4, v6] => {
+            let name = Name::parse_text(*name)?;
+            let config = config(label(*text)?, *v4, *v6)?;
+            let records = host_records(alloc, &name, &config)?;
+            told.put_records(records.as_slice())
+        }
+        _ => Err(RowError::NotUnderstood),
     }
-    Ok(out)
 }
 
-// A label, a number, the host's name under it, and the name of a service of that label and type.
-const NAMES: [(&str, u32, &str, &str); 5] = [
-    ("h", 1, "h.local", "h._ipp._tcp.local"),
-    ("h", 2, "h-2.local", r"h\032(2)._ipp._tcp.local"),
-    ("h", 17, "h-17.local", r"h\032(17)._ipp._tcp.local"),
-    (
-        "MyPrinter",
-        3,
-        "MyPrinter-3.local",
-        r"MyPrinter\032(3)._ipp._tcp.local",
-    ),
-    // A label of 63 bytes is cut, so that the number fits.
-    (
-        "aaaaaaaaaabbbbbbbbbbccccccccccddddddddddeeeeeeeeeeffffffffffggg",
-        10,
-        "aaaaaaaaaabbbbbbbbbbccccccccccddddddddddeeeeeeeeeeffffffffff-10.local",
-        r"aaaaaaaaaabbbbbbbbbbccccccccccddddddddddeeeeeeeeeeffffffff\032(10)._ipp._tcp.local",
-    ),
-];
+fn label(text: &str) -> Result<Label, RowError> {
+    Label::new(text.as_bytes()).ok_or(RowError::NotUnderstood)
+}
 
-#[test]
-fn names_have_numbers(rt: HostRuntime) -> Result<(), Fail> {
-    for (label, number, host, service) in NAMES {
-        let label = label_of(label)?;
-        let regtype = type_of("_ipp._tcp,_color")?;
-        assert!(rt;
-            host_name(&label, number).folded_eq(&name_of(host)?),
-            "{host}"
-        );
-        let name = service_name(&label, &regtype, number);
-        assert!(rt; name.folded_eq(&name_of(service)?), "{service}");
+fn config(label: Label, v4: &str, v6: &str) -> Result<Config, RowError> {
+    let address = read_ipv4(v4.as_bytes()).ok_or(RowError::NotUnderstood)?;
+    let v6 = match v6 {
+        "-" => None,
+        _ => Some(read_ipv6(v6.as_bytes()).ok_or(RowError::NotUnderstood)?),
+    };
+    Ok(Config {
+        address,
+        host: Some(HostConfig { label, v6 }),
+    })
+}
+
+/// A row of a service: `name` has a label, a number and a type, `records` a label, a type, a port, TXT data in hexadecimal and the host's
+/// name. The unique records are told, and behind a bar the shared ones.
+pub fn service_row(told: &mut Told, row: &[&str]) -> Result<(), RowError> {
+    let alloc = told.alloc;
+    match row {
+        ["name", text, count, regtype] => {
+            let name = service_name(&label(*text)?, &regtype_of(*regtype)?, number(*count)?);
+            Ok(put_name(&mut told.text, &name)?)
+        }
+        ["records", text, regtype, port, txt, host] => {
+            let regtype = regtype_of(*regtype)?;
+            let txt = read_hex(alloc, txt.as_bytes())?.ok_or(RowError::NotUnderstood)?;
+            let service = Service {
+                name: &service_name(&label(*text)?, &regtype, 1),
+                regtype: &regtype,
+                port: port.parse()?,
+                txt: &Bytes::from_vec(txt)?,
+            };
+            put_service(told, &service, &Name::parse_text(*host)?)
+        }
+        _ => Err(RowError::NotUnderstood),
     }
-    Ok(())
 }
 
-#[test]
-fn hosts_have_addresses(rt: HostRuntime) -> Result<(), Fail> {
-    let alloc = rt.alloc();
-    let addresses = [
-        (None, "h-2.local. 120 flush A 10.0.0.1\n"),
-        (
-            Some(0xfe80_0000_0000_0000_0000_0000_0000_0001u128),
-            "h-2.local. 120 flush A 10.0.0.1\nh-2.local. 120 flush AAAA fe80:0000:0000:0000:0000:0000:0000:0001\n",
-        ),
-    ];
-    for (v6, written) in addresses {
-        let config = Config {
-            address: 0x0a00_0001,
-            host: Some(HostConfig {
-                label: label_of("h")?,
-                v6,
-            }),
-        };
-        let records = host_records(alloc, &name_of("h-2.local")?, &config)?;
-        assert_eq!(rt; text_of(alloc, &records)?.as_slice(), written.as_bytes());
+fn regtype_of(text: &str) -> Result<RegType, RowError> {
+    RegType::parse(text).map_err(|_| RowError::NotUnderstood)
+}
+
+fn put_service(told: &mut Told, service: &Service, host: &Name) -> Result<(), RowError> {
+    let alloc = told.alloc;
+    let (unique, shared) = service_records(alloc, service, host)?;
+    told.put_records(unique.as_slice())?;
+    told.put(" | ")?;
+    told.put_records(shared.as_slice())
+}
+
+/// A row of the record that says which types a name has: `of` has a kind of owner and its name, `is` also another name and a record, of
+/// which it tells whether it is the one of that name, with the types of the owner.
+pub fn types_row(told: &mut Told, row: &[&str]) -> Result<(), RowError> {
+    let alloc = told.alloc;
+    match row {
+        ["of", owner, name] => {
+            let name = Name::parse_text(*name)?;
+            let unique = unique_of(alloc, *owner, &name)?;
+            Ok(put_record(&mut told.text, &nsec_of(alloc, &name, &unique)?)?)
+        }
+        ["is", owner, owned, name, text] => {
+            let unique = unique_of(alloc, *owner, &Name::parse_text(*owned)?)?;
+            let name = Name::parse_text(*name)?;
+            told.put_yes(is_nsec_of(&record(alloc, *text)?, &name, &unique))
+        }
+        _ => Err(RowError::NotUnderstood),
     }
-    Ok(())
 }
 
-// A type, the TXT data, the unique records of a service `Printer` at port 631 on `h.local`, and the shared ones.
-const SERVICES: [(&str, &[u8], &str, &str); 5] = [
-    // An empty TXT is one zero byte. (RFC 6763 6.1)
-    (
-        "_ipp._tcp",
-        &[],
-        "Printer._ipp._tcp.local. 4500 flush TXT 00\nPrinter._ipp._tcp.local. 120 flush SRV 0 0 631 h.local.\n",
-        "_ipp._tcp.local. 4500 - PTR Printer._ipp._tcp.local.\n_services._dns-sd._udp.local. 4500 - PTR _ipp._tcp.local.\n",
-    ),
-    (
-        "_ipp._udp.",
-        &[3, b'a', b'=', b'1'],
-        "Printer._ipp._udp.local. 4500 flush TXT 03613d31\nPrinter._ipp._udp.local. 120 flush SRV 0 0 631 h.local.\n",
-        "_ipp._udp.local. 4500 - PTR Printer._ipp._udp.local.\n_services._dns-sd._udp.local. 4500 - PTR _ipp._udp.local.\n",
-    ),
-    (
-        "_ipp._tcp",
-        &[0],
-        "Printer._ipp._tcp.local. 4500 flush TXT 00\nPrinter._ipp._tcp.local. 120 flush SRV 0 0 631 h.local.\n",
-        "_ipp._tcp.local. 4500 - PTR Printer._ipp._tcp.local.\n_services._dns-sd._udp.local. 4500 - PTR _ipp._tcp.local.\n",
-    ),
-    // The example of RFC 6763 7.1: a subtype stands under `_sub`. Owners are in order, by the lengths of their labels first.
-    (
-        "_http._tcp,_printer",
-        &[],
-        "Printer._http._tcp.local. 4500 flush TXT 00\nPrinter._http._tcp.local. 120 flush SRV 0 0 631 h.local.\n",
-        "_http._tcp.local. 4500 - PTR Printer._http._tcp.local.\n_printer._sub._http._tcp.local. 4500 - PTR Printer._http._tcp.local.\n_services._dns-sd._udp.local. 4500 - PTR _http._tcp.local.\n",
-    ),
-    // Subtypes that differ in letter case alone give one record, as the first is written.
-    (
-        "_http._tcp,b,A,a",
-        &[],
-        "Printer._http._tcp.local. 4500 flush TXT 00\nPrinter._http._tcp.local. 120 flush SRV 0 0 631 h.local.\n",
-        "A._sub._http._tcp.local. 4500 - PTR Printer._http._tcp.local.\nb._sub._http._tcp.local. 4500 - PTR Printer._http._tcp.local.\n_http._tcp.local. 4500 - PTR Printer._http._tcp.local.\n_services._dns-sd._udp.local. 4500 - PTR _http._tcp.local.\n",
-    ),
-];
-
-#[test]
-fn services_have_records(rt: HostRuntime) -> Result<(), Fail> {
-    let alloc = rt.alloc();
-    for (text, txt, unique, shared) in SERVICES {
-        let regtype = type_of(text)?;
-        let name = service_name(&label_of("Printer")?, &regtype, 1);
-        let txt = Bytes::copy_from_slice(alloc, txt)?;
-        let service = Service {
-            name: &name,
-            regtype: &regtype,
-            port: 631,
-            txt: &txt,
-        };
-        let (own, others) = service_records(alloc, &service, &name_of("h.local")?)?;
-        assert_eq!(rt;
-            text_of(alloc, &own)?.as_slice(),
-            unique.as_bytes(),
-            "{text}"
-        );
-        assert_eq!(rt;
-            text_of(alloc, &others)?.as_slice(),
-            shared.as_bytes(),
-            "{text}"
-        );
+// The unique records of a host or of a service of this name.
+fn unique_of(alloc: Global, owner: &str, name: &Name) -> Result<[Rr; 2], RowError>
+    ensures { IfOk result (λ unique. IsTrue (have_bitmap unique)) }
+{
+    match owner {
+        "host" => Ok(host_unique(name)),
+        "service" => service_unique(alloc, name),
+        _ => Err(RowError::NotUnderstood),
     }
-    Ok(())
-}
-
-// The types of a host, and those of a service: A is 1, TXT 16, AAAA 28 and SRV 33, and the first type of a byte has its highest
-// bit. (RFC 4034 4.1.2)
-#[test]
-fn types_stand_in_a_bitmap(rt: HostRuntime) -> Result<(), Fail> {
-    let alloc = rt.alloc();
-    let name = name_of("h.local")?;
-    let mut out = Vec::new(alloc);
-    put_record(&mut out, &host_nsec(alloc, &name)?)?;
-    assert_eq!(rt;
-        out.as_slice(),
-        b"h.local. 120 flush NSEC h.local. 000440000008".as_slice()
-    );
-
-    let mut out = Vec::new(alloc);
-    put_record(&mut out, &service_nsec(alloc, &name)?)?;
-    assert_eq!(rt;
-        out.as_slice(),
-        b"h.local. 120 flush NSEC h.local. 00050000800040".as_slice()
-    );
-    Ok(())
-}
-
-// A record is the NSEC record of its own name and types alone, whatever its flush bit and TTL.
-#[test]
-fn an_nsec_record_is_known_again(rt: HostRuntime) -> Result<(), Fail> {
-    let alloc = rt.alloc();
-    let name = name_of("h.local")?;
-    let other = name_of("g.local")?;
-    let mut rr = host_nsec(alloc, &name)?;
-    rr.flush = false;
-    rr.ttl = 0;
-    assert!(rt; is_nsec_of(&rr, &name, &host_unique(&name)));
-    assert!(rt; !is_nsec_of(&rr, &other, &host_unique(&name)));
-    assert!(rt; !is_nsec_of(&rr, &name, &service_unique(alloc, &name)?));
-    Ok(())
-}
-
-fn host_nsec(alloc: Global, name: &Name) -> Result<Rr, Fail> {
-    Ok(nsec_of(alloc, name, &host_unique(name))?)
 }
 
 fn host_unique(name: &Name) -> [Rr; 2]
     ensures { IsTrue (have_bitmap result) }
 {
-    let a = Rr {
-        owner: name.copy(),
-        flush: true,
-        ttl: 120,
-        rdata: Rdata::A(0x0a00_0001),
-    };
-    let aaaa = Rr {
-        owner: name.copy(),
-        flush: true,
-        ttl: 120,
-        rdata: Rdata::Aaaa(1),
-    };
-    [a, aaaa]
+    [
+        unique(name, 120, Rdata::A(0x0a00_0001)),
+        unique(name, 120, Rdata::Aaaa(1)),
+    ]
 }
 
-fn service_nsec(alloc: Global, name: &Name) -> Result<Rr, Fail> {
-    Ok(nsec_of(alloc, name, &service_unique(alloc, name)?)?)
-}
-
-fn service_unique(alloc: Global, name: &Name) -> Result<[Rr; 2], Fail>
+fn service_unique(alloc: Global, name: &Name) -> Result<[Rr; 2], RowError>
     ensures { IfOk result (λ unique. IsTrue (have_bitmap unique)) }
 {
-    let txt = Rr {
+    let txt = Rdata::Txt(Bytes::copy_from_slice(alloc, &[0])?);
+    let srv = Rdata::Srv {
+        priority: 0,
+        weight: 0,
+        port: 631,
+        target: name.copy(),
+    };
+    Ok([unique(name, 4500, txt), unique(name, 120, srv)])
+}
+
+fn unique(name: &Name, ttl: u32, rdata: Rdata) -> Rr
+    ensures data { result.rdata ≡ rdata }
+{
+    Rr {
         owner: name.copy(),
         flush: true,
-        ttl: 4500,
-        rdata: Rdata::Txt(Bytes::copy_from_slice(alloc, &[0])?),
-    };
-    let srv = Rr {
-        owner: name.copy(),
-        flush: true,
-        ttl: 120,
-        rdata: Rdata::Srv {
-            priority: 0,
-            weight: 0,
-            port: 631,
-            target: name.copy(),
-        },
-    };
-    Ok([txt, srv])
+        ttl,
+        rdata,
+    }
 }

@@ -1,31 +1,42 @@
-use by_name::*;
-use dns_name::Name;
-use std::process::Abort;
-use std::test::Fail;
+// Rows of values by name.
 
-fn expect_found(
-    rt: &impl Abort,
-    values: &ByName<u32>,
-    text: &str,
-    one: Option<u32>,
-) -> Result<(), Fail> {
-    let name = Name::parse_text(text).map_err(|_| "name")?;
-    let found = values.get(&Place::new(&name, 0)).copied();
-    assert_eq!(rt; found, one, "{text}");
-    Ok(())
+use crate::error::RowError;
+use crate::read::number;
+use crate::told::Told;
+use by_name::{ByName, Place};
+use dns_name::Name;
+use std::alloc::Global;
+
+/// A row of values by name: `put` gives a name its first value, `get` tells it.
+pub fn value_row(told: &mut Told, values: &mut ByName<u32>, row: &[&str]) -> Result<(), RowError> {
+    let alloc = told.alloc;
+    match row {
+        ["new", key] => {
+            *values = ByName::new(alloc, u64::from(number(*key)?));
+            told.put("done")
+        }
+        ["empty"] => told.put_yes(values.is_empty()),
+        ["count"] => told.put_count("", values.len()),
+        ["put", name, value] => {
+            put_value(values, &Name::parse_text(*name)?, number(*value)?)?;
+            told.put("done")
+        }
+        ["get", name] => {
+            let place = Place::new(&Name::parse_text(*name)?, 0);
+            let found = values.get(&place).copied();
+            told.put_number(found.map(u64::from))
+        }
+        _ => Err(RowError::NotUnderstood),
+    }
 }
 
-#[test]
-fn a_value_is_found_by_name(rt: HostRuntime) -> Result<(), Fail> {
-    let mut values: ByName<u32> = ByName::new(rt.alloc(), 7);
-    let name = Name::parse_text("a.local").map_err(|_| "name")?;
-    assert!(&rt; values.is_empty());
+// Puts the first value of a name that has none.
+fn put_value(values: &mut ByName<u32>, name: &Name, value: u32) -> Result<(), RowError> {
     values.reserve(1)?;
-    let place = Place::new(&name, 0);
-    if values.index_of(&place).is_none() {
-        values.push(place, 5);
+    let place = Place::new(name, 0);
+    if values.index_of(&place).is_some() {
+        return Err(RowError::NotUnderstood);
     }
-    assert_eq!(&rt; values.len(), 1);
-    expect_found(&rt, &values, "A.Local", Some(5))?;
-    expect_found(&rt, &values, "b.local", None)
+    values.push(place, value);
+    Ok(())
 }

@@ -1,0 +1,72 @@
+// Rows of a source and a sink in memory, of whose calls one fails.
+
+use crate::error::RowError;
+use crate::fields::{first_word, two_parts};
+use crate::told::put_text;
+use mdns_base::{MemSink, MemSource, Sink, Source, put_decimal, put_hex};
+use std::alloc::Global;
+
+/// `source ..`: a source that is made and read from, two bytes at a time.
+pub fn source_row(
+    alloc: Global,
+    out: &mut Vec<u8>,
+    source: &mut MemSource,
+    row: &str,
+) -> Result<(), RowError> {
+    match first_word(row) {
+        ("new", rest) => {
+            *source = source_of(alloc, rest)?;
+            put_text(out, "done")
+        }
+        ("read", _) => put_read(out, source),
+        _ => Err(RowError::NotUnderstood),
+    }
+}
+
+/// `sink ..`: a sink that is made, written to and looked at.
+pub fn sink_row(
+    alloc: Global,
+    out: &mut Vec<u8>,
+    sink: &mut MemSink,
+    row: &str,
+) -> Result<(), RowError> {
+    match first_word(row) {
+        ("new", call) => *sink = MemSink::new(alloc, failing(alloc, call)?),
+        ("put", text) => return put_text(out, put_word(sink, text)),
+        ("finish", _) => sink.finish(),
+        ("show", _) => return Ok(put_hex(out, sink.bytes())?),
+        _ => return Err(RowError::NotUnderstood),
+    }
+    put_text(out, "done")
+}
+
+// `new TEXT CALL`: a source of these bytes whose call with this number fails.
+fn source_of(alloc: Global, rest: &str) -> Result<MemSource, RowError> {
+    let (text, call) = two_parts(rest)?;
+    let bytes = Vec::from_slice(alloc, text.as_bytes())?;
+    Ok(MemSource::new(bytes, failing(alloc, call)?))
+}
+
+// The list of one call that fails.
+fn failing(alloc: Global, call: &str) -> Result<Vec<u64>, RowError> {
+    Ok(Vec::from_slice(alloc, &[call.parse::<u64>()?])?)
+}
+
+// `read`: how many bytes came, and which.
+fn put_read(out: &mut Vec<u8>, source: &mut MemSource) -> Result<(), RowError> {
+    let mut buffer = [0; 2];
+    let Ok(count) = source.read(&mut buffer) else {
+        return put_text(out, "failed");
+    };
+    put_decimal(out, count as u64)?;
+    put_text(out, ", ")?;
+    Ok(put_hex(out, buffer.get(..count).unwrap_or(&[]))?)
+}
+
+// `put TEXT`
+fn put_word(sink: &mut MemSink, text: &str) -> &'static str {
+    match sink.put(text.as_bytes()) {
+        Ok(()) => "done",
+        Err(_) => "failed",
+    }
+}

@@ -1,0 +1,61 @@
+//! Worked rows of the parts of which the daemon is made, what it holds, asks, claims and answers: each row is printed with what came of it.
+#![tactic(auto)]
+
+ghost use Rattle.std.specs.Prelude.{◌≡◌, ◌<◌};
+
+mod answers;
+mod askers;
+mod asking;
+mod caches;
+mod conflicts;
+mod draws;
+mod error;
+mod held_records;
+mod kept;
+mod known_answers;
+mod last_multicasts;
+mod numbered;
+mod questions;
+mod read;
+mod services;
+mod told;
+mod values;
+
+use crate::error::RowError;
+use crate::kept::Kept;
+use mdns_cache::Steps;
+use std::io;
+use std::io::Write;
+use std::marker::Brand;
+use std::sync::ledger::{Blank, Ledger};
+
+fn main(rt: HostRuntime) -> Result<(), RowError> {
+    tell_all::<Brand>(rt, Blank::new(1))
+}
+
+fn tell_all<L: Ledger>(rt: HostRuntime, blank: Blank) -> Result<(), RowError>
+    requires name { blank.name ≡ L.name }
+    requires parts { blank.parts ≡ L.parts }
+    requires some { 0 < L.parts }
+{
+    let mut steps: Steps<L> = Steps::new(blank);
+    let mut kept = Kept::new(rt.alloc())?;
+    for line in rt.lines(rt.alloc()) {
+        let line = line?;
+        match kept.told(rt.alloc(), &mut steps, line.as_str()) {
+            Ok(told) => print(rt, &told)?,
+            Err(error) => return Err(blame(rt, line.as_str(), error)),
+        }
+    }
+    Ok(())
+}
+
+fn print(rt: HostRuntime, told: &[u8]) -> Result<(), RowError> {
+    Ok(io::writer(&rt).write_all(told)?)
+}
+
+// Says on standard error which row has an error.
+fn blame(rt: HostRuntime, line: &str, error: RowError) -> RowError {
+    let _ = eprintln!(rt; "{error}: {line}");
+    error
+}

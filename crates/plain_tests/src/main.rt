@@ -1,0 +1,50 @@
+//! Rows of calls that compute a daemon's history plainly from its whole list of entries, and what each answers. An empty line or one that
+//! begins with `#` is printed as it stands, any other with ` = ` and the answer behind it.
+#![tactic(auto)]
+
+mod asking;
+mod entry;
+mod group;
+mod heard;
+mod history;
+mod kept;
+mod order;
+mod row_error;
+mod words;
+
+use crate::kept::Kept;
+use crate::row_error::RowError;
+use std::alloc::Global;
+
+fn main(rt: HostRuntime) -> Result<(), RowError> {
+    let alloc = rt.alloc();
+    let mut kept = Kept::new(alloc);
+    for line in rt.lines(alloc) {
+        let line = line?;
+        if line.is_empty() || line.starts_with('#') {
+            println!(rt; "{line}")?;
+            continue;
+        }
+        match answer(alloc, &mut kept, &line) {
+            Ok(told) => println!(rt; "{line} = {told}")?,
+            Err(error) => {
+                eprintln!(rt; "{line}: {error}")?;
+                return Err(error);
+            }
+        }
+    }
+    Ok(())
+}
+
+// What a row answers, by its subject.
+fn answer(alloc: Global, kept: &mut Kept, line: &str) -> Result<String, RowError> {
+    match line.split_once(' ') {
+        Some(("entry", rest)) => entry::row(alloc, kept, rest),
+        Some(("history", rest)) => history::row(alloc, kept.entries(), rest),
+        Some(("group", rest)) => group::row(alloc, kept, rest),
+        Some(("asking", rest)) => asking::row(alloc, kept, rest),
+        Some(("heard", rest)) => heard::row(alloc, kept.entries(), rest),
+        Some(("order", rest)) => order::row(alloc, rest),
+        _ => Err(RowError::NotUnderstood),
+    }
+}
