@@ -9,6 +9,7 @@ take. Nothing here is part of the gate.
 import claims
 import core
 import held
+import link
 import measure
 import messages
 import outbox
@@ -16,4 +17,4 @@ import replies
 from tools import table
 
 if __name__ == "__main__":
-    table(row for part in (measure, core, held, claims, replies, messages, outbox) for row in part.rows())
+    table(row for part in (measure, core, held, claims, replies, link, messages, outbox) for row in part.rows())

@@ -142,6 +142,8 @@ fn put_records<'a>(
     Ok(())
 }
 
+/// Writes a question behind a message, its name compressed where a suffix of it was written before. Refused only for want of memory.
+/// (RFC 1035 4.1.2 and 4.1.4)
 #[tactic(auto, unfolding(crate::specs::Writing::written_question))]
 pub(crate) fn put_question<'a>(
     out: &mut Vec<u8>,
@@ -166,6 +168,7 @@ fn class(top_bit: bool) -> [u8; 2]
     if top_bit { [0x80, 1] } else { [0, 1] }
 }
 
+/// Writes a record behind a message, its names compressed likewise. Refused only for want of memory. (RFC 1035 4.1.3 and 4.1.4)
 #[tactic(auto, unfolding(crate::specs::Writing::written_record))]
 pub(crate) fn put_record<'a>(
     out: &mut Vec<u8>,

@@ -3,7 +3,7 @@
 
 mod asked;
 
-pub use asked::Asked;
+pub use asked::{Asked, any_for};
 
 #[cfg(test)]
 mod tests;

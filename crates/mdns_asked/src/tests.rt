@@ -33,8 +33,8 @@ const PUT: [&[&str]; 2] = [
     ],
 ];
 
-// Of a question the records that it then has, each with a line feed. The last three aren't asked.
-const RECORDS: [(&str, u16, bool, &str); 10] = [
+// Of a question the records that it then has, each with a line feed.
+const RECORDS: [(&str, u16, bool, &str); 7] = [
     (
         "a.local",
         1,
@@ -57,10 +57,10 @@ const RECORDS: [(&str, u16, bool, &str); 10] = [
     ("B.local", 16, true, "b.local. 4500 - TXT 0161\n"),
     ("c.local", 255, false, ""),
     ("d.local", 28, false, ""),
-    ("b.local", 255, false, ""),
-    ("a.local", 16, false, ""),
-    ("e.local", 1, false, ""),
 ];
+
+// Questions that aren't asked.
+const OTHERS: [(&str, u16); 3] = [("b.local", 255), ("a.local", 16), ("e.local", 1)];
 
 #[test]
 fn each_question_has_the_records_that_match_it(rt: HostRuntime) -> Result<(), Fail> {
@@ -71,11 +71,18 @@ fn each_question_has_the_records_that_match_it(rt: HostRuntime) -> Result<(), Fa
     }
     let mut asked = Asked::new(alloc, 7, questions.as_slice())?;
     for texts in PUT {
-        asked.put_all(records(alloc, texts)?)?;
+        asked.put_all(records(alloc, texts)?.as_slice())?;
     }
     for (name, kind, unicast, written) in RECORDS {
-        let out = text_of(alloc, asked.records(&question(name, kind, unicast)?))?;
+        let found = asked
+            .records(&question(name, kind, unicast)?)
+            .ok_or("asked")?;
+        let out = text_of(alloc, found)?;
         assert_eq!(rt; out.as_slice(), written.as_bytes(), "{name} {kind}");
+    }
+    for (name, kind) in OTHERS {
+        let found = asked.records(&question(name, kind, false)?);
+        assert!(rt; found.is_none(), "{name} {kind}");
     }
     Ok(())
 }

@@ -17,7 +17,7 @@ fn ending_cmp(left: &Held, right: &Held) -> Ordering
     }
 }
 
-// The winner at a node: what is kept of it, or the place that it stands for.
+/// The winner at a node: what is kept of it, or the place that it stands for.
 pub fn winner(nodes: &[usize], node: usize) -> usize
     ensures { result ≡ winner nodes.now node }
 {

@@ -25,3 +25,4 @@ pub mod Known
 pub mod Brought
 pub mod Mapped
 pub mod Sure
+pub mod Asked

@@ -48,3 +48,11 @@ AreWithin some others = (name : List (List ℕ)) → is_among some name ≡ true
 -- the records of a claim that have a name, if it is sure
 abbrev pub claimed_of : List (List ℕ) → Bool → Claim → List Rr
 claimed_of name sure claim = if sure then of_name name claim.unique ++ of_name name claim.shared else []
+
+-- the records of a claim, if it is sure
+abbrev pub claimed : Bool → Claim → List Rr
+claimed sure claim = if sure then claim.unique ++ claim.shared else []
+
+-- the NSEC record of a group's name, if it is sure
+abbrev pub nsec_if_sure : Kept → List Rr
+nsec_if_sure one = if one.claim.sure then nsec_for one ∷ [] else []

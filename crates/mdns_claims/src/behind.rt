@@ -2,6 +2,7 @@
 ghost use Rattle.std.specs.Prelude.{IfOk, IsTrue, List, OnOk, [], false, ℕ, ◌++◌, ◌≡◌, Some, true};
 ghost use Rattle.std.specs.Option.{option_map, option_map_or, option_to_list};
 ghost use Rattle.dns_record.specs.declared.record.Rr.{Rr};
+ghost use Rattle.mdns_asked.specs.Asked.{IsPut};
 ghost use Rattle.mdns_claims.specs.Later.{begun_by, groups_behind, later_from, later_of, shown_of, shown_own, takes_none};
 ghost use Rattle.mdns_claims.specs.Owned.{AreWithin, is_among, is_ours, of_name, own_in, registered_answers};
 ghost use Rattle.mdns_claims.specs.Seen.{means_in};
@@ -13,10 +14,11 @@ use crate::claimant::Claimant;
 use crate::doing::Means;
 use crate::later::{begun, is_still, takes_none};
 use crate::names::put_claim_names;
-use crate::own::put_claimed;
+use crate::own::{put_claim, put_claimed};
 use crate::plan::Deed;
 use dns_message::Rrs;
 use dns_name::Name;
+use mdns_asked::Asked;
 use mdns_happened::Registered;
 use mdns_probe::Naming;
 use sd_call::Answer;
@@ -50,6 +52,18 @@ impl Behind<'_> {
         self.put_later(rrs, name)?;
         if let Some(one) = begun(self.deed) {
             put_claimed(rrs, one.claim(), one.claim().sure, name)?;
+        }
+        Ok(())
+    }
+
+    /// Puts the own records that questions ask for, as they are behind the plan, behind those that they have, in one pass over all groups.
+    /// Refused only for want of memory.
+    pub fn put_asked(&self, asked: &mut Asked) -> Result<(), AllocError>
+        ensures { OnOk result (IsPut (own_in (groups_behind self.now)) asked.old asked.new) }
+    {
+        self.put_later_asked(asked)?;
+        if let Some(one) = begun(self.deed) {
+            put_claim(asked, one.claim(), one.claim().sure)?;
         }
         Ok(())
     }
@@ -119,6 +133,19 @@ impl Behind<'_> {
         for (place, one) in groups.iter().enumerate() {
             if let Some(later) = self.means.later(self.deed, place, one) {
                 put_claimed(rrs, later.claim, later.sure, name)?;
+            }
+        }
+        Ok(())
+    }
+
+    // Puts the own records that questions ask for and that the groups that are there have behind the plan.
+    fn put_later_asked(&self, asked: &mut Asked) -> Result<(), AllocError>
+        ensures { OnOk result (IsPut (own_in (later_from (means_in self.now.means) self.now.deed.now 0 self.now.groups.now)) asked.old asked.new) }
+    {
+        let groups = self.groups;
+        for (place, one) in groups.iter().enumerate() {
+            if let Some(later) = self.means.later(self.deed, place, one) {
+                put_claim(asked, later.claim, later.sure)?;
             }
         }
         Ok(())

@@ -4,6 +4,7 @@ ghost use Rattle.std.specs.List.{flat_map};
 ghost use Rattle.std.specs.Option.{option_map, option_to_list};
 ghost use Rattle.dns_name.specs.Lists.{least};
 ghost use Rattle.dns_name.specs.Names.{folded_eq};
+ghost use Rattle.mdns_asked.specs.Asked.{IsPut};
 ghost use Rattle.mdns_claims.specs.Behind.{contents_told, host_kept, host_named, kept_told, next_in, occasion_of, probes_told, storm_told};
 ghost use Rattle.mdns_claims.specs.Later.{groups_behind};
 ghost use Rattle.mdns_claims.specs.Owned.{is_ours, nsecs_in, of_name, own_in, registered_answers};
@@ -26,8 +27,8 @@ use crate::copies::{copy_config, copy_label};
 use crate::deciding::deed;
 use crate::doing::Means;
 use crate::held::is_held_name;
-use crate::ours::{is_ours, put_nsecs};
-use crate::own::put_own;
+use crate::ours::{is_ours, put_asked_nsecs, put_nsecs};
+use crate::own::{put_asked, put_own};
 use crate::plan::{Deed, Plan};
 use crate::probes::probes;
 use crate::renew::{Seen, number_after};
@@ -36,6 +37,7 @@ use bytes::Bytes;
 use dns_message::Rrs;
 use dns_name::Name;
 use dns_record::Rr;
+use mdns_asked::Asked;
 use mdns_conflict::Storm;
 use mdns_happened::{Happened, When};
 use mdns_history::{Config, HostConfig, Mark, Sends};
@@ -128,6 +130,21 @@ impl Claims {
         ensures { OnOk result (rrs.new ≡ rrs.old ++ filter (λ rr. folded_eq rr.owner name.now) (nsecs_in self.now.contents.kept)) }
     {
         put_nsecs(self.alloc, rrs, &self.groups, name)
+    }
+
+    /// Puts the own records that questions ask for behind those that they have, in one pass over all groups. Refused only for want of
+    /// memory.
+    pub fn put_asked(&self, asked: &mut Asked) -> Result<(), AllocError>
+        ensures { OnOk result (IsPut (own_in self.now.contents.kept) asked.old asked.new) }
+    {
+        put_asked(asked, &self.groups)
+    }
+
+    /// The same of the NSEC records of sure names. Refused only for want of memory. (RFC 6762 6.1)
+    pub fn put_asked_nsecs(&self, asked: &mut Asked) -> Result<(), AllocError>
+        ensures { OnOk result (IsPut (nsecs_in self.now.contents.kept) asked.old asked.new) }
+    {
+        put_asked_nsecs(self.alloc, asked, &self.groups)
     }
 
     /// Whether a record is the daemon's to send: it is own, or the NSEC record of a sure name. It takes no memory. (RFC 6762 6)

@@ -3,7 +3,8 @@ ghost use Rattle.std.specs.Prelude.{IsTrue, OnOk, filter, ◌&&◌, ◌++◌, �
 ghost use Rattle.std.specs.List.{list_any};
 ghost use Rattle.dns_name.specs.Names.{folded_eq};
 ghost use Rattle.dns_record.specs.Records.{same};
-ghost use Rattle.mdns_claims.specs.Owned.{is_ours, nsec_for, nsecs_in, own_in};
+ghost use Rattle.mdns_asked.specs.Asked.{IsPut};
+ghost use Rattle.mdns_claims.specs.Owned.{is_ours, nsec_for, nsec_if_sure, nsecs_in, own_in};
 ghost use Rattle.mdns_claims.specs.Typed.{HaveBitmaps};
 ghost use Rattle.mdns_probe.specs.Kept.{name_of};
 ghost use Rattle.sd_service.specs.Bitmaps.{have_bitmap};
@@ -12,6 +13,7 @@ use crate::claimant::Claimant;
 use dns_message::Rrs;
 use dns_name::Name;
 use dns_record::Rr;
+use mdns_asked::Asked;
 use sd_service::{is_nsec_of, nsec_of};
 use std::alloc::{AllocError, Global};
 
@@ -32,6 +34,34 @@ pub fn put_nsecs(
         if is_sure_of(one, name) {
             rrs.push(nsec_of(alloc, one.name(), one.claim().unique.as_slice())?)?;
         }
+    }
+    Ok(())
+}
+
+/// Puts the NSEC records that questions ask for behind those that they have: of the groups that are sure. Refused only for want of
+/// memory.
+pub fn put_asked_nsecs(
+    alloc: Global,
+    asked: &mut Asked,
+    groups: &[Claimant],
+) -> Result<(), AllocError>
+    requires mapped { HaveBitmaps groups.now }
+    ensures { OnOk result (IsPut (nsecs_in groups.now) asked.old asked.new) }
+{
+    for one in groups {
+        put_asked_nsec(alloc, asked, one)?;
+    }
+    Ok(())
+}
+
+// The same of one group.
+fn put_asked_nsec(alloc: Global, asked: &mut Asked, one: &Claimant) -> Result<(), AllocError>
+    requires mapped { IsTrue (have_bitmap one.now.claim.unique) }
+    ensures { OnOk result (IsPut (nsec_if_sure one.now) asked.old asked.new) }
+{
+    if one.claim().sure {
+        let nsec = nsec_of(alloc, one.name(), one.claim().unique.as_slice())?;
+        asked.put_all(&[nsec])?;
     }
     Ok(())
 }

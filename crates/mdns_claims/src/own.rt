@@ -1,11 +1,13 @@
 // The own records of a name. (RFC 6762 6)
 ghost use Rattle.std.specs.Prelude.{OnOk, ◌++◌, ◌≡◌};
-ghost use Rattle.mdns_claims.specs.Owned.{claimed_of, of_name, own_in};
+ghost use Rattle.mdns_asked.specs.Asked.{IsPut};
+ghost use Rattle.mdns_claims.specs.Owned.{claimed, claimed_of, of_name, own_in};
 
 use crate::claimant::Claimant;
 use dns_message::Rrs;
 use dns_name::Name;
 use dns_record::Rr;
+use mdns_asked::Asked;
 use mdns_probe::Claim;
 use std::alloc::AllocError;
 
@@ -37,6 +39,28 @@ fn put_of_name(rrs: &mut Rrs, some: &[Rr], name: &Name) -> Result<(), AllocError
         if rr.owner.folded_eq(name) {
             rrs.push(rr.copy()?)?;
         }
+    }
+    Ok(())
+}
+
+/// Puts the own records that questions ask for behind those that they have: of the groups that are sure. Refused only for want of memory.
+pub fn put_asked(asked: &mut Asked, groups: &[Claimant]) -> Result<(), AllocError>
+    ensures { OnOk result (IsPut (own_in groups.now) asked.old asked.new) }
+{
+    for one in groups {
+        let claim = one.claim();
+        put_claim(asked, claim, claim.sure)?;
+    }
+    Ok(())
+}
+
+/// Puts the records of a claim that questions ask for behind those that they have, if it is sure. Refused only for want of memory.
+pub fn put_claim(asked: &mut Asked, claim: &Claim, sure: bool) -> Result<(), AllocError>
+    ensures { OnOk result (IsPut (claimed sure claim.now) asked.old asked.new) }
+{
+    if sure {
+        asked.put_all(claim.unique.as_slice())?;
+        asked.put_all(claim.shared.as_slice())?;
     }
     Ok(())
 }

@@ -153,6 +153,7 @@ fn led_to(
     let behind = parts.claims.behind(when, happened, claims);
     let responder = Responder {
         alloc: kept.alloc,
+        key: kept.key,
         lasts: &parts.lasts,
         owing: &parts.owing,
         behind: &behind,

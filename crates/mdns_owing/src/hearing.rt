@@ -5,14 +5,15 @@ ghost use Rattle.std.specs.Option.{option_to_list};
 ghost use Rattle.dns_name.specs.Names.{folded_eq};
 ghost use Rattle.dns_record.specs.Records.{matches};
 ghost use Rattle.indexmap.specs.IndexSet.{insert_all};
-ghost use Rattle.mdns_asked.specs.Asked.{key_of, AreOf};
+ghost use Rattle.mdns_asked.specs.Asked.{any_for, key_of};
 ghost use Rattle.mdns_claims.specs.Owned.{of_name, own_in, nsecs_in};
 ghost use Rattle.mdns_history.specs.Debts.{owed_eq, is_unique, debt_wait};
 ghost use Rattle.mdns_happened.specs.Told.{told_by};
 ghost use Rattle.mdns_debts.specs.Following.{has_owed, owed_to, owed_by, query_from, way_for};
 ghost use Rattle.mdns_owing.specs.Owing.{heard_in, last_in, news_told, ours_in, owed_for, unstruck_for, query_told};
-ghost use Rattle.mdns_owing.specs.Asked.{asked_as};
+ghost use Rattle.mdns_owing.specs.Asked.{asked_as, own_found};
 
+use crate::found::Found;
 use crate::listed::Listed;
 use crate::owed::Owed;
 use crate::query::Query;
@@ -22,7 +23,6 @@ use dns_message::{Questions, Rrs};
 use dns_name::Name;
 use dns_record::{Question, Rr};
 use indexmap::IndexSet;
-use mdns_asked::Asked;
 use mdns_base::Dest;
 use mdns_claims::Claims;
 use mdns_happened::{Happened, Heard, When};
@@ -31,6 +31,9 @@ use std::alloc::{AllocError, Global};
 
 /// The type that asks for records of any type. (RFC 1035 3.2.3)
 const ANY: u16 = 255;
+
+/// For so many questions the groups are gone over one by one; for more, what all of them ask for is collected first.
+const FEW: usize = 8;
 
 const MDNS_PORT: u16 = 5353;
 
@@ -94,8 +97,8 @@ impl Ours<'_> {
         requires { hearing.now.listed ≡ hearing.now.heard.now.message.answers }
         ensures { OnOk result (owed.new.keys ≡ insert_all owed_eq owed.old.keys (flat_map (owed_for (ours_in self.now.claims.now.contents.kept) (last_in self.now.lasts.now.lasts) (heard_in hearing.now.heard.now) hearing.now.moment) questions.now)) }
     {
-        if questions.len() > 1 {
-            return self.put_several_owed(owed, hearing, questions);
+        if questions.len() > FEW {
+            return self.put_many_owed(owed, hearing, questions);
         }
         for question in questions {
             self.put_owed(owed, hearing, question)?;
@@ -103,8 +106,8 @@ impl Ours<'_> {
         Ok(())
     }
 
-    // The same of several questions, whose own records are collected first. A question that is asked again is passed over.
-    fn put_several_owed(
+    // The same of many questions: what they ask for is collected first. A question that is asked again is passed over.
+    fn put_many_owed(
         &self,
         owed: &mut OwedSet,
         hearing: &Hearing<'_>,
@@ -113,11 +116,11 @@ impl Ours<'_> {
         requires { hearing.now.listed ≡ hearing.now.heard.now.message.answers }
         ensures { OnOk result (owed.new.keys ≡ insert_all owed_eq owed.old.keys (flat_map (owed_for (ours_in self.now.claims.now.contents.kept) (last_in self.now.lasts.now.lasts) (heard_in hearing.now.heard.now) hearing.now.moment) questions.now)) }
     {
-        let own = self.own_for_all(questions)?;
+        let found = Found::new(self.alloc, self.key, self.claims, questions)?;
         let mut asked = IndexSet::with_hasher(self.alloc, KeyedState::new(self.key));
         for question in questions {
             if asked.insert(asked_as(question))? {
-                self.put_found(owed, hearing, question, own.records(question))?;
+                self.put_found(owed, hearing, question, &found)?;
             }
         }
         Ok(())
@@ -137,23 +140,24 @@ impl Ours<'_> {
         self.put_each(owed, hearing, question, rrs)
     }
 
-    // The same where the own records that match the question were collected.
+    // The same where what the question asks for was collected.
     fn put_found(
         &self,
         owed: &mut OwedSet,
         hearing: &Hearing<'_>,
         question: &Question,
-        own: &[Rr],
+        found: &Found,
     ) -> Result<(), AllocError>
         requires listed { hearing.now.listed ≡ hearing.now.heard.now.message.answers }
-        requires own { own.now ≡ filter (matches (key_of question.now)) (own_in self.now.claims.now.contents.kept) }
+        requires own { own_found question.now found.now.own ≡ filter (matches (key_of question.now)) (own_in self.now.claims.now.contents.kept) }
+        requires nsecs { own_found (any_for question.now.name) found.now.nsecs ≡ filter (λ rr. folded_eq rr.owner question.now.name) (nsecs_in self.now.claims.now.contents.kept) }
         ensures { OnOk result (owed.new.keys ≡ insert_all owed_eq owed.old.keys (owed_for (ours_in self.now.claims.now.contents.kept) (last_in self.now.lasts.now.lasts) (heard_in hearing.now.heard.now) hearing.now.moment question.now)) }
     {
+        let own = found.own(question);
         if question.kind == ANY || !own.is_empty() {
             return self.put_copies(owed, hearing, question, own);
         }
-        let nsecs = self.nsecs_of(&question.name)?;
-        self.put_each(owed, hearing, question, nsecs)
+        self.put_copies(owed, hearing, question, found.nsecs(&question.name))
     }
 
     // Puts those of a question's records behind others that the query doesn't list as known.
@@ -215,20 +219,6 @@ impl Ours<'_> {
         let mut own = self.own_of(&question.name)?.into_vec();
         own.retain(|rr| question.kind == ANY || question.kind == rr.rdata.kind());
         Ok(Rrs::from_vec(own))
-    }
-
-    // The own records that several questions ask for. Those of each name are collected once, however often it is asked for.
-    fn own_for_all(&self, questions: &[Question]) -> Result<Asked, AllocError>
-        ensures { IfOk result (λ own. AreOf questions.now (own_in self.now.claims.now.contents.kept) own) }
-    {
-        let mut own = Asked::new(self.alloc, self.key, questions)?;
-        let mut names = IndexSet::with_hasher(self.alloc, KeyedState::new(self.key));
-        for question in questions {
-            if names.insert(Place::new(&question.name, 0))? {
-                own.put_all(self.own_of(&question.name)?)?;
-            }
-        }
-        Ok(own)
     }
 
     // The own records of a name.

@@ -103,7 +103,7 @@ impl UnixDoor {
     }
 }
 
-// Whether a failed call is to be tried again.
+/// Whether a failed call is to be tried again.
 pub(crate) fn is_passing(kind: ErrorKind) -> bool {
     matches!(
         kind,

@@ -1,13 +1,14 @@
 -- What answers want, name by name and type by type.
-use Rattle.std.proofs.Common.{◌≡◌, ℕ, ◌==◌, ◌&&◌, Bool, true, false, cond, List, [], ◌∷◌, ◌++◌, map, refl, ap, ◌∙◌, sym, append_assoc}
-use Rattle.std.specs.Prelude.{filter}
+use Rattle.std.proofs.Common.{◌≡◌, ℕ, ◌==◌, ◌&&◌, Bool, true, false, cond, List, [], ◌∷◌, ◌++◌, map, refl, ap, ◌∙◌, sym, append_assoc, Option, Some, None}
+use Rattle.std.specs.Prelude.{filter, IfSome}
 use Rattle.std.specs.List.{flat_map}
 use Rattle.std.proofs.lemmas.List.Elements.{filter-append}
 use Rattle.dns_name.specs.Names.{folded_eq}
 use Rattle.dns_record.specs.declared.record.Rdata.{Rdata}
 use Rattle.dns_record.specs.declared.record.Rdata.TheVariants as rdata
 use Rattle.dns_record.specs.declared.record.Rr.{Rr}
-use Rattle.dns_record.specs.Records.{kind_of}
+use Rattle.dns_record.specs.Records.{kind_of, matches}
+use Rattle.mdns_asked.specs.Asked.{Contents, records_of, key_of, AreOf, AreRight}
 use Rattle.mdns_history.specs.Sending.{own_of, addresses_of, srv_addresses}
 use Rattle.mdns_claims.specs.Owned.{of_name}
 
@@ -83,3 +84,11 @@ answers_of f (x ∷ xs) = ap (λ l. x ∷ l) (answers_of f xs)
 pub wanted_of : {X Y : Type 0} (f : X → Y) (xs : List X) → map (λ (w : X × Y). w.1) (map (λ x. (x, f x)) xs) ≡ map f xs
 wanted_of f [] = refl
 wanted_of f (x ∷ xs) = ap (λ l. f x ∷ l) (wanted_of f xs)
+
+-- Where no question is asked, what is found is right.
+pub none_right : (own : List Rr) (asked : Contents) → AreOf [] [] asked → AreRight own asked
+none_right own asked none question = of (records_of question asked) (none question)
+  where
+    of : (o : Option (List Rr)) → o ≡ None → IfSome o (λ found. found ≡ filter (matches (key_of question)) own)
+    of None e = tt
+    of (Some found) e = cc

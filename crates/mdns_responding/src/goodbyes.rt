@@ -102,7 +102,8 @@ fn has(some: &[Rr], rr: &Rr) -> bool
     some.iter().any(|one| rr.same(one))
 }
 
-fn put_copies(records: &mut Vec<Rr>, some: &[Rr]) -> Result<(), AllocError>
+/// Puts copies of records behind others. Refused only for want of memory.
+pub fn put_copies(records: &mut Vec<Rr>, some: &[Rr]) -> Result<(), AllocError>
     ensures { OnOk result (records.new.items ≡ records.old.items ++ some.now) }
 {
     for rr in some {

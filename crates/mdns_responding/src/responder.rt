@@ -11,11 +11,12 @@ use mdns_owing::Owing;
 use mdns_reply::Lasts;
 use std::alloc::{AllocError, Global};
 
-/// What responses are made from: when records were last multicast, what queries are owed, and what an event makes of the groups. Nothing
+/// What responses are made from: the daemon's key, when records were last multicast, what queries are owed, and what an event makes of the groups. Nothing
 /// is changed by it.
 #[derive(Drop)]
 pub struct Responder<'a> {
     pub alloc: Global,
+    pub key: u64,
     pub lasts: &'a Lasts,
     pub owing: &'a Owing,
     pub behind: &'a Behind<'a>,

@@ -56,8 +56,8 @@ pub fn take_turn<R: Wait, A: Air, C: Clock, W: Words>(
     happening
 }
 
-// Wakes the writers of the sessions that were given something, cut or detached. What is given stands by session, so that
-// each of these is rung once.
+/// Wakes the writers of the sessions that were given something, cut or detached. What is given stands by session, so that
+/// each of these is rung once.
 pub(crate) fn ring_for(given: &[Given], marks: &[Mark], event: &Event, bell: &Bell) {
     let mut rung = None;
     for one in given {

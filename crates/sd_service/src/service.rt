@@ -92,6 +92,7 @@ fn published(alloc: Global, txt: &Bytes) -> Result<Bytes, AllocError>
     }
 }
 
+/// A unique record of a name, with the flush bit; the TTL is in seconds. (RFC 6762 10.2)
 pub(crate) fn unique_record(name: &Name, ttl: u32, rdata: Rdata) -> Rr
     ensures { result ≡ unique_record name.now ttl rdata }
 {

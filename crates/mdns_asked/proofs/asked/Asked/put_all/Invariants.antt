@@ -1,9 +1,6 @@
-use Rattle.std.proofs.Common.{◌≡◌, filter}
-use Rattle.dns_record.specs.declared.record.Question.{Question}
-use Rattle.dns_record.specs.Records.{matches}
-use Rattle.mdns_asked.specs.Asked.{key_of, records_of}
-use Rattle.mdns_asked.proofs.Putting.{behind}
+use Rattle.std.proofs.Common.{take}
+use Rattle.mdns_asked.specs.Asked.{IsPut}
 use Rattle.mdns_asked.proofs.asked.Asked.put_all.Given as goal
 
 abbrev pub invariant-loop-rr : goal.invariant-loop-rr
-invariant-loop-rr l = (question : Question) → records_of question l.self-inside.lists.entries ≡ behind (filter (matches (key_of question)) l.yielded) (records_of question l.fn.self)
+invariant-loop-rr l = IsPut (take l.rr-index l.rrs) l.fn.self l.self-inside.lists.entries

@@ -4,20 +4,23 @@ use Rattle.std.proofs.lemmas.List.{take_all}
 use Rattle.dns_record.specs.declared.record.Question.{Question}
 use Rattle.dns_record.specs.declared.record.Rr.{Rr}
 use Rattle.indexmap.specs.IndexSet.{insert_all}
-use Rattle.mdns_claims.specs.Owned.{own_in}
+use Rattle.mdns_claims.specs.Owned.{own_in, nsecs_in}
 use Rattle.mdns_history.specs.Debts.{Owed, owed_eq}
 use Rattle.mdns_history.specs.Hearings.{Heard}
 use Rattle.mdns_debts.specs.Following.{Ours}
 use Rattle.mdns_owing.specs.Owing.{heard_in, last_in, ours_in, owed_for}
 use Rattle.mdns_owing.proofs.Asked.{one_more, again, answered}
-use Rattle.mdns_owing.proofs.Collecting.{found_at}
-use Rattle.mdns_owing.proofs.hearing.Ours.put_several_owed.Goals as goal
-use Rattle.mdns_owing.proofs.hearing.Ours.put_several_owed.Goals.{then-branch+in_ok-put_found, else-branch}
+use Rattle.mdns_owing.proofs.Collecting.{found_at, named_at}
+use Rattle.mdns_owing.proofs.hearing.Ours.put_many_owed.Goals as goal
+use Rattle.mdns_owing.proofs.hearing.Ours.put_many_owed.Goals.{then-branch+in_ok-put_found, else-branch}
 
 pub put_found-requires-clause-own : goal.put_found-requires-clause-own
 put_found-requires-clause-own c =
-    c.records.ensures
-    ∙ found_at c.args.questions.now (own_in c.args.self.now.claims.now.contents.kept) c.in_ok-own.own c.loop-question.question-index c.question-item.result c.in_ok-own.ensures c.loop-question-test.true c.question-item.is
+    found_at c.args.questions.now (own_in c.args.self.now.claims.now.contents.kept) c.in_ok-found.found.own c.loop-question.question-index c.question-item.result c.in_ok-found.ensures.own c.loop-question-test.true c.question-item.is
+
+pub put_found-requires-clause-nsecs : goal.put_found-requires-clause-nsecs
+put_found-requires-clause-nsecs c =
+    named_at c.args.questions.now (nsecs_in c.args.self.now.claims.now.contents.kept) c.in_ok-found.found.nsecs c.loop-question.question-index c.question-item.result c.in_ok-found.ensures.nsecs c.loop-question-test.true c.question-item.is
 
 pub returns : goal.returns
 returns c =

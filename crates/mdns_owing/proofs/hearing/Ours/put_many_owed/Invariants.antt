@@ -4,7 +4,7 @@ use Rattle.indexmap.specs.IndexSet.{insert_all}
 use Rattle.mdns_history.specs.Debts.{owed_eq}
 use Rattle.mdns_owing.specs.Owing.{heard_in, last_in, ours_in, owed_for}
 use Rattle.mdns_owing.proofs.Asked.{AreAnswered}
-use Rattle.mdns_owing.proofs.hearing.Ours.put_several_owed.Given as goal
+use Rattle.mdns_owing.proofs.hearing.Ours.put_many_owed.Given as goal
 
 abbrev pub invariant-loop-question : goal.invariant-loop-question
 invariant-loop-question l =
