@@ -1,17 +1,17 @@
 -- When the daemons of a hub are due, as their histories say.
-use Rattle.std.proofs.Common.{◌≡◌, ◌≢◌, ◌⊎◌, inl, inr, ℕ, ◌+◌, ◌<◌, ◌≤◌, max, Bool, true, false, List, [], Option, Some, None, IsTrue, IfSome, nat_lt, nat_le, option_and_then, option_map, refl, sym, ap, subst, ◌∙◌, arith}
+use Rattle.std.proofs.Common.{◌≡◌, ℕ, ◌<◌, max, Bool, true, false, List, Option, Some, None, nat_lt, option_and_then, option_map, refl, sym, ap, subst, ◌∙◌, arith}
 use Rattle.std.specs.Option.{is_some}
 use Rattle.std.proofs.lemmas.Bool.{false≢true}
 use Rattle.mdns_history.specs.declared.config.Config.{Config}
 use Rattle.mdns_history.specs.declared.entry.Entry.{Entry}
 use Rattle.mdns_history.specs.History.{config_of}
-use Rattle.mdns_history.specs.Due.{IsNextDue, NextDue, is_idle}
+use Rattle.mdns_history.specs.Due.{IsNextDue, NextDue}
 use Rattle.mdns_core.specs.InForce.{in_force}
 use Rattle.mdns_core.specs.State.{due_of}
 use Rattle.mdns_core.specs.Laws.{StatesAreDue}
 use Rattle.mdns_hub.specs.declared.hub.Hub.{Hub}
 use Rattle.mdns_hub.specs.declared.daemons.Booted.{Booted}
-use Rattle.mdns_hub.specs.Played.{Played, history_of, is_booted}
+use Rattle.mdns_hub.specs.Played.{Played, history_of}
 use Rattle.mdns_hub.specs.Slots.{slot_at, due_at}
 use Rattle.mdns_hub.specs.Plays.{IsTickDue}
 use Rattle.mdns_hub.specs.Hubs.{StandsFor, SlotStands}

@@ -1,11 +1,9 @@
 -- Packets under way stay in order as they are put, taken, and time passes.
 use Rattle.std.proofs.Common.{◌≡◌, ℕ, zero, suc, ◌+◌, ◌<◌, ◌≤◌, Bool, true, false, cond, not, List, [], ◌∷◌, insert, nat_lt, nat_le, Option, Some, None, IfSome, subst, refl, ap, sym, ◌∙◌, arith}
 use Rattle.std.specs.List.{prefix_len}
-use Rattle.std.proofs.lemmas.Bool.{ltb-true, ltb-false}
 use Rattle.mdns_hub.specs.declared.delivery.Delivery.{Delivery}
 use Rattle.mdns_hub.specs.declared.link.Link.{Link}
 use Rattle.mdns_hub.specs.Links.{put_delivery, put_where}
-use Rattle.dns_name.specs.Lists.{count_where}
 use Rattle.mdns_hub.specs.Order.{AreFit, first_moment, early_count}
 use Rattle.mdns_hub.specs.Plays.{comes_by}
 

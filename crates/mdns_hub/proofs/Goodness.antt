@@ -1,5 +1,5 @@
 -- What a command that isn't bad asks of a hub.
-use Rattle.std.proofs.Common.{◌≡◌, ℕ, ◌+◌, ◌^◌, ◌<◌, ◌≤◌, ◌==◌, ◌&&◌, ◌||◌, Bool, true, false, not, nat_lt, nat_le, List, Option, inl, inr, refl, sym, ap, subst, ◌∙◌, arith}
+use Rattle.std.proofs.Common.{◌≡◌, ℕ, ◌+◌, ◌^◌, ◌≤◌, ◌&&◌, ◌||◌, Bool, true, false, not, nat_lt, nat_le, List, Option, inl, inr, refl, sym, ap, subst, ◌∙◌, arith}
 use Rattle.std.proofs.lemmas.Bool.{false≢true}
 use Rattle.mdns_history.specs.declared.config.Config.{Config}
 use Rattle.mdns_history.specs.declared.event.Event.{Event}
@@ -8,8 +8,8 @@ use Rattle.mdns_script.specs.declared.command.Command.{Command}
 use Rattle.mdns_script.specs.declared.command.Command.TheVariants.{Pass, Daemon, At, Word, Seed, Delay, Lose, Part, Meet, Attach, Event as Happening}
 use Rattle.mdns_hub.specs.declared.hub.Hub.{Hub}
 use Rattle.mdns_hub.specs.Slots.{is_kept}
-use Rattle.mdns_hub.specs.Played.{Played, is_booted, told_text}
-use Rattle.mdns_hub.specs.Plays.{is_bad_at, is_bad, is_out_of_reach, is_setting, set_by, Does, Plays}
+use Rattle.mdns_hub.specs.Played.{Played, told_text}
+use Rattle.mdns_hub.specs.Plays.{is_bad_at, is_bad, is_setting, set_by, Does, Plays}
 use Rattle.mdns_hub.specs.Output.{DoesPart, PlaysPart}
 use Rattle.mdns_hub.specs.Hubs.{StandsFor, Advances, BreaksIn, is_bad_for}
 use Rattle.mdns_hub.proofs.Standing.{booted_same}

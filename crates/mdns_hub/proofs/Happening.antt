@@ -1,12 +1,11 @@
 -- What an event of a daemon leads to, told of a hub.
-use Rattle.std.proofs.Common.{◌≡◌, ◌⊎◌, inl, inr, ℕ, ◌+◌, ◌++◌, ◌≤◌, ◌==◌, cond, false, Some, List, [], ◌∷◌, Option, take, refl, sym, ap, subst, ◌∙◌, append-nil}
+use Rattle.std.proofs.Common.{◌≡◌, inl, inr, ℕ, ◌≤◌, ◌==◌, cond, false, Some, List, [], ◌∷◌, Option, take, refl, sym, ap, subst, ◌∙◌, append-nil}
 use Rattle.std.specs.Io.KnownBytes.{Appends}
 use Rattle.std.proofs.KnownBytes.{Appends-nil}
 use Rattle.mdns_draw.specs.declared.words.Words.{Words}
 use Rattle.mdns_draw.specs.Drawing.{next_word, words_after}
 use Rattle.mdns_history.specs.declared.config.Config.{Config}
 use Rattle.mdns_history.specs.declared.event.Event.{Event}
-use Rattle.mdns_history.specs.declared.event.Event.TheVariants as event
 use Rattle.mdns_history.specs.declared.entry.Entry.{Entry}
 use Rattle.mdns_history.specs.EntryText.{entry_text}
 use Rattle.mdns_history.specs.Fitting.{is_boot, boot_entry, last_moment}
@@ -21,7 +20,7 @@ use Rattle.mdns_hub.specs.Stepped.{IsStep}
 use Rattle.mdns_hub.specs.Tallies.{no_tally}
 use Rattle.mdns_hub.specs.Plays.{Happens, Boots, with_entry}
 use Rattle.mdns_hub.specs.Output.{OrNothing}
-use Rattle.mdns_hub.specs.Hubs.{StandsFor, SlotsStand, Puts, PutsPart, Advances, BreaksIn}
+use Rattle.mdns_hub.specs.Hubs.{SlotsStand, Puts, PutsPart, Advances, BreaksIn}
 use Rattle.mdns_hub.specs.Running.{HappensAt, IsFollowed}
 use Rattle.mdns_hub.proofs.Written.{part_nothing}
 use Rattle.mdns_hub.proofs.Standing.{telling, addresses_same, stands_step, stands_boot, no_history}

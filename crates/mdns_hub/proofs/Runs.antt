@@ -1,6 +1,5 @@
 -- Packets that are heard and ticks that are due, one after another.
-use Rattle.std.proofs.Common.{◌≡◌, ◌⊎◌, inl, inr, ℕ, zero, suc, ◌+◌, ◌++◌, ◌<◌, ◌≤◌, max, take, Bool, true, false, List, [], ◌∷◌, Option, Some, None, nat_lt, nat_le, refl, sym, ap, subst, ◌∙◌, append_assoc, arith}
-use Rattle.std.specs.Io.KnownBytes.{Appends}
+use Rattle.std.proofs.Common.{◌≡◌, ◌⊎◌, inl, inr, ℕ, zero, suc, ◌+◌, ◌++◌, ◌<◌, ◌≤◌, max, Bool, true, false, List, ◌∷◌, Option, Some, None, nat_lt, refl, sym, ap, subst, ◌∙◌, append_assoc, arith}
 use Rattle.std.proofs.KnownBytes.{Appends-trans}
 use Rattle.mdns_history.specs.declared.event.Event.TheVariants as event
 use Rattle.mdns_core.specs.Laws.{StatesAreDue}
@@ -9,15 +8,15 @@ use Rattle.mdns_hub.specs.declared.hub.Hub.{Hub}
 use Rattle.mdns_hub.specs.Links.{LinkState}
 use Rattle.mdns_hub.specs.Kept.{link_of}
 use Rattle.mdns_hub.specs.Order.{AreFit}
-use Rattle.mdns_hub.specs.Slots.{is_kept, due_at, AreDueFrom, AreOver}
+use Rattle.mdns_hub.specs.Slots.{is_kept, due_at, AreOver}
 use Rattle.mdns_hub.specs.Played.{Played, transcript}
-use Rattle.mdns_hub.specs.Plays.{IsTickDue, Delivers, Ticks, AreDone, AreSomeDone, IsQuiet, RunsTo, with_under_way}
+use Rattle.mdns_hub.specs.Plays.{Delivers, Ticks, AreDone, AreSomeDone, IsQuiet, RunsTo, with_under_way}
 use Rattle.mdns_hub.specs.Output.{OrNothing}
 use Rattle.mdns_hub.specs.Hubs.{StandsFor, SlotsStand, Puts, PutsPart, Advances, BreaksIn}
 use Rattle.mdns_hub.specs.Running.{HappensAt, ComesFrom, is_over}
 use Rattle.mdns_hub.proofs.Written.{part_then}
 use Rattle.mdns_hub.proofs.Fitness.{fit_later}
-use Rattle.mdns_hub.proofs.Happening.{puts_nothing, puts_no_part}
+use Rattle.mdns_hub.proofs.Happening.{puts_nothing}
 use Rattle.mdns_hub.proofs.Dues.{tick_due, due_known}
 
 -- One after another.

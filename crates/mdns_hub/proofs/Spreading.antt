@@ -1,14 +1,13 @@
 -- Packets that reach one daemon after another.
-use Rattle.std.proofs.Common.{◌≡◌, ℕ, zero, suc, ◌+◌, ◌-◌, ◌<◌, ◌≤◌, Bool, true, false, cond, not, ◌&&◌, ◌==◌, List, [], ◌∷◌, length, get_or, drop, map, filter, Option, Some, None, refl, ap, sym, ◌∙◌, arith}
+use Rattle.std.proofs.Common.{◌≡◌, ℕ, zero, suc, ◌+◌, ◌-◌, ◌<◌, Bool, true, false, cond, not, ◌&&◌, ◌==◌, List, [], ◌∷◌, length, get_or, drop, map, filter, Option, Some, None, refl, ap, sym, ◌∙◌, arith}
 use Rattle.std.specs.Option.{is_some, option_map, option_map_or}
 use Rattle.dns_name.specs.Lists.{count_up}
-use Rattle.mdns_base.specs.declared.host.Dest.{Dest}
 use Rattle.mdns_hub.specs.declared.delivery.Delivery.{Delivery}
 use Rattle.mdns_hub.specs.declared.delivery.Parted.{Parted}
 use Rattle.mdns_hub.specs.declared.link.Packet.{Packet}
 use Rattle.mdns_hub.specs.declared.daemons.Booted.{Booted}
 use Rattle.mdns_history.specs.declared.entry.Sent.{Sent}
-use Rattle.mdns_hub.specs.Links.{LinkState, with_packet, with_packets, hears_from, is_for, are_parted, delivery_to, put_where, put_delivery, put_all}
+use Rattle.mdns_hub.specs.Links.{LinkState, with_packet, with_packets, hears_from, is_for, are_parted, delivery_to, put_where, put_all}
 use Rattle.mdns_hub.specs.Slots.{slot_at, is_kept, address_at}
 
 -- the delivery of a packet to a daemon

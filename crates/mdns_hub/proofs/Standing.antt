@@ -1,5 +1,5 @@
 -- The slots stand for the histories of their numbers, step by step.
-use Rattle.std.proofs.Common.{◌≡◌, ◌≢◌, ℕ, ◌≤◌, ◌==◌, Bool, true, false, cond, List, [], ◌∷◌, Option, Some, None, IsTrue, option_map, option_and_then, eq-eqb, refl, sym, ap, subst, ◌∙◌, arith}
+use Rattle.std.proofs.Common.{◌≡◌, ◌≢◌, ℕ, ◌==◌, Bool, true, false, cond, List, [], ◌∷◌, Option, Some, None, option_map, eq-eqb, refl, sym, ap, subst, ◌∙◌, arith}
 use Rattle.std.specs.List.{cons_option}
 use Rattle.std.specs.Option.{is_some, option_or, option_map_or}
 use Rattle.std.proofs.lemmas.Bool.{false≢true}
@@ -14,7 +14,6 @@ use Rattle.mdns_core.specs.State.{State, Stands}
 use Rattle.mdns_hub.specs.declared.daemons.Booted.{Booted}
 use Rattle.mdns_hub.specs.Played.{Told, history_of, config_in, is_booted, address_in}
 use Rattle.mdns_hub.specs.Slots.{slot_at, is_kept, address_at, tally_at}
-use Rattle.mdns_hub.specs.declared.tally.Tally.{Tally}
 use Rattle.mdns_hub.specs.Tallies.{no_tally, with_gifts, tally_of}
 use Rattle.mdns_hub.specs.Stepped.{IsStep}
 use Rattle.mdns_hub.specs.Plays.{Follows}

@@ -1,5 +1,5 @@
 -- What a hub stands for.
-use Rattle.std.specs.Prelude.{◌≡◌, ℕ, ◌≤◌, Bool, List, [], ◌∷◌, ◌++◌, take, Option, Some, None}
+use Rattle.std.specs.Prelude.{◌≡◌, ℕ, Bool, List, [], ◌++◌, take, Option, Some, None}
 use Rattle.std.specs.Option.{option_map}
 use Rattle.std.specs.Io.KnownBytes.{Appends}
 use Rattle.mdns_history.specs.declared.entry.Entry.{Entry}
@@ -7,9 +7,7 @@ use Rattle.mdns_history.specs.History.{config_of}
 use Rattle.mdns_script.specs.declared.command.Command.{Command}
 use Rattle.mdns_core.specs.State.{Stands}
 use Rattle.mdns_hub.specs.declared.hub.Hub.{Hub}
-use Rattle.mdns_hub.specs.declared.link.Link.{Link}
 use Rattle.mdns_hub.specs.declared.daemons.Booted.{Booted}
-use Rattle.mdns_hub.specs.Links.{LinkState}
 use Rattle.mdns_hub.specs.Kept.{link_of}
 use Rattle.mdns_hub.specs.Played.{Played, Told, history_of, transcript}
 use Rattle.mdns_hub.specs.Slots.{slot_at, is_kept}

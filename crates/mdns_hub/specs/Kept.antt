@@ -1,6 +1,4 @@
 -- What is kept of the link, and the order of the packets under way.
-use Rattle.std.specs.Prelude.{ℕ, ◌≤◌, List, [], ◌∷◌}
-use Rattle.mdns_hub.specs.declared.delivery.Delivery.{Delivery}
 use Rattle.mdns_hub.specs.declared.link.Link.{Link}
 use Rattle.mdns_hub.specs.Links.{LinkState}
 

@@ -1,5 +1,5 @@
 -- What it is for a command to be played by up to sixteen daemons.
-use Rattle.std.specs.Prelude.{◌≡◌, ◌≢◌, ◌⊎◌, ℕ, ◌+◌, ◌^◌, ◌<◌, ◌≤◌, ◌==◌, zero, suc, max, nat_lt, nat_le, Bool, false, not, ◌&&◌, ◌||◌, List, [], ◌∷◌, ◌++◌, filter, true, IsTrue}
+use Rattle.std.specs.Prelude.{◌≡◌, ◌≢◌, ◌⊎◌, ℕ, ◌+◌, ◌<◌, ◌≤◌, ◌==◌, zero, suc, max, nat_lt, nat_le, Bool, false, not, ◌&&◌, ◌||◌, List, [], ◌∷◌, ◌++◌, filter, true, IsTrue}
 use Rattle.mdns_draw.specs.Drawing.{next_word, words_after}
 use Rattle.mdns_draw.specs.declared.words.Words.TheVariants.{Same, Seeded}
 use Rattle.mdns_history.specs.declared.config.Config.{Config}

@@ -1,5 +1,5 @@
 -- The daemons that a hub keeps: one in the slot of its number, and nothing in the others.
-use Rattle.std.specs.Prelude.{◌≡◌, ℕ, ◌<◌, ◌≤◌, max, Bool, List, Option, Some, None, option_and_then, slice_get}
+use Rattle.std.specs.Prelude.{◌≡◌, ℕ, ◌<◌, ◌≤◌, max, Bool, List, Option, Some, option_and_then, slice_get}
 use Rattle.std.specs.Option.{is_some, option_map, option_map_or}
 use Rattle.mdns_core.specs.State.{due_of}
 use Rattle.mdns_hub.specs.declared.daemons.Booted.{Booted}

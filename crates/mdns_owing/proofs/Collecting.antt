@@ -8,7 +8,7 @@ use Rattle.dns_record.specs.declared.record.Question.{Question}
 use Rattle.dns_record.specs.declared.record.Rr.{Rr}
 use Rattle.dns_record.specs.Records.{key_eq, matches}
 use Rattle.by_name.proofs.Finding.{at_eq-laws}
-use Rattle.mdns_asked.specs.Asked.{Contents, key_of, place_of, records_of, is_asked, any_for, AreOf}
+use Rattle.mdns_asked.specs.Asked.{Contents, key_of, place_of, is_asked, any_for, AreOf}
 use Rattle.mdns_asked.proofs.Asking.{all_of_name}
 use Rattle.mdns_owing.specs.Asked.{own_found}
 

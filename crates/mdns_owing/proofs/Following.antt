@@ -1,5 +1,5 @@
 -- What is noted of an event, and what is dropped then, are the queries behind it.
-use Rattle.std.proofs.Common.{◌≡◌, ℕ, Bool, true, false, cond, ◌&&◌, List, [], ◌∷◌, ◌++◌, map, length, suc, refl, ap, ◌∙◌, sym, arith}
+use Rattle.std.proofs.Common.{◌≡◌, ℕ, Bool, true, false, cond, List, [], ◌∷◌, ◌++◌, map, length, suc, refl, ap, ◌∙◌, sym, arith}
 use Rattle.std.proofs.lemmas.Bool.{true≢false}
 use Rattle.std.proofs.lemmas.Bool.{and_parts, and_from}
 use Rattle.std.proofs.lemmas.List.{map-append}
@@ -15,8 +15,8 @@ use Rattle.mdns_probe.specs.Kept.{Kept}
 use Rattle.mdns_reply.specs.Lasts.{Last}
 use Rattle.mdns_debts.specs.Queries.{Query}
 use Rattle.mdns_debts.specs.Following.{News, left_by, leaves, has_owed, all_among, queries_from, queries_after}
-use Rattle.mdns_owing.specs.Owing.{ours_in, last_in, news_told, query_told, followed_by, kept_ours, queries_told}
-use Rattle.mdns_owing.specs.Laws.{followed, AreFollowed, QueriesFollow}
+use Rattle.mdns_owing.specs.Owing.{ours_in, last_in, news_told, query_told, kept_ours, queries_told}
+use Rattle.mdns_owing.specs.Laws.{followed, QueriesFollow}
 
 abbrev Test : Type 0
 Test = Query → Owed → Bool

@@ -1,12 +1,11 @@
 -- What is owed as keys: the same records that go one way are equal. What is hashed of it is what is hashed of its record.
-use Rattle.std.specs.Prelude.{◌≡◌, ℕ, ◌==◌, Bool, true, false, ◌&&◌, List, IsTrue}
-use Rattle.std.proofs.Common.{◌∙◌, sym, refl, ap, subst, eqb-true, arith}
+use Rattle.std.specs.Prelude.{◌≡◌, ℕ, ◌==◌, true, ◌&&◌, List, IsTrue}
+use Rattle.std.proofs.Common.{◌∙◌, refl, subst, eqb-true, arith}
 use Rattle.std.proofs.lemmas.Bool.{and_parts, and_from}
 use Rattle.std.specs.Cmp.{IsEquivalence, IsPartialEquivalence, both_ways}
-use Rattle.mdns_base.specs.declared.host.Host.{Host}
 use Rattle.mdns_base.specs.declared.host.Dest.{Dest}
 use Rattle.mdns_base.specs.declared.host.Dest.TheVariants.{All, One}
-use Rattle.mdns_base.specs.Hosts.{host_eq, dest_eq}
+use Rattle.mdns_base.specs.Hosts.{dest_eq}
 use Rattle.dns_record.specs.Records.{same}
 use Rattle.mdns_history.specs.Debts.{Owed, owed_eq}
 use Rattle.mdns_reply.specs.Marks.{record_writes, same_is_equivalence, same_writes as same_record_writes}

@@ -1,5 +1,5 @@
 -- What contracts see of the queries that are owed something, and what an event makes of them, told of what is kept. (RFC 6762 5.4, 6, 6.1, 6.7, 7.1 to 7.4)
-use Rattle.std.specs.Prelude.{◌≡◌, ℕ, nat_le, Bool, not, ◌&&◌, List, [], ◌++◌, map, filter, Option}
+use Rattle.std.specs.Prelude.{ℕ, nat_le, Bool, not, ◌&&◌, List, [], ◌++◌, map, filter, Option}
 use Rattle.std.specs.List.{list_any, flat_map}
 use Rattle.dns_record.specs.declared.record.Rr.{Rr}
 use Rattle.dns_record.specs.Records.{same}
@@ -15,7 +15,7 @@ use Rattle.mdns_history.specs.Debts.{Owed, is_struck}
 use Rattle.mdns_happened.specs.declared.happened.Heard.{Heard as Said}
 use Rattle.mdns_owing.specs.declared.terms.Terms.{Terms}
 use Rattle.mdns_owing.specs.declared.news.News.{News as Event}
-use Rattle.mdns_debts.specs.Following.{Ours, News, owed_to, way_for, queries_from, leaves, left_by, has_owed, is_among, queries_after}
+use Rattle.mdns_debts.specs.Following.{Ours, News, owed_to, way_for, queries_from, leaves, left_by, has_owed, queries_after}
 
 -- what a query says of itself that decides when and where what it is owed goes, as a query that is owed nothing
 abbrev pub query_of_terms : Terms → Query

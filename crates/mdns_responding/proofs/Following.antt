@@ -1,5 +1,5 @@
 -- Responses and the marks of announcements, told of what is kept of groups, of last multicasts and of queries, are those of the history.
-use Rattle.std.proofs.Common.{◌≡◌, ℕ, ◌≤◌, Bool, true, false, cond, List, [], ◌∷◌, ◌++◌, map, Some, None, refl, ap, ◌∙◌, sym, append-nil, arith}
+use Rattle.std.proofs.Common.{◌≡◌, ℕ, ◌≤◌, Bool, true, cond, List, [], ◌∷◌, ◌++◌, map, Some, None, refl, ap, ◌∙◌, sym, append-nil, arith}
 use Rattle.std.specs.Prelude.{filter}
 use Rattle.std.specs.List.{filter_map, flat_map, cons_option}
 use Rattle.dns_name.specs.Lists.{ordered}

@@ -1,4 +1,4 @@
-use Rattle.std.proofs.Common.{◌≡◌, ◌+◌, ◌-◌, ◌≤◌, ℕ, vec_len}
+use Rattle.std.proofs.Common.{◌≡◌, ◌+◌, ◌-◌, ℕ, vec_len}
 use Rattle.mdns_hub.specs.Slots.{slot_at}
 use Rattle.mdns_hub.proofs.daemons.Daemons.make_place.Given as goal
 

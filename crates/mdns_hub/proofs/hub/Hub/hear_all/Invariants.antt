@@ -1,4 +1,4 @@
-use Rattle.std.proofs.Common.{◌≡◌, ◌+◌, ◌≤◌}
+use Rattle.std.proofs.Common.{◌≡◌, ◌≤◌}
 use Rattle.mdns_hub.specs.Order.{early_count}
 use Rattle.mdns_hub.specs.Plays.{AreSomeDone}
 use Rattle.mdns_hub.specs.Hubs.{Advances}

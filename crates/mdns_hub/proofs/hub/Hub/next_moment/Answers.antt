@@ -1,4 +1,4 @@
-use Rattle.std.proofs.Common.{◌≡◌, ◌≤◌, ◌<◌, max, length, ℕ, Some, arith}
+use Rattle.std.proofs.Common.{◌<◌, length, arith}
 use Rattle.mdns_hub.proofs.Slotted.{due_within}
 use Rattle.mdns_hub.proofs.hub.Hub.next_moment.Goals as goal
 

@@ -1,4 +1,4 @@
-use Rattle.std.proofs.Common.{◌≡◌, ◌∙◌, ◌+◌, ◌≤◌, ◌<◌, ℕ, Option, IfSome, refl, sym, subst, arith}
+use Rattle.std.proofs.Common.{◌∙◌, ◌+◌, ◌≤◌, ℕ, Option, IfSome, refl, sym, subst, arith}
 use Rattle.mdns_hub.specs.Running.{ComesFrom}
 use Rattle.mdns_hub.proofs.Written.{on_err_from}
 use Rattle.mdns_hub.proofs.Runs.{advances_then, advances_later, breaks_then, breaks_later, run_advances}

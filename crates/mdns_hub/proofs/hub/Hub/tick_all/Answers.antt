@@ -1,4 +1,4 @@
-use Rattle.std.proofs.Common.{◌∙◌, ◌+◌, ◌≡◌, ◌<◌, ◌≤◌, ℕ, max, Some, length, arith}
+use Rattle.std.proofs.Common.{◌∙◌, ◌<◌, length, arith}
 use Rattle.mdns_hub.proofs.Written.{on_err_from}
 use Rattle.mdns_hub.proofs.Slotted.{due_within}
 use Rattle.mdns_hub.proofs.Runs.{advances_then, breaks_then}

@@ -1,7 +1,5 @@
-use Rattle.std.proofs.Common.{◌≡◌, ◌∙◌, ◌+◌, ◌<◌, List, ◌∷◌, drop, length, ap, sym, arith}
-use Rattle.std.proofs.Math.Seq.{drop-cons}
-use Rattle.mdns_history.specs.declared.entry.Sent.{Sent}
-use Rattle.mdns_hub.specs.Links.{LinkState, with_packet, with_packets}
+use Rattle.std.proofs.Common.{◌∙◌, ◌+◌, drop, ap, arith}
+use Rattle.mdns_hub.specs.Links.{with_packets}
 use Rattle.mdns_hub.specs.Kept.{link_of}
 use Rattle.mdns_hub.specs.Slots.{address_at}
 use Rattle.mdns_hub.proofs.Spreading.{sent_next}

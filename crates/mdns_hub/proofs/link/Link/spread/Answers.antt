@@ -1,8 +1,7 @@
-use Rattle.std.proofs.Common.{◌≡◌, ◌∙◌, ◌+◌, ◌<◌, ℕ, Bool, true, List, ap, sym, refl, subst, arith}
+use Rattle.std.proofs.Common.{◌≡◌, ◌∙◌, ◌+◌, Bool, List, ap, sym, subst, arith}
 use Rattle.mdns_hub.specs.declared.delivery.Delivery.{Delivery}
 use Rattle.mdns_hub.specs.declared.delivery.Parted.{Parted}
 use Rattle.mdns_hub.specs.Links.{LinkState, hears_from, put_where}
-use Rattle.mdns_hub.specs.Kept.{link_of}
 use Rattle.mdns_hub.specs.Slots.{is_kept, address_at}
 use Rattle.mdns_hub.specs.Order.{AreFit, early_count}
 use Rattle.mdns_hub.proofs.Fitness.{fit_where, early_where}

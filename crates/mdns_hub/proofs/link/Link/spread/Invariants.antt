@@ -1,6 +1,4 @@
-use Rattle.std.proofs.Common.{◌≡◌, ◌-◌, ◌<◌, ◌≤◌, ℕ, map, filter}
-use Rattle.dns_name.specs.Lists.{count_up}
-use Rattle.mdns_hub.specs.Links.{put_all, delivery_to, hears_from}
+use Rattle.std.proofs.Common.{◌≡◌, ◌<◌, ◌≤◌, ℕ}
 use Rattle.mdns_hub.specs.Kept.{link_of}
 use Rattle.mdns_hub.specs.Slots.{is_kept, address_at}
 use Rattle.mdns_hub.specs.Order.{AreFit, early_count}

@@ -1,4 +1,4 @@
-use Rattle.std.proofs.Common.{◌≡◌, ◌∙◌, [], map, subst, List}
+use Rattle.std.proofs.Common.{◌∙◌, [], subst, List}
 use Rattle.dns_record.specs.declared.record.Question.{Question}
 use Rattle.mdns_asked.specs.Asked.{AreOf}
 use Rattle.mdns_asked.proofs.Asking.{all_more}

@@ -1,4 +1,4 @@
-use Rattle.std.proofs.Common.{◌≡◌, ◌∙◌, ap, List, length, arith, ◌≤◌}
+use Rattle.std.proofs.Common.{◌∙◌, ap, List, length, arith, ◌≤◌}
 use Rattle.std.specs.List.{flat_map}
 use Rattle.std.proofs.lemmas.List.{take_all}
 use Rattle.dns_record.specs.declared.record.Question.{Question}

@@ -1,8 +1,7 @@
-use Rattle.std.proofs.Common.{◌≡◌, ◌∙◌, ℕ, Bool, true, false, ◌&&◌, ◌||◌, List, ap, sym, refl}
+use Rattle.std.proofs.Common.{◌≡◌, ◌∙◌, ap, sym}
 use Rattle.std.specs.List.{list_any, flat_map}
 use Rattle.mdns_history.specs.Debts.{is_long_ago}
 use Rattle.mdns_history.specs.Multicasts.{multicast_gap, defence_gap}
-use Rattle.mdns_debts.specs.Queries.{Query}
 use Rattle.mdns_debts.specs.Releasing.{wanted_of}
 use Rattle.mdns_owing.specs.Owing.{State, last_in, is_probing_for}
 use Rattle.mdns_owing.proofs.Probed.{is_probe_for, all_probed, told_by_probes}

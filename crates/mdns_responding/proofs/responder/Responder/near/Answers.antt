@@ -1,4 +1,4 @@
-use Rattle.std.proofs.Common.{◌≡◌, []}
+use Rattle.std.proofs.Common.{[]}
 use Rattle.std.proofs.lemmas.Result.{IfOk-weaker}
 use Rattle.mdns_asked.specs.Asked.{AreOf, AreRight}
 use Rattle.mdns_asked.proofs.Asking.{are_right}
