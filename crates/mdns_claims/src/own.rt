@@ -1,5 +1,5 @@
 // The own records of a name. (RFC 6762 6)
-ghost use Rattle.std.specs.Prelude.{OnOk, ◌++◌, ◌≡◌};
+ghost use Rattle.std.specs.Prelude.{OnOk, [], ◌∷◌, ◌++◌, ◌≡◌};
 ghost use Rattle.mdns_asked.specs.Asked.{IsPut};
 ghost use Rattle.mdns_claims.specs.Owned.{claimed, claimed_of, of_name, own_in};
 
@@ -37,10 +37,17 @@ fn put_of_name(rrs: &mut Rrs, some: &[Rr], name: &Name) -> Result<(), AllocError
 {
     for rr in some {
         if rr.owner.folded_eq(name) {
-            rrs.push(rr.copy()?)?;
+            put_copy(rrs, rr)?;
         }
     }
     Ok(())
+}
+
+// Puts a copy of a record behind others. It stands apart from the loop over all records, which takes no room for a copy that it seldom makes.
+fn put_copy(rrs: &mut Rrs, rr: &Rr) -> Result<(), AllocError>
+    ensures { OnOk result (rrs.new ≡ rrs.old ++ rr.now ∷ []) }
+{
+    rrs.push(rr.copy()?)
 }
 
 /// Puts the own records that questions ask for behind those that they have: of the groups that are sure. Refused only for want of memory.

@@ -116,16 +116,9 @@ fn prepare<R: Wait + Copy, E: Ear + Drop>(
     ensures hearing { IfOk result (λ o. IsSeatOf (arc_value o.hearing.common.turn) o.hearing.seat) }
     ensures ticking { IfOk result (λ o. IsSeatOf (arc_value o.ticking.common.turn) o.ticking.seat) }
 {
-    let common = Common {
-        rt,
-        alloc,
-        turn: Arc::try_clone(turn)?,
-        bell: Arc::new(alloc, Bell::new(alloc)?)?,
-    };
-    let hearing = chair_beside(&common, seat)?;
-    let ticking = chair_beside(&common, seat)?;
-    let slot = Arc::new(alloc, Slot::new())?;
-    let ear_slot = Arc::try_clone(&slot)?;
+    let common = common(rt, alloc, turn)?;
+    let (hearing, ticking) = two_chairs(&common, seat)?;
+    let (slot, ear_slot) = two_slots(alloc)?;
     Ok(Opening {
         common,
         hearing,
@@ -133,6 +126,47 @@ fn prepare<R: Wait + Copy, E: Ear + Drop>(
         slot,
         ear_slot,
     })
+}
+
+// What the threads share: the turn, and a bell. Refused only for want of memory.
+fn common<R: Wait + Copy>(
+    rt: R,
+    alloc: Global,
+    turn: &Arc<Turn<Shared>>,
+) -> Result<Common<R>, AllocError>
+    ensures { IfOk result (λ common. arc_value common.turn ≡ arc_value turn.now) }
+{
+    let turn = Arc::try_clone(turn)?;
+    let bell = Bell::new(alloc)?;
+    let bell = Arc::new(alloc, bell)?;
+    Ok(Common {
+        rt,
+        alloc,
+        turn,
+        bell,
+    })
+}
+
+// The chairs of the ear and of the ticker. Refused only for want of memory.
+fn two_chairs<R: Wait + Copy>(
+    common: &Common<R>,
+    seat: &mut Seat<Shared>,
+) -> Result<(Chair<R>, Chair<R>), AllocError>
+    requires { IsSeatOf (arc_value common.now.turn) seat.old }
+    ensures kept { seat.new ≡ seat.old }
+    ensures first { IfOk result (λ two. IsSeatOf (arc_value two.0.common.turn) two.0.seat) }
+    ensures second { IfOk result (λ two. IsSeatOf (arc_value two.1.common.turn) two.1.seat) }
+{
+    let first = chair_beside(common, seat)?;
+    let second = chair_beside(common, seat)?;
+    Ok((first, second))
+}
+
+// A slot for the ear, as the server and as the ear's thread has it. Refused only for want of memory.
+fn two_slots<E: Ear + Drop>(alloc: Global) -> Result<(Arc<Slot<E>>, Arc<Slot<E>>), AllocError> {
+    let slot = Arc::new(alloc, Slot::new())?;
+    let other = Arc::try_clone(&slot)?;
+    Ok((slot, other))
 }
 
 // Gives the parts back to the place; nothing was done with them.
