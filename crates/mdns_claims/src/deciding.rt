@@ -9,6 +9,7 @@ ghost use Rattle.mdns_probe.specs.Claiming.{begun};
 ghost use Rattle.mdns_probe.specs.Kept.{disturbed_for};
 
 use crate::begin::begun;
+use crate::beginning::Beginning;
 use crate::claimant::Claimant;
 use crate::plan::Deed;
 use crate::renew::Seen;
@@ -40,7 +41,8 @@ pub fn deed(
             return Ok(Deed::Ends);
         }
         let begun = begun(alloc, seen, registered, groups)?;
-        return Ok(beginning(begun));
+        let begins = beginning(alloc, begun)?;
+        return Ok(begins);
     }
     let disturbed = changes(alloc, seen, groups)?;
     Ok(disturbed)
@@ -57,13 +59,16 @@ fn changes(alloc: Global, seen: &Seen<'_>, groups: &[Claimant]) -> Result<Deed, 
     Ok(Deed::Changes(renewals))
 }
 
-// A group that begins, if one does.
-fn beginning(begun: Option<Claimant>) -> Deed
-    ensures { result ≡ option_map_or Deed.Begins begun Deed.Nothing }
+// A group that begins, if one does. Refused only for want of memory.
+fn beginning(alloc: Global, begun: Option<Claimant>) -> Result<Deed, AllocError>
+    ensures { IfOk result (λ deed. deed ≡ option_map_or Deed.Begins begun Deed.Nothing) }
 {
     match begun {
-        Some(one) => Deed::Begins(one),
-        None => Deed::Nothing,
+        Some(one) => {
+            let one = Beginning::new(alloc, one)?;
+            Ok(Deed::Begins(one))
+        }
+        None => Ok(Deed::Nothing),
     }
 }
 

@@ -34,7 +34,7 @@ impl Means<'_> {
             Deed::Nothing => {}
             Deed::Ticks => tick_all(groups, self.moment, self.announces),
             Deed::Begins(one) => {
-                let _ = groups.push(one);
+                let _ = groups.push(one.into_claimant());
             }
             Deed::Ends => end(groups, self.happened, self.marks),
             Deed::Changes(renewals) => {

@@ -92,7 +92,7 @@ pub fn begun(deed: &Deed) -> Option<&Claimant>
     ensures { option_copied result ≡ begun_by deed.now }
 {
     match deed {
-        Deed::Begins(one) => Some(one),
+        Deed::Begins(one) => Some(one.claimant()),
         _ => None,
     }
 }

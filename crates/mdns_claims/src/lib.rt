@@ -4,6 +4,7 @@
 
 mod answers;
 mod begin;
+mod beginning;
 mod behind;
 mod claimant;
 mod claims;
@@ -24,6 +25,7 @@ mod renew;
 mod renewal;
 mod turns;
 
+pub use beginning::Beginning;
 pub use behind::Behind;
 pub use claimant::Claimant;
 pub use claims::Claims;

@@ -1,7 +1,7 @@
 // What an event makes of claims, computed before anything is changed.
 ghost use Rattle.std.specs.Prelude.{◌≡◌, ◌++◌, OnOk};
 
-use crate::claimant::Claimant;
+use crate::beginning::Beginning;
 use crate::renewal::Renewal;
 use mdns_conflict::Storm;
 use mdns_history::{Mark, Marks};
@@ -25,7 +25,7 @@ pub enum Deed {
     /// Time has passed.
     Ticks,
     /// A group begins.
-    Begins(Claimant),
+    Begins(Beginning),
     /// Those end whose operation does.
     Ends,
     /// Those end whose operation does, or that fail; others get other numbers and records, each in its place.

@@ -24,7 +24,7 @@ pub returns-then-is_empty-clause-done : goal.returns-then-is_empty-clause-done
 returns-then-is_empty-clause-done c =
     begins_done (occasion_in c.args.seen.now) c.args.seen.now.happened.now refl c.args.groups.now c.requires.marks c.args.registered (sym c.is_tick.ensures ∙ c.if-is_tick.false)
     (sym c.is_empty.ensures ∙ c.if-is_empty.true) (sym c.is_update.ensures ∙ c.if-is_update.false) (sym c.ends_some.ensures ∙ c.if-ends_some.false)
-    c.in_ok-begun.begun c.in_ok-begun.ensures.value c.beginning.result c.beginning.ensures
+    c.in_ok-begun.begun c.in_ok-begun.ensures.value c.in_ok-begins.begins c.in_ok-begins.ensures
 
 pub returns-clause-done : goal.returns-clause-done
 returns-clause-done c =
