@@ -4,6 +4,3 @@
 mod asked;
 
 pub use asked::{Asked, any_for};
-
-#[cfg(test)]
-mod tests;

@@ -30,18 +30,29 @@ impl Known {
     /// A row of answers: `held` and `own` have one record more that is known; every other row is a request, of which the questions are
     /// told, and behind a bar the answers.
     pub fn row(&mut self, told: &mut Told, row: &[&str]) -> Result<(), RowError> {
-        let alloc = told.alloc;
         match row {
-            ["new"] => *self = Known::new(alloc),
-            ["held", text] => self.held.push(Held {
-                rr: record(alloc, *text)?,
-                heard: 0,
-                word: 0,
-                end: 0,
-            })?,
-            ["own", text] => self.own.push(record(alloc, *text)?)?,
-            _ => return self.answer(told, &request(alloc, row)?),
+            ["new"] => {
+                *self = Known::new(told.alloc);
+                told.put("done")
+            }
+            ["held", text] => self.put_held(told, record(told.alloc, *text)?),
+            ["own", text] => self.put_own(told, record(told.alloc, *text)?),
+            _ => self.answer(told, &request(told.alloc, row)?),
         }
+    }
+
+    fn put_held(&mut self, told: &mut Told, rr: Rr) -> Result<(), RowError> {
+        self.held.push(Held {
+            rr,
+            heard: 0,
+            word: 0,
+            end: 0,
+        })?;
+        told.put("done")
+    }
+
+    fn put_own(&mut self, told: &mut Told, rr: Rr) -> Result<(), RowError> {
+        self.own.push(rr)?;
         told.put("done")
     }
 
@@ -82,32 +93,52 @@ fn put_answers(told: &mut Told, answers: &Answers) -> Result<(), RowError> {
 
 fn request(alloc: Global, row: &[&str]) -> Result<Request, RowError> {
     match row {
-        ["query", kind, name] => Ok(Request::Query {
-            kind: kind.parse()?,
-            name: Name::parse_text(*name)?,
-        }),
-        ["address", families, name] => Ok(Request::Address {
-            families: families.parse()?,
-            name: Name::parse_text(*name)?,
-        }),
-        ["browse", regtype] => Ok(Request::Browse {
-            regtype: text(alloc, *regtype)?,
-        }),
-        ["resolve", label, regtype] => Ok(Request::Resolve {
-            label: text(alloc, *label)?,
-            regtype: text(alloc, *regtype)?,
-        }),
-        ["register", label, regtype, port] => Ok(Request::Register {
-            label: text(alloc, *label)?,
-            regtype: text(alloc, *regtype)?,
-            port: port.parse()?,
-            norename: false,
-            txt: Bytes::new(),
-        }),
+        ["query", kind, name] => query(*kind, *name),
+        ["address", families, name] => address(*families, *name),
+        ["browse", regtype] => browse(alloc, *regtype),
+        ["resolve", label, regtype] => resolve(alloc, *label, *regtype),
+        ["register", label, regtype, port] => register(alloc, *label, *regtype, *port),
         ["update"] => Ok(Request::Update { txt: Bytes::new() }),
         ["stop"] => Ok(Request::Stop),
         _ => Err(RowError::NotUnderstood),
     }
+}
+
+fn query(kind: &str, name: &str) -> Result<Request, RowError> {
+    Ok(Request::Query {
+        kind: kind.parse()?,
+        name: Name::parse_text(name)?,
+    })
+}
+
+fn address(families: &str, name: &str) -> Result<Request, RowError> {
+    Ok(Request::Address {
+        families: families.parse()?,
+        name: Name::parse_text(name)?,
+    })
+}
+
+fn browse(alloc: Global, regtype: &str) -> Result<Request, RowError> {
+    Ok(Request::Browse {
+        regtype: text(alloc, regtype)?,
+    })
+}
+
+fn resolve(alloc: Global, label: &str, regtype: &str) -> Result<Request, RowError> {
+    Ok(Request::Resolve {
+        label: text(alloc, label)?,
+        regtype: text(alloc, regtype)?,
+    })
+}
+
+fn register(alloc: Global, label: &str, regtype: &str, port: &str) -> Result<Request, RowError> {
+    Ok(Request::Register {
+        label: text(alloc, label)?,
+        regtype: text(alloc, regtype)?,
+        port: port.parse()?,
+        norename: false,
+        txt: Bytes::new(),
+    })
 }
 
 fn text(alloc: Global, text: &str) -> Result<Text, RowError> {

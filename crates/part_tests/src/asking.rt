@@ -93,18 +93,43 @@ fn step(
 ) -> Result<(), RowError>
     requires { IsWellFormedCall (told_by happened.now).call }
 {
-    let alloc = told.alloc;
     told.put("due ")?;
     told.put_number(asking.first_due())?;
-    let when = event.when;
+    let walked = walked(told.alloc, asking, &event, happened)?;
+    told.put_count(", walked ", walked)?;
+    let walks = walks(told.alloc, event.when.moment, event.name, event.held)?;
+    carry_out(told, asking, event.when, happened, &walks)
+}
+
+// How many names are to be walked.
+fn walked(
+    alloc: Global,
+    asking: &Asking,
+    event: &Event,
+    happened: &Happened<'_>,
+) -> Result<usize, RowError>
+    requires { IsWellFormedCall (told_by happened.now).call }
+{
     let mut names = Vec::new(alloc);
-    asking.put_names(&mut names, when, happened, &event.touched)?;
-    let walks = walks(alloc, when.moment, event.name, event.held)?;
-    let mut sent = Sends::new(alloc);
-    let plan = asking.plan(when, happened, &walks, &Sessions::new(alloc), &mut sent)?;
+    asking.put_names(&mut names, event.when, happened, &event.touched)?;
+    Ok(names.len())
+}
+
+fn carry_out(
+    told: &mut Told,
+    asking: &mut Asking,
+    when: When,
+    happened: &Happened<'_>,
+    walks: &[Walk],
+) -> Result<(), RowError>
+    requires call { IsWellFormedCall (told_by happened.now).call }
+    requires heard { AreHeard when.moment walks.now }
+{
+    let mut sent = Sends::new(told.alloc);
+    let sessions = Sessions::new(told.alloc);
+    let plan = asking.plan(when, happened, walks, &sessions, &mut sent)?;
     asking.reserve(&plan)?;
-    asking.apply(when, &plan, &walks);
-    told.put_count(", walked ", names.len())?;
+    asking.apply(when, &plan, walks);
     told.put_count(", sent ", sent.as_slice().len())?;
     put_plan(told, &plan)
 }

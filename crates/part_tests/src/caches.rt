@@ -43,8 +43,7 @@ pub fn cache_row<L: Ledger>(
         }
         ["visit", name, place] => {
             let place = number(*place)? as usize;
-            let found = cache.visit(&Name::parse_text(*name)?, place, steps);
-            told.put_yes(found.is_some())
+            tell_visit(told, cache, steps, &Name::parse_text(*name)?, place)
         }
         _ => cache_look(told, cache, row),
     }
@@ -70,6 +69,16 @@ fn cache_look(told: &mut Told, cache: &Cache, row: &[&str]) -> Result<(), RowErr
         }
         _ => Err(RowError::NotUnderstood),
     }
+}
+
+fn tell_visit<L: Ledger>(
+    told: &mut Told,
+    cache: &Cache,
+    steps: &mut Steps<L>,
+    name: &Name,
+    place: usize,
+) -> Result<(), RowError> {
+    told.put_yes(cache.visit(name, place, steps).is_some())
 }
 
 fn tell_room(told: &mut Told, cache: &Cache, now: u64, heard: &[Rr]) -> Result<(), RowError> {

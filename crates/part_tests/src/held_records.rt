@@ -28,13 +28,23 @@ pub fn held_row<L: Ledger>(
         }
         ["hear", now, word, name, heard] => {
             let packet = Packet::read(told.alloc, *now, *word, *heard)?;
-            tell_touched(told, held, &packet)?;
-            tell_walk(told, held, steps, &packet, Name::parse_text(*name)?)?;
-            hear(told, held, steps, packet)
+            hear(told, held, steps, packet, Name::parse_text(*name)?)
         }
         ["next"] => told.put_number(held.next_end()),
         _ => Err(RowError::NotUnderstood),
     }
+}
+
+fn hear<L: Ledger>(
+    told: &mut Told,
+    held: &mut Records,
+    steps: &mut Steps<L>,
+    packet: Packet,
+    name: Name,
+) -> Result<(), RowError> {
+    tell_touched(told, held, &packet)?;
+    tell_walk(told, held, steps, &packet, name)?;
+    carry_out(told, held, steps, packet)
 }
 
 // How many names a packet touches. Nothing is changed.
@@ -71,7 +81,7 @@ fn put_ends(told: &mut Told, words: &str, held: &[Held]) -> Result<(), RowError>
 }
 
 // Hears the packet, where there is room.
-fn hear<L: Ledger>(
+fn carry_out<L: Ledger>(
     told: &mut Told,
     held: &mut Records,
     steps: &mut Steps<L>,

@@ -10,12 +10,14 @@ use crate::error::RowError;
 use crate::held_records::held_row;
 use crate::known_answers::known_row;
 use crate::last_multicasts::last_row;
+use crate::packets::packet_row;
 use crate::questions::Asked;
 use crate::read::words;
 use crate::services::{host_row, service_row, types_row};
 use crate::told::Told;
 use crate::values::value_row;
 use by_name::ByName;
+use mdns_asked::Asked as PacketQuestions;
 use mdns_asking::Asking;
 use mdns_cache::{Cache, Steps};
 use mdns_conflict::Storm;
@@ -39,22 +41,27 @@ pub struct Kept {
     known: Known,
     asking: Asking,
     lasts: Lasts,
+    packet: PacketQuestions,
 }
 
 impl Kept {
     /// Nothing of each.
     pub fn new(alloc: Global) -> Result<Kept, RowError> {
+        let cache = Cache::new(alloc, 0, 7)?;
+        let records = Records::new(alloc, 7)?;
+        let packet = PacketQuestions::new(alloc, 7, &[])?;
         Ok(Kept {
             words: Words::Same { word: 0 },
             values: ByName::new(alloc, 7),
             askers: Askers::new(alloc, 7),
-            cache: Cache::new(alloc, 0, 7)?,
-            records: Records::new(alloc, 7)?,
+            cache,
+            records,
             storm: Storm::new(),
             asked: Asked::new(alloc),
             known: Known::new(alloc),
             asking: Asking::new(alloc),
             lasts: Lasts::new(alloc, 1),
+            packet,
         })
     }
 
@@ -100,6 +107,7 @@ impl Kept {
             "answer" => self.known.row(told, row),
             "asking" => asking_row(told, &mut self.asking, row),
             "last" => last_row(told, &mut self.lasts, row),
+            "packet" => packet_row(told, &mut self.packet, row),
             _ => Err(RowError::NotUnderstood),
         }
     }

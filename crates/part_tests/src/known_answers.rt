@@ -14,27 +14,32 @@ use std::alloc::Global;
 /// A row of known answers: `one` has a moment, a question and held records, `all` has several questions; the known answers are told. `long`
 /// tells how many are listed of a record with so many bytes of TXT data, and `silences` whether a listed record silences an own one.
 pub fn known_row(told: &mut Told, row: &[&str]) -> Result<(), RowError> {
-    let alloc = told.alloc;
     match row {
-        ["one", now, question, held] => {
-            let held = all_held(alloc, *held)?;
-            let known = known_at(alloc, &key(*question)?, &held, number(*now)?)?;
-            told.put_records(known.as_slice())
-        }
-        ["all", now, questions, held] => {
-            let held = all_held(alloc, *held)?;
-            let questions = keys(alloc, *questions)?;
-            let known = all_known_at(alloc, &questions, &held, number(*now)?)?;
-            told.put_records(known.as_slice())
-        }
+        ["one", now, question, held] => tell_one(told, number(*now)?, *question, *held),
+        ["all", now, questions, held] => tell_all(told, number(*now)?, *questions, *held),
         ["long", size] => tell_long(told, number(*size)?),
-        ["silences", listed, own] => {
-            let listed = record(alloc, *listed)?;
-            let own = record(alloc, *own)?;
-            told.put_yes(suppresses(&listed, &own))
-        }
+        ["silences", listed, own] => tell_silence(told, *listed, *own),
         _ => Err(RowError::NotUnderstood),
     }
+}
+
+fn tell_one(told: &mut Told, now: u32, question: &str, held: &str) -> Result<(), RowError> {
+    let held = all_held(told.alloc, held)?;
+    let known = known_at(told.alloc, &key(question)?, &held, now)?;
+    told.put_records(known.as_slice())
+}
+
+fn tell_all(told: &mut Told, now: u32, questions: &str, held: &str) -> Result<(), RowError> {
+    let held = all_held(told.alloc, held)?;
+    let questions = keys(told.alloc, questions)?;
+    let known = all_known_at(told.alloc, &questions, &held, now)?;
+    told.put_records(known.as_slice())
+}
+
+fn tell_silence(told: &mut Told, listed: &str, own: &str) -> Result<(), RowError> {
+    let listed = record(told.alloc, listed)?;
+    let own = record(told.alloc, own)?;
+    told.put_yes(suppresses(&listed, &own))
 }
 
 fn keys(alloc: Global, text: &str) -> Result<Vec<Key>, RowError> {

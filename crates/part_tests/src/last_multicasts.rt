@@ -16,39 +16,51 @@ use std::alloc::Global;
 /// and tells whether the most that were kept lie between two numbers. The other rows ask when a record was multicast, and whether that
 /// is long ago.
 pub fn last_row(told: &mut Told, lasts: &mut Lasts, row: &[&str]) -> Result<(), RowError> {
-    let alloc = told.alloc;
     match row {
         ["new"] => {
-            *lasts = Lasts::new(alloc, 1);
+            *lasts = Lasts::new(told.alloc, 1);
             told.put("done")
         }
-        ["send", now, rr] => {
-            let sent = [response(alloc, record(alloc, *rr)?)?];
-            let made = multicasts(alloc, &sent)?;
-            told.put_count("", made.as_slice().len())?;
-            note(lasts, number(*now)?, made)
-        }
+        ["send", now, rr] => send(told, lasts, number(*now)?, record(told.alloc, *rr)?),
         ["update", count, least, greatest] => {
-            let most = update(alloc, lasts, number(*count)?)?;
+            let most = update(told.alloc, lasts, number(*count)?)? as u64;
             let (least, greatest) = (moment(*least)?, moment(*greatest)?);
-            told.put_yes(least < most as u64 && (most as u64) < greatest)
+            told.put_yes(least < most && most < greatest)
         }
         _ => last_look(told, lasts, row),
     }
 }
 
+// Multicasts a record; how many were multicast.
+fn send(told: &mut Told, lasts: &mut Lasts, now: u32, rr: Rr) -> Result<(), RowError> {
+    let sent = [response(told.alloc, rr)?];
+    let made = multicasts(told.alloc, &sent)?;
+    told.put_count("", made.as_slice().len())?;
+    note(lasts, now, made)
+}
+
 // A row that changes nothing.
 fn last_look(told: &mut Told, lasts: &Lasts, row: &[&str]) -> Result<(), RowError> {
-    let alloc = told.alloc;
     match row {
         ["empty"] => told.put_yes(lasts.is_empty()),
-        ["of", rr] => told.put_number(lasts.last(&record(alloc, *rr)?)),
-        ["free", now, rr] => told.put_yes(lasts.is_free(&record(alloc, *rr)?, moment(*now)?)),
-        ["defend", now, rr] => {
-            let rr = record(alloc, *rr)?;
-            told.put_yes(lasts.is_free_to_defend(&rr, moment(*now)?))
+        ["of", rr] => {
+            let rr = record(told.alloc, *rr)?;
+            told.put_number(lasts.last(&rr))
         }
-        ["recent", now, rr] => told.put_yes(lasts.is_recent(&record(alloc, *rr)?, moment(*now)?)),
+        [asked, now, rr] => {
+            let rr = record(told.alloc, *rr)?;
+            told.put_yes(is_so(lasts, *asked, moment(*now)?, &rr)?)
+        }
+        _ => Err(RowError::NotUnderstood),
+    }
+}
+
+// Whether a record is free to be multicast, or to defend its name, or was multicast of late.
+fn is_so(lasts: &Lasts, asked: &str, now: u64, rr: &Rr) -> Result<bool, RowError> {
+    match asked {
+        "free" => Ok(lasts.is_free(rr, now)),
+        "defend" => Ok(lasts.is_free_to_defend(rr, now)),
+        "recent" => Ok(lasts.is_recent(rr, now)),
         _ => Err(RowError::NotUnderstood),
     }
 }

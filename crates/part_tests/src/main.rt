@@ -15,6 +15,7 @@ mod kept;
 mod known_answers;
 mod last_multicasts;
 mod numbered;
+mod packets;
 mod questions;
 mod read;
 mod services;
@@ -40,22 +41,32 @@ fn tell_all<L: Ledger>(rt: HostRuntime, blank: Blank) -> Result<(), RowError>
 {
     let mut steps: Steps<L> = Steps::new(blank);
     let mut kept = Kept::new(rt.alloc())?;
+    tell_lines(rt, &mut kept, &mut steps)
+}
+
+fn tell_lines<L: Ledger>(
+    rt: HostRuntime,
+    kept: &mut Kept,
+    steps: &mut Steps<L>,
+) -> Result<(), RowError> {
     for line in rt.lines(rt.alloc()) {
-        let line = line?;
-        match kept.told(rt.alloc(), &mut steps, line.as_str()) {
-            Ok(told) => print(rt, &told)?,
-            Err(error) => return Err(blame(rt, line.as_str(), error)),
-        }
+        print(rt, kept, steps, line?.as_str())?;
     }
     Ok(())
 }
 
-fn print(rt: HostRuntime, told: &[u8]) -> Result<(), RowError> {
-    Ok(io::writer(&rt).write_all(told)?)
-}
-
-// Says on standard error which row has an error.
-fn blame(rt: HostRuntime, line: &str, error: RowError) -> RowError {
-    let _ = eprintln!(rt; "{error}: {line}");
-    error
+// Prints a row and what came of it. Of a row that gives nothing it is said on standard error why.
+fn print<L: Ledger>(
+    rt: HostRuntime,
+    kept: &mut Kept,
+    steps: &mut Steps<L>,
+    line: &str,
+) -> Result<(), RowError> {
+    match kept.told(rt.alloc(), steps, line) {
+        Ok(told) => Ok(io::writer(&rt).write_all(&told)?),
+        Err(error) => {
+            let _ = eprintln!(rt; "{error}: {line}");
+            Err(error)
+        }
+    }
 }

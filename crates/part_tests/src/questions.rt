@@ -1,7 +1,7 @@
 // Rows of a question's askings: its series, and the refreshes of a record that answers it. (RFC 6762 5.2)
 
 use crate::error::RowError;
-use crate::read::{held, key, moment, number};
+use crate::read::{held, key, moment, number, when};
 use crate::told::Told;
 use dns_record::{Key, put_name};
 use mdns_base::put_decimal;
@@ -28,10 +28,9 @@ impl Asked {
     /// A row of questions: `start` and `stop` give a question a user and take one from it, `ask` asks what is due at a moment, `hold` has
     /// the one record that is held, and `forget` drops what a question was told of it.
     pub fn row(&mut self, told: &mut Told, row: &[&str]) -> Result<(), RowError> {
-        let alloc = told.alloc;
         match row {
             ["new"] => {
-                *self = Asked::new(alloc);
+                *self = Asked::new(told.alloc);
                 told.put("done")
             }
             ["reserve", more] => {
@@ -39,8 +38,8 @@ impl Asked {
                 told.put("done")
             }
             ["start", now, word, question] => {
-                let question = key(*question)?;
-                start(&mut self.asker, number(*now)?, number(*word)?, &question)?;
+                let when = when(*now, *word)?;
+                self.asker.start(when.moment, when.word, &key(*question)?)?;
                 told.put("done")
             }
             ["stop", question] => told.put_yes(self.asker.stop(&key(*question)?)),
@@ -118,10 +117,6 @@ impl Asked {
         told.put(", next ")?;
         Ok(put_decimal(&mut told.text, one.next)?)
     }
-}
-
-fn start(asker: &mut Asker, now: u32, word: u32, question: &Key) -> Result<(), RowError> {
-    Ok(asker.start(u64::from(now), word, question)?)
 }
 
 fn note(asker: &mut Asker, now: u32, question: &Key, cause: Cause) {

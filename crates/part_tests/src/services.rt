@@ -53,24 +53,48 @@ fn config(label: Label, v4: &str, v6: &str) -> Result<Config, RowError> {
 /// A row of a service: `name` has a label, a number and a type, `records` a label, a type, a port, TXT data in hexadecimal and the host's
 /// name. The unique records are told, and behind a bar the shared ones.
 pub fn service_row(told: &mut Told, row: &[&str]) -> Result<(), RowError> {
-    let alloc = told.alloc;
     match row {
         ["name", text, count, regtype] => {
-            let name = service_name(&label(*text)?, &regtype_of(*regtype)?, number(*count)?);
+            let name = numbered(*text, number(*count)?, &regtype_of(*regtype)?)?;
             Ok(put_name(&mut told.text, &name)?)
         }
         ["records", text, regtype, port, txt, host] => {
-            let regtype = regtype_of(*regtype)?;
-            let txt = read_hex(alloc, txt.as_bytes())?.ok_or(RowError::NotUnderstood)?;
-            let service = Service {
-                name: &service_name(&label(*text)?, &regtype, 1),
-                regtype: &regtype,
-                port: port.parse()?,
-                txt: &Bytes::from_vec(txt)?,
-            };
+            let service = Registered::read(told.alloc, *text, *regtype, *port, *txt)?;
             put_service(told, &service, &Name::parse_text(*host)?)
         }
         _ => Err(RowError::NotUnderstood),
+    }
+}
+
+fn numbered(text: &str, count: u32, regtype: &RegType) -> Result<Name, RowError> {
+    Ok(service_name(&label(text)?, regtype, count))
+}
+
+// What a service is registered with.
+#[derive(Drop)]
+struct Registered {
+    name: Name,
+    regtype: RegType,
+    port: u16,
+    txt: Bytes,
+}
+
+impl Registered {
+    fn read(
+        alloc: Global,
+        text: &str,
+        regtype: &str,
+        port: &str,
+        txt: &str,
+    ) -> Result<Registered, RowError> {
+        let regtype = regtype_of(regtype)?;
+        let txt = read_hex(alloc, txt.as_bytes())?.ok_or(RowError::NotUnderstood)?;
+        Ok(Registered {
+            name: numbered(text, 1, &regtype)?,
+            regtype,
+            port: port.parse()?,
+            txt: Bytes::from_vec(txt)?,
+        })
     }
 }
 
@@ -78,9 +102,14 @@ fn regtype_of(text: &str) -> Result<RegType, RowError> {
     RegType::parse(text).map_err(|_| RowError::NotUnderstood)
 }
 
-fn put_service(told: &mut Told, service: &Service, host: &Name) -> Result<(), RowError> {
-    let alloc = told.alloc;
-    let (unique, shared) = service_records(alloc, service, host)?;
+fn put_service(told: &mut Told, registered: &Registered, host: &Name) -> Result<(), RowError> {
+    let service = Service {
+        name: &registered.name,
+        regtype: &registered.regtype,
+        port: registered.port,
+        txt: &registered.txt,
+    };
+    let (unique, shared) = service_records(told.alloc, &service, host)?;
     told.put_records(unique.as_slice())?;
     told.put(" | ")?;
     told.put_records(shared.as_slice())
@@ -89,20 +118,23 @@ fn put_service(told: &mut Told, service: &Service, host: &Name) -> Result<(), Ro
 /// A row of the record that says which types a name has: `of` has a kind of owner and its name, `is` also another name and a record, of
 /// which it tells whether it is the one of that name, with the types of the owner.
 pub fn types_row(told: &mut Told, row: &[&str]) -> Result<(), RowError> {
-    let alloc = told.alloc;
     match row {
         ["of", owner, name] => {
-            let name = Name::parse_text(*name)?;
-            let unique = unique_of(alloc, *owner, &name)?;
-            Ok(put_record(&mut told.text, &nsec_of(alloc, &name, &unique)?)?)
+            let rr = types_of(told.alloc, *owner, &Name::parse_text(*name)?)?;
+            Ok(put_record(&mut told.text, &rr)?)
         }
         ["is", owner, owned, name, text] => {
-            let unique = unique_of(alloc, *owner, &Name::parse_text(*owned)?)?;
-            let name = Name::parse_text(*name)?;
-            told.put_yes(is_nsec_of(&record(alloc, *text)?, &name, &unique))
+            let unique = unique_of(told.alloc, *owner, &Name::parse_text(*owned)?)?;
+            let rr = record(told.alloc, *text)?;
+            told.put_yes(is_nsec_of(&rr, &Name::parse_text(*name)?, &unique))
         }
         _ => Err(RowError::NotUnderstood),
     }
+}
+
+fn types_of(alloc: Global, owner: &str, name: &Name) -> Result<Rr, RowError> {
+    let unique = unique_of(alloc, owner, name)?;
+    Ok(nsec_of(alloc, name, &unique)?)
 }
 
 // The unique records of a host or of a service of this name.

@@ -21,13 +21,14 @@ pub fn value_row(told: &mut Told, values: &mut ByName<u32>, row: &[&str]) -> Res
             put_value(values, &Name::parse_text(*name)?, number(*value)?)?;
             told.put("done")
         }
-        ["get", name] => {
-            let place = Place::new(&Name::parse_text(*name)?, 0);
-            let found = values.get(&place).copied();
-            told.put_number(found.map(u64::from))
-        }
+        ["get", name] => told.put_number(found(values, &Name::parse_text(*name)?)),
         _ => Err(RowError::NotUnderstood),
     }
+}
+
+fn found(values: &ByName<u32>, name: &Name) -> Option<u64> {
+    let found = values.get(&Place::new(name, 0)).copied();
+    found.map(u64::from)
 }
 
 // Puts the first value of a name that has none.
