@@ -166,7 +166,7 @@ fn with_free_name(alloc: Global, fresh: Naming, groups: &[Claimant]) -> Result<N
 fn names_of(alloc: Global, groups: &[Claimant]) -> Result<Vec<Name>, AllocError>
     ensures { IfOk result (λ names. names.items ≡ map name_of groups.now) }
 {
-    let mut names = Vec::new(alloc);
+    let mut names = Vec::with_capacity(alloc, groups.len())?;
     for one in groups {
         names.push(one.name().copy())?;
     }

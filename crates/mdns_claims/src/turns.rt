@@ -75,7 +75,7 @@ fn disturbs_any(alloc: Global, groups: &[Claimant], heard: &Heard<'_>) -> Result
 fn holdings_of(alloc: Global, groups: &[Claimant]) -> Result<Vec<Holding>, AllocError>
     ensures { IfOk result (λ holdings. holdings.items ≡ map holding_for groups.now) }
 {
-    let mut holdings = Vec::new(alloc);
+    let mut holdings = Vec::with_capacity(alloc, groups.len())?;
     for one in groups {
         holdings.push(Holding {
             id: one.naming().id(),
@@ -143,7 +143,7 @@ fn mark_of(
 fn held_by_others(alloc: Global, holdings: &[Holding], id: u64) -> Result<Vec<Name>, AllocError>
     ensures { IfOk result (λ names. names.items ≡ held_by_others id holdings.now) }
 {
-    let mut names = Vec::new(alloc);
+    let mut names = Vec::with_capacity(alloc, holdings.len())?;
     for holding in holdings {
         if holding.id != id {
             names.push(holding.name.copy())?;
