@@ -1,5 +1,5 @@
 -- What stays true of the seats as tickets and numbers are drawn and seats are joined.
-use Rattle.std.proofs.Common.{◌≡◌, ℕ, ◌^◌, ◌<◌, ◌≤◌, ◌≢◌, List, [], ◌∷◌, get_or, set, sym, ap, ◌∙◌, subst, inl, inr, ◌⊎◌, ⊎_elim, arith, Option}
+use Rattle.std.proofs.Common.{◌≡◌, ℕ, ◌^◌, ◌<◌, ◌≤◌, ◌≢◌, List, ◌∷◌, get_or, set, sym, ap, ◌∙◌, subst, inl, inr, ◌⊎◌, ⊎_elim, arith, Option}
 use Rattle.std.proofs.lemmas.List.Elements.{All-weaker}
 use mathlib.Core.Option.{some, some-injective}
 use lib.ListN.{get_elem?}
@@ -9,7 +9,7 @@ use Rattle.atomic_table.proofs.Lists.{at_set, set_else}
 use Rattle.mdns_turn.specs.declared.view.View.{View}
 use Rattle.mdns_turn.specs.declared.view.Stage.{Stage}
 use Rattle.mdns_turn.specs.declared.view.Stage.TheVariants.{Idle, Waiting, Inside}
-use Rattle.mdns_turn.specs.Rule.{Account, IsAtStage, IsMember, members, IsTrueView, IsHome, IsOut, IsOneHistory}
+use Rattle.mdns_turn.specs.Rule.{beds, Account, IsAtStage, IsMember, members, IsTrueView, IsHome, IsOut, IsOneHistory}
 
 -- a seat at this stage has no value
 abbrev pub IsOutside : Stage → Type 0
@@ -90,7 +90,7 @@ module _ {T E : Type 0} (stands : List E → T → Type 0) (o : T) where
 
   -- a step that adds no turn and leaves the value where it is
   pub moved : (s : State (Option T) (View T E)) (r : Rule s) (ws : List ℕ) (me : ℕ) (v w : View T E) (k n : ℕ) (ow sp : ℕ → ℕ) → get_elem? s.views me ≡ some v → IsOutside v.stage
-      → ws ≡ k ∷ r.all.serving ∷ n ∷ [] → k < 2 ^ 64 → r.all.ticket ≤ k → r.all.numbers ≤ n → ((j : ℕ) → IsKept r.all k n ow sp j)
+      → ws ≡ k ∷ r.all.serving ∷ n ∷ beds → k < 2 ^ 64 → r.all.ticket ≤ k → r.all.numbers ≤ n → ((j : ℕ) → IsKept r.all k n ow sp j)
       → IsTrueView o (moved_to r.all k n ow sp) me w → Rule record { words = ws; homes = s.homes; views = set s.views me w }
   moved s r ws me v w k n ow sp at out is small up more kept mine = let behind = r.behind in let first = r.first in record {
     all = moved_to r.all k n ow sp;

@@ -12,7 +12,7 @@ use Rattle.mdns_turn.specs.declared.view.View.{View}
 use Rattle.mdns_turn.specs.declared.view.Stage.TheVariants.{Idle}
 use Rattle.mdns_turn.specs.History.{StartsWith, turns_of}
 use Rattle.mdns_turn.specs.Views.{SeatState, blank, first_view, numbered, copied, informed, heeded}
-use Rattle.mdns_turn.specs.Rule.{Account, IsMember, members, IsTrueView, IsOut}
+use Rattle.mdns_turn.specs.Rule.{beds, Account, IsMember, members, IsTrueView, IsOut}
 use Rattle.mdns_turn.specs.Plays.{Names, Learns}
 use Rattle.mdns_turn.proofs.Histories.{turns_of-none, turns_of-between, starts_nil, longer_starts, AllPairs-one, AllPairs-append}
 use Rattle.mdns_turn.proofs.Frames.{IsOutside, idle_outside, moved_to, IsKept, true_still, stage_of, Rule, seats_stay, slot_stays, moved, unmoved}
@@ -195,7 +195,7 @@ module _ {T E : Type 0} (stands : List E → T → Type 0) (o : T) where
   abbrev beginning : Account E
   beginning = record { ticket = 0; serving = 0; numbers = 1; history = []; owner = λ t. 0; speaker = λ n. 0 }
 
-  pub begins : Holds (table.opening (0 ∷ 0 ∷ 1 ∷ []) (Some o ∷ []) (first_view o))
+  pub begins : Holds (table.opening (0 ∷ 0 ∷ 1 ∷ beds) (Some o ∷ []) (first_view o))
   begins = record {
     all = beginning;
     words = refl;

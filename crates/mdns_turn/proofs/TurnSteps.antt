@@ -14,7 +14,7 @@ use Rattle.mdns_turn.specs.declared.view.Stage.{Stage}
 use Rattle.mdns_turn.specs.declared.view.Stage.TheVariants.{Idle, Waiting, Inside}
 use Rattle.mdns_turn.specs.History.{StartsWith, turns, turns_of, StandsAfter, HasTurns}
 use Rattle.mdns_turn.specs.Views.{SeatState, waiting, inside, served}
-use Rattle.mdns_turn.specs.Rule.{Account, IsAtStage, IsMember, members, IsTrueView, IsHome, IsOut}
+use Rattle.mdns_turn.specs.Rule.{beds, Account, IsAtStage, IsMember, members, IsTrueView, IsHome, IsOut}
 use Rattle.mdns_turn.specs.Plays.{Draws, Comes, Looks, Serves}
 use Rattle.mdns_turn.proofs.Histories.{turns_of-more, turns_of-other, starts_same, starts_more, get_set, others_differ}
 use Rattle.mdns_turn.proofs.Frames.{IsOutside, idle_outside, waiting_outside, moved_to, IsKept, true_still, at_stage, stage_of, Rule, Homes, seats_stay, moved, unmoved}
@@ -200,7 +200,7 @@ module _ {T E : Type 0} (stands : List E → T → Type 0) (o : T) where
         tt,
         record {
           all = added_to all v.number x;
-          words = ap (λ (ws : List ℕ). set ws 1 ((get_or ws 1 0 + 1) % 2 ^ 64)) r.words ∙ ap (λ (n : ℕ). all.ticket ∷ n ∷ all.numbers ∷ []) small;
+          words = ap (λ (ws : List ℕ). set ws 1 ((get_or ws 1 0 + 1) % 2 ^ 64)) r.words ∙ ap (λ (n : ℕ). all.ticket ∷ n ∷ all.numbers ∷ beds) small;
           fits = fits;
           behind = omega arith;
           first = r.first;

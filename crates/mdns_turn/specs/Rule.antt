@@ -9,6 +9,10 @@ use Rattle.mdns_turn.specs.declared.view.View.{View}
 use Rattle.mdns_turn.specs.declared.view.Stage.{Stage}
 use Rattle.mdns_turn.specs.declared.view.Stage.TheVariants.{Idle, Waiting, Inside}
 
+-- The words behind them stay 0: threads sleep on them.
+abbrev pub beds : List ℕ
+beds = 0 ∷ 0 ∷ 0 ∷ 0 ∷ 0 ∷ 0 ∷ 0 ∷ 0 ∷ 0 ∷ 0 ∷ 0 ∷ 0 ∷ 0 ∷ 0 ∷ 0 ∷ 0 ∷ 0 ∷ 0 ∷ 0 ∷ 0 ∷ 0 ∷ 0 ∷ 0 ∷ 0 ∷ 0 ∷ 0 ∷ 0 ∷ 0 ∷ 0 ∷ 0 ∷ 0 ∷ 0 ∷ []
+
 -- all that there is, of which each seat knows a part
 pub record Account (E : Type 0) : Type 0 where
   -- the next ticket, the ticket that is served, and the next number of a seat
@@ -62,7 +66,7 @@ module _ {T E : Type 0} where
   -- the rule for a turn that was made with this opening value
   pub record IsOneHistory (stands : List E → T → Type 0) (opening : T) (s : State (Option T) (View T E)) : Type 0 where
     pub all : Account E
-    pub words : s.words ≡ all.ticket ∷ all.serving ∷ all.numbers ∷ []
+    pub words : s.words ≡ all.ticket ∷ all.serving ∷ all.numbers ∷ beds
     pub fits : all.ticket < 2 ^ 64
     pub behind : all.serving ≤ all.ticket
     -- the first seat has drawn its number

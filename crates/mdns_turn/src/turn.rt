@@ -1,9 +1,10 @@
 //! The turn, and the seats that take it.
 //!
-//! Inside is a ticket lock over a table of three words and one slot. A seat draws a ticket, looks
+//! Inside is a ticket lock over a table of words and one slot. A seat draws a ticket, looks
 //! until that ticket is served, takes the value out of the slot, works on it, puts it back, and
-//! serves the next ticket. The words never wrap: a word at its last value is left alone.
-ghost use Rattle.std.specs.Prelude.{◌≡◌, ◌<◌, ◌+◌, [], ◌∷◌, ◌++◌, ◌⊎◌, true, None, Some, IfOk, IsOkAnd};
+//! serves the next ticket. The words never wrap: a word at its last value is left alone. Of the
+//! threads that wait, a turn wakes the few that come next, and not all.
+ghost use Rattle.std.specs.Prelude.{◌≡◌, ◌<◌, ◌≤◌, ◌+◌, [], ◌∷◌, ◌++◌, ◌⊎◌, true, None, Some, IfOk, IsOkAnd};
 ghost use Rattle.mdns_turn.specs.declared.view.Stage.TheVariants.{Idle, Waiting, Inside};
 ghost use Rattle.mdns_turn.specs.History.{StartsWith, StandsAfter, turns_of};
 ghost use Rattle.mdns_turn.specs.Views.{IsIdle, IsSamePlace, waiting, served, numbered};
@@ -19,6 +20,7 @@ use std::marker::{Brand, Model};
 use std::snapshot::Snapshot;
 use std::sync::Wait;
 use std::thread;
+use std::time::Duration;
 
 /// A seat of the table. Unlike a `Seat` it may be in the middle of a turn.
 type Place<T> = atomic_table::Seat<Option<T>, View<T, <T as Tale>::Turn>>;
@@ -26,11 +28,22 @@ type Place<T> = atomic_table::Seat<Option<T>, View<T, <T as Tale>::Turn>>;
 // The word of the next ticket. The table loads word 0 where it splits and joins seats.
 const TICKET: usize = 0;
 
-// The word of the ticket that is served. Threads sleep on it.
+// The word of the ticket that is served. The threads that come next sleep on it.
 const SERVING: usize = 1;
 
 // The word of the next seat's number.
 const NUMBERS: usize = 2;
+
+// The words on which the other threads sleep, each on that of its ticket. They stay 0.
+const FIRST_BED: usize = 3;
+
+const BEDS: u64 = 32;
+
+// So many that come next sleep on the ticket that is served. Whoever goes to bed as he is called there is called once more.
+const NEAR: u64 = 2;
+
+// The longest sleep in a bed, should both calls be missed, in ms.
+const NAP: u64 = 20;
 
 /// One value that threads share by turns. A turn is taken with a [`Seat`], and all turns stand in
 /// one history, which the value stands for.
@@ -52,7 +65,7 @@ impl<T: Tale> Model for Turn<T> {
 
     ghost view = { λ t. record { table = t.table.shared.table_id; opening = t.table.shared.key.value } };
 
-    ghost invariant = { λ t. (t.table.shared.table_id.words ≡ 3) × (t.table.shared.table_id.slots ≡ 1) };
+    ghost invariant = { λ t. (t.table.shared.table_id.words ≡ 35) × (t.table.shared.table_id.slots ≡ 1) };
 }
 
 /// The right to take turns, one after the other. A thread has one, and may hand it to another.
@@ -87,7 +100,11 @@ impl<T: Tale + Drop> Turn<T> {
         let opening = Snapshot::of(&value);
         let mut slots = Vec::new(alloc);
         slots.push(Some(value))?;
-        match Table::new(alloc, &[0, 0, 1], slots, &opening) {
+        let words = [
+            0, 0, 1, 0, 0, 0, 0, 0, 0, 0, 0, 0, 0, 0, 0, 0, 0, 0, 0, 0, 0, 0, 0, 0, 0, 0, 0, 0, 0,
+            0, 0, 0, 0, 0, 0,
+        ];
+        match Table::new(alloc, &words, slots, &opening) {
             Ok((table, place)) => Ok((Turn { table }, Seat { place })),
             Err(Refused { slots: _ }) => Err(AllocError),
         }
@@ -133,11 +150,27 @@ impl<T: Tale> Turn<T> {
             if found == ticket {
                 return;
             }
-            self.table
-                .shared
-                .park(rt, SERVING, (found & 0xffff_ffff) as u32);
+            self.sleep(rt, found, ticket);
         }
         unreachable!()
+    }
+
+    // Sleeps until the ticket that is served may be another: on its word where the seat's ticket comes soon, and else in bed.
+    fn sleep<R: Wait>(&self, rt: &R, served: u64, ticket: u64) {
+        let shared = &self.table.shared;
+        if ticket.saturating_sub(served) <= NEAR {
+            shared.park(rt, SERVING, (served & 0xffff_ffff) as u32);
+        } else {
+            shared.park_timeout(rt, bed_of(ticket), 0, Duration::from_millis(NAP));
+        }
+    }
+
+    // Wakes those that come next once this ticket was served, and calls those behind them from their beds.
+    fn wake(&self, served: u64) {
+        let shared = &self.table.shared;
+        shared.wake_all(SERVING);
+        shared.wake_all(bed_of(served.saturating_add(NEAR)));
+        shared.wake_all(bed_of(served.saturating_add(NEAR + 1)));
     }
 
     // Takes the value out of the slot.
@@ -177,7 +210,7 @@ impl<T: Tale> Turn<T> {
         let None = left else { unreachable!() };
     }
 
-    // Adds the work's turn to the history, and lets the next ticket come. The parameters with
+    // Adds the work's turn to the history, lets the next ticket come, and tells which one was served. The parameters with
     // an underscore say which turn that is, for the proof alone.
     fn serve<A: Adds<T::Turn>, W: Work<T>>(
         &self,
@@ -186,7 +219,7 @@ impl<T: Tale> Turn<T> {
         _before: &Snapshot<T>,
         _reply: &W::Reply,
         _after: &Snapshot<T>,
-    )
+    ) -> u64
         requires adds { A.turns ≡ W.turn _work.now.value _before.now.value _reply.now _after.now.value ∷ [] }
         requires table { place.old.table_id ≡ self.now.table }
         requires inside { (ticket : _) × (place.old.me.0.stage ≡ Inside ticket) }
@@ -197,7 +230,7 @@ impl<T: Tale> Turn<T> {
         ensures place { IsSamePlace place.old place.new }
         ensures seat { place.new.me ≡ (served place.old.me.0 A.turns, []) }
     {
-        self.table.shared.fetch_add::<Serve<A>>(place, SERVING, 1);
+        self.table.shared.fetch_add::<Serve<A>>(place, SERVING, 1)
     }
 
     // A whole turn, of a seat that is idle before and after it.
@@ -218,8 +251,8 @@ impl<T: Tale> Turn<T> {
         let reply = work.run(&mut value);
         let after = Snapshot::of(&value);
         self.put_back(place, value);
-        self.serve::<Brand, W>(place, &asked, &before, &reply, &after);
-        self.table.shared.wake_all(SERVING);
+        let served = self.serve::<Brand, W>(place, &asked, &before, &reply, &after);
+        self.wake(served);
         reply
     }
 
@@ -298,4 +331,11 @@ impl<T: Tale> Turn<T> {
         shared.join_seat::<Merge>(&mut seat.place, place);
         shared.load::<Learn>(&mut seat.place, TICKET);
     }
+}
+
+// The bed of a ticket.
+fn bed_of(ticket: u64) -> usize
+    ensures { (3 ≤ result) × (result < 35) }
+{
+    FIRST_BED + (ticket % BEDS) as usize
 }
