@@ -139,14 +139,18 @@ class Running:
         self.process.send_signal(number)
         status = self.process.wait(LIMIT)
         self.read("stderr")
+        self.close()
+        return status, self.said["stderr"]
+
+    def close(self):
         for stream in self.streams.values():
             stream.close()
-        return status, self.said["stderr"]
 
     def drop(self):
         """Ends it where it runs yet."""
         if self.process.poll() is None:
             self.end(signal.SIGKILL)
+        self.close()
 
 
 @contextlib.contextmanager

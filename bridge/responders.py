@@ -25,13 +25,15 @@ from frames import Client, browse, register, resolve, stop, update, wire
 PROGRAMS = {name: os.path.join(TOP, "crates", name, "out", name) for name in ("mdnsd", "dns_sd")}
 TYPE, PRINTER = "_ipp._tcp", "Office._ipp._tcp.local"
 PTR, SRV, UNICAST = 12, 33, 0x8000
-# Announces a service, and says which others it finds and what it knows of them.
+# Announces a service, with TTLs of its own where they are given, and says which others it finds and what it knows of them.
 ZEROCONF = """
 import queue, signal, socket, sys, zeroconf
 signal.signal(signal.SIGTERM, lambda *_: sys.exit())
 link = zeroconf.Zeroconf(interfaces=[sys.argv[1]], ip_version=zeroconf.IPVersion.V4Only)
 own = zeroconf.ServiceInfo("_ipp._tcp.local.", "Zero._ipp._tcp.local.", addresses=[socket.inet_aton(sys.argv[1])],
-                           port=8080, properties={"a": "1"}, server="zero.local.")
+                           port=8080, properties={"a": "1"}, server="zero.local.",
+                           **{ttl: int(word) for word in sys.argv[2:] for ttl in ("host_ttl", "other_ttl")})
+print("registering", flush=True)
 link.register_service(own, allow_name_change=True)
 print("registered", own.name, flush=True)
 changes = queue.Queue()
@@ -64,13 +66,13 @@ AVAHI_SERVICE = """<?xml version="1.0" standalone='no'?>
 """
 
 
-def start_zeroconf(test):
-    """A host with zeroconf for Python, which announces `Zero`."""
+def start_zeroconf(test, *ttl):
+    """A host with zeroconf for Python, which announces `Zero`; with this TTL in seconds where one is given."""
     pythons = [python for python in (sys.executable, "/usr/bin/python3")
                if subprocess.run([python, "-c", "import zeroconf"], capture_output=True, check=False).returncode == 0]
     if not pythons:
         test.skipTest("no zeroconf for Python (python3-zeroconf of Debian)")
-    started = Running("far", pythons[0], "-c", ZEROCONF, FAR)
+    started = Running("far", pythons[0], "-c", ZEROCONF, FAR, *map(str, ttl))
     test.addCleanup(started.drop)
     return started
 
@@ -107,6 +109,13 @@ def start_avahi(test, host="far", tools=False, waits=True):
     if waits:
         started.waits_for("(/etc/avahi/services/hall.service) successfully established", "stderr")
     return started
+
+
+def publish(test, name, port):
+    """A service that Avahi, which runs with a bus, is told to announce."""
+    published = Running("far", "avahi-publish", "-s", name, TYPE, str(port), "a=1")
+    test.addCleanup(published.drop)
+    return published
 
 
 class Responders(Bridged):
@@ -153,6 +162,19 @@ class Responders(Bridged):
         self.says(announcement(0))
         other.waits_for(f"Removed {PRINTER}.")
 
+    def test_avahi_asks(self):
+        """Likewise: it resolves what the daemon announces, until that says goodbye."""
+        start_avahi(self, tools=True)
+        seeker = Running("far", "avahi-browse", "-rpk", TYPE)
+        self.addCleanup(seeker.drop)
+        self.hears_of(TYPE, ("0.0.0.0", 0))
+        self.says(announcement())
+        seeker.waits_for(f'=;link1;IPv4;Office;{TYPE};local;office.local;10.0.0.9;631;"a=1"')
+        begun = time.monotonic()
+        self.says(announcement(0))
+        seeker.waits_for(f"-;link1;IPv4;Office;{TYPE};local")
+        note(f"Office: gone from avahi-browse {time.monotonic() - begun:.2f} s after the goodbye")
+
 
 class Served(unittest.TestCase):
     """`mdnsd serve` behind the bridge, with a client."""
@@ -161,18 +183,43 @@ class Served(unittest.TestCase):
         if not os.access(PROGRAMS["mdnsd"], os.X_OK):
             self.skipTest(f"no program at {PROGRAMS['mdnsd']}")
         self.socket = os.path.join(tempfile.mkdtemp(dir="/run"), "s")
+        bridge = Running("near", BRIDGE, "--interface", "link0", "--relay", str(RELAY), "--daemon", str(DAEMON))
+        self.addCleanup(bridge.drop)
+        bridge.waits_for("bridging link0")  # Before the daemon, whose first probes are lost else.
         daemon = Running("near", PROGRAMS["mdnsd"], "serve", "--socket", self.socket, "--host", "near", "--address", NEAR, "--relay", str(DAEMON), str(RELAY))
         self.addCleanup(daemon.end)
-        daemon.waits_for("serving\n")
-        bridge = Running("near", BRIDGE, "--interface", "link0", "--relay", str(RELAY), "--daemon", str(DAEMON))
         self.addCleanup(lambda: self.assertEqual(bridge.end(), (0, "")))
-        bridge.waits_for("bridging link0")
+        daemon.waits_for("serving\n")
         self.client = Client(self.socket)
         self.addCleanup(self.client.close)
 
     def asks(self, frame, op):
         self.client.send(frame)
         self.client.expect("reply", op, 1, 0)
+
+
+class Claims(Served):
+    """What comes to the link of a daemon that starts."""
+
+    def setUp(self):
+        self.host = udp("far", "", PORT, FAR)
+        self.addCleanup(self.host.close)
+        super().setUp()
+
+    def test_host_is_probed_and_announced(self):
+        """Three probes, 250 ms apart, and two announcements, a second apart (RFC 6762 section 8), all to the group."""
+        moments = []
+        for counts in 3 * [(0, 0, 1, 0, 1, 0)] + 2 * [(0, 0x8400, 0, 1, 0, 0)]:
+            packet, *others = arrival(self.host)
+            moments.append(time.monotonic())
+            self.assertEqual(others, [(NEAR, PORT), GROUP, 255])
+            self.assertEqual(packet[:12], struct.pack(">6H", *counts))
+            self.assertIn(wire("near.local"), packet)
+            self.assertIn(socket.inet_aton(NEAR), packet)
+        gaps = [later - sooner for sooner, later in zip(moments, moments[1:])]
+        note("between the packets: " + ", ".join(f"{gap * 1e3:.0f} ms" for gap in gaps))
+        for gap, wanted in zip(gaps, (0.25, 0.25, 0.25, 1)):  # A busy machine may carry a packet late.
+            self.assertGreater(gap, wanted / 2)
 
 
 class Real(Served):
@@ -206,9 +253,10 @@ class Real(Served):
         """What the daemon asks comes to the group from port 5353 with TTL 255; a reply to it alone is heard, and a goodbye to all."""
         with contextlib.closing(udp("far", "", PORT, FAR)) as printer:
             self.asks(browse(1, TYPE), 1)
-            question, *others = arrival(printer)
-            self.assertEqual(others, [(NEAR, PORT), GROUP, 255])
-            self.assertIn(wire(TYPE + ".local"), question)
+            question = b""
+            while wire(TYPE + ".local") not in question:  # A probe of the daemon's host may come before it.
+                question, *others = arrival(printer)
+                self.assertEqual(others, [(NEAR, PORT), GROUP, 255])
             printer.sendto(announcement(), (NEAR, PORT))
             self.client.expect("add", 1, "found", PRINTER + ".")
             printer.sendto(announcement(0), (GROUP, PORT))
@@ -221,6 +269,18 @@ class Real(Served):
 
     def test_avahi(self):
         self.finds("Hall", 631, start_avahi(self))
+
+    def test_avahi_withdraws(self):
+        """Avahi stays, and takes back one service alone."""
+        start_avahi(self, tools=True)
+        published = publish(self, "Den", 800)
+        published.waits_for("Established under name 'Den'", "stderr")
+        self.asks(browse(1, TYPE), 1)
+        self.assertEqual({self.client.expect("add", 1, "found")[3] for _ in range(2)}, {f"{name}.{TYPE}.local." for name in ("Den", "Hall")})
+        begun = time.monotonic()
+        published.process.send_signal(signal.SIGTERM)
+        self.client.expect("remove", 1, "found", f"Den.{TYPE}.local.")
+        note(f"Den: gone {time.monotonic() - begun:.2f} s after avahi-publish was told to leave")
 
 
 class Found(Served):
@@ -293,6 +353,17 @@ class Found(Served):
         self.assertIn((name, theirs), (("Hall", "Hall #2"), ("Hall (2)", "Hall")))
         note(f"at the same time: ours is `{name}`, Avahi's `{theirs}`")
 
+    def test_avahi_probes_at_the_same_time(self):
+        """Of two that probe at one time the greater SRV record wins (RFC 6762 section 8.2): Avahi's with port 800, ours with 700 against 600."""
+        start_avahi(self, tools=True)
+        for label, port, names in (("Den", 800, ("Den (2)", "Den")), ("Loft", 600, ("Loft", "Loft #2"))):
+            published = publish(self, label, port)
+            name = self.registers(label, port)
+            published.waits_for("Established under name '", "stderr")
+            theirs = published.waits_for("'\n", "stderr")
+            note(f"at the same time: ours is `{name}`, Avahi's `{theirs}`")
+            self.assertEqual((name, theirs), names)
+
     def test_zeroconf_was_first(self):
         start_zeroconf(self).waits_for("registered Zero._ipp")
         self.assertEqual(self.registers("Zero"), "Zero (2)")
@@ -300,6 +371,31 @@ class Found(Served):
     def test_zeroconf_comes_later(self):
         self.assertEqual(self.registers("Zero"), "Zero")
         start_zeroconf(self).waits_for("registered Zero-2._ipp")
+
+    def test_zeroconf_at_the_same_time(self):
+        """One of both is renamed."""
+        other = start_zeroconf(self)
+        other.waits_for("registering")
+        name = self.registers("Zero")
+        other.waits_for("registered ")
+        theirs = other.waits_for(f".{TYPE}.local.")
+        note(f"at the same time: ours is `{name}`, zeroconf's `{theirs}`")
+        self.assertIn((name, theirs), (("Zero", "Zero-2"), ("Zero (2)", "Zero")))
+
+    def test_zeroconf_is_killed(self):
+        """What it announced, with a TTL of 8 s, ends by that."""
+        other = start_zeroconf(self, 8)
+        other.waits_for("registered")
+        self.asks(browse(1, TYPE), 1)
+        self.client.expect("add", 1, "found", f"Zero.{TYPE}.local.")
+        self.asks(resolve(2, "Zero", TYPE), 2)
+        self.client.expect("add", 2, "resolved", 0, 0, 8080)
+        begun = time.monotonic()
+        other.process.send_signal(signal.SIGKILL)
+        self.assertEqual({self.client.next()[:2], self.client.next()[:2]}, {("remove", 1), ("remove", 2)})
+        took = time.monotonic() - begun
+        note(f"Zero: gone {took:.2f} s after its host was killed")
+        self.assertLess(took, 9)
 
     def test_host_is_asked(self):
         """By a query to all, one that wants a reply to it alone, and one from another port."""

@@ -19,7 +19,7 @@ import unittest
 sys.dont_write_bytecode = True
 from link import (BRIDGE, DAEMON, FAR, FAR_TOO, GROUP, INSIDE, LIMIT, NEAR, NEAR_TOO, OFF, PORT, RELAY, Bridged, Running, arrival,
                   begin_inside, join_pair, make_namespaces, namespace, relayed, run, set_sysctl, spoofed, stranger, udp)
-from responders import PROGRAMS, Found, Real, Responders  # The tests there are run from here.
+from responders import PROGRAMS, Claims, Found, Real, Responders  # The tests there are run from here.
 
 SILENCE = 0.5
 

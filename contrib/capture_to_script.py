@@ -130,7 +130,8 @@ def main():
         for line in script(data, given.ask, given.host, given.until, passed):
             print(line)
     except (OSError, BadCapture, IndexError) as why:
-        print(f"{given.capture}: {'a frame is too short for its link' if isinstance(why, IndexError) else why}", file=sys.stderr)
+        words = "a frame is too short for its link" if isinstance(why, IndexError) else why.strerror if isinstance(why, OSError) else why
+        print(f"{given.capture}: {words}", file=sys.stderr)
         return 1
     for what, count in sorted(passed.items()):
         print(f"passed over: {count} {what}", file=sys.stderr)

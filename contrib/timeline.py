@@ -178,7 +178,7 @@ def main(words):
         with open(words[0], encoding="utf-8") if words else sys.stdin as it:
             found = entries(it.read().splitlines())
     except (OSError, BadTranscript) as why:
-        print(f"no line of a transcript: {why}" if isinstance(why, BadTranscript) else why, file=sys.stderr)
+        print(f"no line of a transcript: {why}" if isinstance(why, BadTranscript) else f"{words[0]}: {why.strerror}", file=sys.stderr)
         return 1
     page = Page(lanes_of(found))
     for entry in found:

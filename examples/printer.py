@@ -6,6 +6,7 @@
 OWN_PORT is one of the daemons' peers, the others are their relay ports.
 """
 import os
+import signal
 import sys
 import time
 
@@ -16,8 +17,11 @@ from frames import Peer
 
 
 def main():
+    if len(sys.argv) < 3 or not all(word.isdecimal() for word in sys.argv[1:]):
+        sys.exit(f"usage: {sys.argv[0]} OWN_PORT DAEMON_PORT...")
     own, *daemons = map(int, sys.argv[1:])
     peer = Peer(own, daemons)
+    signal.signal(signal.SIGTERM, signal.default_int_handler)
     try:
         for _ in range(2):
             peer.send(announcement(4500))
