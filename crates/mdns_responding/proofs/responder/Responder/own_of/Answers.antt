@@ -13,5 +13,5 @@ pub returns-in-Some : goal.returns-in-Some
 returns-in-Some c =
     let own : List Rr = own_in (groups_behind c.args.self.now.behind.now) in
     let found : c.in-Some.found.now ≡ filter (matches (key_of c.any_for.result)) own =
-        subst (λ (o : Option (List Rr)). IfSome o (λ rrs. rrs ≡ filter (matches (key_of c.any_for.result)) own)) (sym c.in-Some.ensures) (c.requires.near c.any_for.result) in
+    subst (λ (o : Option (List Rr)). IfSome o (λ rrs. rrs ≡ filter (matches (key_of c.any_for.result)) own)) (sym c.in-Some.ensures) (c.requires.near c.any_for.result) in
     c.from_vec.ensures ∙ c.in_ok-put_copies.ensures ∙ ap (λ (rrs : List Rr). rrs ++ c.in-Some.found.now) c.new-own.ensures.items ∙ found ∙ ap (λ (question : Question). filter (matches (key_of question)) own) c.any_for.ensures ∙ all_of_name c.args.name.now own
