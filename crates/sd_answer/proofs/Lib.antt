@@ -1,3 +1,4 @@
 pub mod Puts
 pub mod Known
 pub mod Members
+pub mod Agreeing

@@ -1,6 +1,7 @@
 //! Which questions a request asks, and which answers records give to it. (RFC 6763 sections 4 to 7)
 #![tactic(auto)]
 
+mod agree;
 mod answers;
 mod laws;
 mod lists;

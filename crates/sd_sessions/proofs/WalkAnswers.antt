@@ -37,7 +37,7 @@ use Rattle.sd_sessions.specs.Codes.{is_running}
 use Rattle.sd_sessions.specs.Settling.{called, brought_told}
 use Rattle.sd_sessions.specs.Sessions.{Session}
 use Rattle.sd_sessions.specs.Walked.{walk_for, IsBeside, IsCarried, IsSeenOf}
-use Rattle.sd_sessions.specs.Concerned.{concerned, IsApart, IsCovered}
+use Rattle.sd_sessions.specs.Concerned.{concerned, IsApart, IsCovered, IsUnmoved}
 use Rattle.sd_sessions.proofs.Covered.{all-concerned}
 use Rattle.sd_sessions.proofs.Nexts.{filter_map_swap}
 
@@ -198,6 +198,17 @@ module _ (before after : View) (around : Around) (operations : List Operation) (
           of [] e f = absurd (cc)
           of (question ∷ more) e f = at question more e f (is_running o.op operations) refl
 
+    -- an operation that was there has the answers that it had where its name was not walked, or was and its records give the same
+    pub same-unmoved : IsUnmoved (walk_for (keys_of o.request) around.walks.now) → is_running o.op operations ≡ true → had (answered before) operations o.op ≡ answered after o
+    same-unmoved unmoved runs = of (walk_for (keys_of o.request) around.walks.now) refl unmoved
+      where
+        of : (found : Option Walk) → walk_for (keys_of o.request) around.walks.now ≡ found → IsUnmoved found → had (answered before) operations o.op ≡ answered after o
+        of None e still = same-apart e
+        of (Some walk) e still =
+            sym (had-found walk e)
+            ∙ ap (λ (b : Bool). cond b (answers_over o.request (rrs_of walk.earlier.items ++ walk.own.earlier)) []) runs
+            ∙ still o.request ∙ has-found walk e
+
   -- ---- of a registration
   module _ (registers : is_register o.request ≡ true) where
     its_own : (view : View) → answered view o ≡ view.registered o.session o.op
@@ -256,23 +267,23 @@ none-gained : (before : List Operation) (earlier later : Answering) (o : Operati
 none-gained before earlier later o same = ap (map (λ answer. Add o.op answer)) (without-same (later o) (had earlier before o.op) (sym same))
 
 module _ (before after : View) (around : Around) (operations : List Operation) where
-  -- An operation of which nothing was walked or told has the answers that it had.
-  pub same-met : (o : Operation) → IsSeenOf before after around operations o → IsApart around o → had (answered before) operations o.op ≡ answered after o
+  -- An operation that was there and that an event doesn't concern has the answers that it had.
+  pub same-met : (o : Operation) → IsSeenOf before after around operations o → IsApart around o × (is_running o.op operations ≡ true) → had (answered before) operations o.op ≡ answered after o
   same-met o seen apart = of (is_register o.request) refl
     where
       of : (b : Bool) → is_register o.request ≡ b → had (answered before) operations o.op ≡ answered after o
-      of true e = same-untold before after around operations o seen e (apart.told e)
-      of false e = same-apart before after around operations o seen e (apart.walked e)
+      of true e = same-untold before after around operations o seen e (apart.0.told e)
+      of false e = same-unmoved before after around operations o seen e (apart.0.walked e) apart.1
 
   -- Where no operation is concerned nothing is lost and gained.
-  none_lost : (os : List Operation) → AllByRecursion (IsSeenOf before after around operations) os → AllByRecursion (IsCovered [] around) os →
+  none_lost : (os : List Operation) → AllByRecursion (IsSeenOf before after around operations) os → AllByRecursion (IsCovered [] around operations) os →
       [] ≡ flat_map (lost (answered before) (answered after) operations) os
   none_lost [] seen covered = refl
   none_lost (o ∷ os) seen covered =
       none_lost os seen.1 covered.1
       ∙ ap (λ (l : List Item). l ++ flat_map (lost (answered before) (answered after) operations) os) (sym (none-lost operations (answered before) (answered after) o (same-met o seen.0 (covered.0 refl))))
 
-  none_gained : (os : List Operation) → AllByRecursion (IsSeenOf before after around operations) os → AllByRecursion (IsCovered [] around) os →
+  none_gained : (os : List Operation) → AllByRecursion (IsSeenOf before after around operations) os → AllByRecursion (IsCovered [] around operations) os →
       [] ≡ flat_map (gained (answered before) (answered after) operations) os
   none_gained [] seen covered = refl
   none_gained (o ∷ os) seen covered =
@@ -280,19 +291,19 @@ module _ (before after : View) (around : Around) (operations : List Operation) w
       ∙ ap (λ (l : List Item). l ++ flat_map (gained (answered before) (answered after) operations) os) (sym (none-gained operations (answered before) (answered after) o (same-met o seen.0 (covered.0 refl))))
 
   module _ (os : List Operation) (seen : AllByRecursion (IsSeenOf before after around operations) os) where
-    lost-concerned : (numbers : List ℕ) → AllByRecursion (IsCovered numbers around) os →
+    lost-concerned : (numbers : List ℕ) → AllByRecursion (IsCovered numbers around operations) os →
         flat_map (lost (answered before) (answered after) operations) (concerned numbers os) ≡ flat_map (lost (answered before) (answered after) operations) os
     lost-concerned [] covered = none_lost os seen covered
     lost-concerned (n ∷ numbers) covered = refl
 
-    gained-concerned : (numbers : List ℕ) → AllByRecursion (IsCovered numbers around) os →
+    gained-concerned : (numbers : List ℕ) → AllByRecursion (IsCovered numbers around operations) os →
         flat_map (gained (answered before) (answered after) operations) (concerned numbers os) ≡ flat_map (gained (answered before) (answered after) operations) os
     gained-concerned [] covered = none_gained os seen covered
     gained-concerned (n ∷ numbers) covered = refl
 
 -- What is put for the operations that are concerned is what a session is brought.
 pub items-assembled : (before after : View) (around : Around) (numbers : List ℕ) (operations os ops : List Operation) (n : ℕ) (reply : Option Item) (start brought adds items : List Item) →
-    ops ≡ concerned numbers os → start ≡ option_to_list reply → take n ops ≡ ops → items ≡ brought ++ adds → AllByRecursion (IsCovered numbers around) os →
+    ops ≡ concerned numbers os → start ≡ option_to_list reply → take n ops ≡ ops → items ≡ brought ++ adds → AllByRecursion (IsCovered numbers around operations) os →
     AllByRecursion (IsSeenOf before after around operations) os →
     (AllByRecursion (IsSeenOf before after around operations) ops → brought ≡ start ++ flat_map (lost (answered before) (answered after) operations) (take n ops)) →
     (AllByRecursion (IsSeenOf before after around operations) ops → adds ≡ flat_map (gained (answered before) (answered after) operations) (take n ops)) →

@@ -1,9 +1,12 @@
 -- Which operations an event concerns: of the others nothing was walked or told.
-use Rattle.std.specs.Prelude.{◌≡◌, ℕ, ◌==◌, Bool, true, false, List, [], ◌∷◌, Option, Some, None}
+use Rattle.std.specs.Prelude.{◌≡◌, ℕ, ◌==◌, ◌⊎◌, Bool, true, false, List, [], ◌∷◌, ◌++◌, Option, Some, None}
 use Rattle.std.specs.List.{list_any, AllByRecursion}
+use Rattle.sd_call.specs.declared.request.Request.{Request}
 use Rattle.sd_call.specs.Requests.{is_register}
+use Rattle.sd_answer.specs.Known.{rrs_of}
 use Rattle.by_name.specs.At.{At, owner_of}
 use Rattle.mdns_history.specs.declared.operation.Operation.{Operation}
+use Rattle.mdns_history.specs.Answers.{answers_over}
 use Rattle.mdns_history.specs.Questions.{keys_of}
 use Rattle.mdns_history.specs.Sessions.{Accepted}
 use Rattle.mdns_happened.specs.declared.around.Around.{Around}
@@ -13,6 +16,7 @@ use Rattle.mdns_happened.specs.Registrations.{registered_in}
 use Rattle.sd_index.specs.declared.asker.Asker.{Asker}
 use Rattle.sd_index.specs.Asked.{asker_eq, askers_of}
 use Rattle.sd_sessions.specs.Sessions.{Session}
+use Rattle.sd_sessions.specs.Codes.{is_running}
 use Rattle.sd_sessions.specs.Walked.{walk_for}
 
 -- the operation of a session and a number
@@ -27,14 +31,24 @@ is_one_of askers one = list_any (asker_eq one) askers
 abbrev pub has_one : List ℕ → ℕ → Bool
 has_one numbers op = list_any (λ (n : ℕ). n == op) numbers
 
--- The name that an operation asks for was not walked, or nothing is told of it as a registration.
+-- the records of a walk's name give the same answers before the event and after it
+abbrev pub IsStill : Walk → Type 0
+IsStill walk = (request : Request) → answers_over request (rrs_of walk.earlier.items ++ walk.own.earlier) ≡ answers_over request (rrs_of walk.later.items ++ walk.own.later)
+
+-- there is no walk, or its records give the same answers
+abbrev pub IsUnmoved : Option Walk → Type 0
+IsUnmoved None = Unit {0}
+IsUnmoved (Some walk) = IsStill walk
+
+-- The name that an operation asks for was not walked, or its records give the same answers as before; or nothing is told of it as a
+-- registration.
 pub record IsApart (around : Around) (operation : Operation) : Type 0 where
-  pub walked : is_register operation.request ≡ false → walk_for (keys_of operation.request) around.walks.now ≡ None
+  pub walked : is_register operation.request ≡ false → IsUnmoved (walk_for (keys_of operation.request) around.walks.now)
   pub told : is_register operation.request ≡ true → registered_in around.registered.now operation.session operation.op ≡ None
 
--- an event concerns no operation but of these numbers
-abbrev pub IsCovered : List ℕ → Around → Operation → Type 0
-IsCovered numbers around operation = has_one numbers operation.op ≡ false → IsApart around operation
+-- an event concerns no operation but of these numbers, and the others were there before
+abbrev pub IsCovered : List ℕ → Around → List Operation → Operation → Type 0
+IsCovered numbers around before operation = has_one numbers operation.op ≡ false → IsApart around operation × (is_running operation.op before ≡ true)
 
 -- the operation of an accepted call of a session has one of these numbers
 abbrev pub IsCallCovered : List ℕ → ℕ → Option Accepted → Type 0
@@ -51,9 +65,9 @@ abbrev pub IsCallMet : List Asker → Option Accepted → Type 0
 IsCallMet concerned None = Unit {0}
 IsCallMet concerned (Some call) = is_one_of concerned (asker_at call.session call.op) ≡ true
 
--- those that an index has under the name of a walk are among these
+-- a walk's records give the same answers as before, or those that an index has under its name are among these
 abbrev pub IsWalkMet : List (At × Asker) → List Asker → Walk → Type 0
-IsWalkMet entries concerned walk = (one : Asker) → is_one_of (askers_of (owner_of walk.name) entries) one ≡ true → is_one_of concerned one ≡ true
+IsWalkMet entries concerned walk = IsStill walk ⊎ ((one : Asker) → is_one_of (askers_of (owner_of walk.name) entries) one ≡ true → is_one_of concerned one ≡ true)
 
 -- the registrations of which something is told are among these
 abbrev pub AreToldMet : List Asker → List Registered → Type 0

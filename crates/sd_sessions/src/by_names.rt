@@ -26,6 +26,7 @@ use crate::codes::{is_running, registers};
 use crate::concerned::numbers_of;
 use crate::items::{put_adds, put_removes};
 use crate::session::SessionState;
+use crate::walks::{earlier_of, later_of};
 use dns_record::Key;
 use mdns_happened::{Around, Happened, Registered, Walk, registered_in, walk_of};
 use mdns_history::{Items, Operation};
@@ -83,7 +84,7 @@ fn change_by_names(
 ) -> Result<SessionChange, AllocError>
     requires operations { AreWellFormed session.now.operations }
     requires call { IsWellFormedCall (told_by happened.now).call }
-    requires covered { AllByRecursion (IsCovered looked.now.numbers.now looked.now.around.now) session.now.operations }
+    requires covered { AllByRecursion (IsCovered looked.now.numbers.now looked.now.around.now session.now.operations) session.now.operations }
     requires called { IsCallCovered looked.now.numbers.now session.now.number (told_by happened.now).call }
     ensures { IfOk result (λ change. (earlier later : View) → IsSeen (told_by happened.now) earlier later looked.now.around.now (session_of session.now)
         → change ≡ change_told (told_by happened.now) (answered earlier) (answered later) (session_of session.now)) }
@@ -109,7 +110,7 @@ fn bring_by_names(
     looked: &Looked<'_>,
 ) -> Result<Items, AllocError>
     requires formed { AreWellFormed after.now }
-    requires covered { AllByRecursion (IsCovered looked.now.numbers.now looked.now.around.now) after.now }
+    requires covered { AllByRecursion (IsCovered looked.now.numbers.now looked.now.around.now session.now.operations) after.now }
     ensures { IfOk result (λ items. (earlier later : View) → IsSeen (told_by happened.now) earlier later looked.now.around.now (session_of session.now)
         → after.now ≡ unwrap_or (called (told_by happened.now).call session.now.number session.now.operations) session.now.operations
         → items ≡ brought_told (told_by happened.now) (answered earlier) (answered later) (session_of session.now)) }
@@ -139,7 +140,7 @@ fn items_by_names(
     looked: &Looked<'_>,
 ) -> Result<Items, AllocError>
     requires formed { AreWellFormed after.now }
-    requires covered { AllByRecursion (IsCovered looked.now.numbers.now looked.now.around.now) after.now }
+    requires covered { AllByRecursion (IsCovered looked.now.numbers.now looked.now.around.now before.now) after.now }
     ensures { IfOk result (λ items. (earlier later : View) → AllByRecursion (IsSeenOf earlier later looked.now.around.now before.now) after.now
         → items ≡ items_between (answered earlier) (answered later) reply before.now after.now) }
 {
@@ -204,7 +205,7 @@ fn compare_answers(
     looked: &Looked<'_>,
 ) -> Result<Option<Compared>, AllocError>
     requires formed { IsTrue (well_formed operation.now.request) }
-    requires covered { IsCovered looked.now.numbers.now looked.now.around.now operation.now }
+    requires covered { IsCovered looked.now.numbers.now looked.now.around.now before.now operation.now }
     ensures value { IfOk result (λ found. (earlier later : View) → IsSeenOf earlier later looked.now.around.now before.now operation.now
         → IsCompared found (had (answered earlier) before.now operation.now.op) (answered later operation.now)) }
     ensures sorted { IfOk result (λ found. IfSome found (λ compared. IsInOrder compared)) }
@@ -279,26 +280,6 @@ fn walk_for<'a>(questions: &[Key], walks: &'a [Walk]) -> Option<&'a Walk>
     match questions.first() {
         Some(question) => walk_of(&question.name, walks),
         None => None,
-    }
-}
-
-// The records of a walked name before the event, held and own.
-fn earlier_of(walk: &Walk) -> KnownRecords<'_>
-    ensures { rrs_in result ≡ rrs_of walk.now.earlier.items ++ walk.now.own.earlier }
-{
-    KnownRecords {
-        held: &walk.earlier,
-        own: walk.own.earlier.as_slice(),
-    }
-}
-
-// And after it.
-fn later_of(walk: &Walk) -> KnownRecords<'_>
-    ensures { rrs_in result ≡ rrs_of walk.now.later.items ++ walk.now.own.later }
-{
-    KnownRecords {
-        held: &walk.later,
-        own: walk.own.later.as_slice(),
     }
 }
 

@@ -1,15 +1,16 @@
 // The operations that an event concerns.
-ghost use Rattle.std.specs.Prelude.{◌≡◌, ℕ, true, IfOk, OnOk};
+ghost use Rattle.std.specs.Prelude.{◌≡◌, ℕ, true, IsTrue, IfOk, OnOk};
 ghost use Rattle.std.specs.List.{AllByRecursion};
 ghost use Rattle.mdns_happened.specs.Told.{told_by};
-ghost use Rattle.sd_sessions.specs.Concerned.{asker_at, has_one, is_one_of, AreMore, AreToldMet, IsCallMet, IsWalkMet};
+ghost use Rattle.sd_sessions.specs.Concerned.{asker_at, has_one, is_one_of, AreMore, AreToldMet, IsCallMet, IsStill, IsWalkMet};
 
+use crate::walks::{earlier_of, later_of};
 use mdns_happened::{Around, Happened, Registered, Walk};
 use sd_index::{Asker, Askers};
 use std::alloc::{AllocError, Global};
 
-/// The operations that an event concerns: those that the index has under the names that were walked, the registrations of which
-/// something is told, and that of an accepted call. Refused only for want of memory.
+/// The operations that an event concerns: those that the index has under the names that were walked and whose records changed, the
+/// registrations of which something is told, and that of an accepted call. Refused only for want of memory.
 pub fn find_concerned(
     alloc: Global,
     askers: &Askers,
@@ -40,15 +41,34 @@ pub fn numbers_of(alloc: Global, concerned: &[Asker], session: u64) -> Result<Ve
     Ok(numbers)
 }
 
-// Puts the operations that ask for the names that were walked.
+// Puts the operations that ask for the names that were walked and whose records changed.
 fn put_walked(concerned: &mut Vec<Asker>, askers: &Askers, walks: &[Walk]) -> Result<(), AllocError>
     ensures kept { OnOk result (AreMore concerned.old.items concerned.new.items) }
     ensures put { OnOk result (AllByRecursion (IsWalkMet askers.now.entries concerned.new.items) walks.now) }
 {
     for walk in walks {
-        askers.put_askers(concerned, &walk.name)?;
+        put_moved(concerned, askers, walk)?;
     }
     Ok(())
+}
+
+// Puts the operations that ask for a name that was walked, where its records changed.
+fn put_moved(concerned: &mut Vec<Asker>, askers: &Askers, walk: &Walk) -> Result<(), AllocError>
+    ensures kept { OnOk result (AreMore concerned.old.items concerned.new.items) }
+    ensures put { OnOk result (IsWalkMet askers.now.entries concerned.new.items walk.now) }
+{
+    if is_still(walk) {
+        return Ok(());
+    }
+    askers.put_askers(concerned, &walk.name)?;
+    Ok(())
+}
+
+// Whether the records of a name that was walked are as they were.
+fn is_still(walk: &Walk) -> bool
+    ensures { IsTrue result → IsStill walk.now }
+{
+    earlier_of(walk).agree(&later_of(walk))
 }
 
 // Puts the registrations of which something is told.

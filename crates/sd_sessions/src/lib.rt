@@ -13,6 +13,7 @@ mod running;
 mod session;
 mod sessions;
 mod settle;
+mod walks;
 
 pub use change::SessionChange;
 pub use codes::Registering;

@@ -25,8 +25,8 @@ bring_by_names-requires-clause-covered c =
     let told : Told = told_by c.args.happened.now in
     let after : c.or_own-after.result.now ≡ unwrap_or (called told.call c.args.session.now.number c.args.session.now.operations) c.args.session.now.operations =
     c.or_own-after.ensures ∙ ap (λ o. unwrap_or o c.args.session.now.operations) c.in_ok-operations.ensures in
-    subst (AllByRecursion (IsCovered c.args.looked.now.numbers.now c.args.looked.now.around.now)) (sym after)
-    (covered-called c.args.looked.now.numbers.now c.args.looked.now.around.now told.call c.args.session.now.number c.args.session.now.operations c.requires.called c.requires.covered)
+    subst (AllByRecursion (IsCovered c.args.looked.now.numbers.now c.args.looked.now.around.now c.args.session.now.operations)) (sym after)
+    (covered-called c.args.looked.now.numbers.now c.args.looked.now.around.now c.args.session.now.operations told.call c.args.session.now.number c.args.session.now.operations c.requires.called c.requires.covered)
 
 pub returns : goal.returns
 returns c = λ earlier later seen.

@@ -27,7 +27,7 @@ loop-session-preserved c =
 
 pub change_by_names-requires-clause-covered : goal.change_by_names-requires-clause-covered
 change_by_names-requires-clause-covered c =
-    subst (λ (numbers : List ℕ). AllByRecursion (IsCovered numbers c.args.around.now) c.session-item.result.operations) (sym c.deref.ensures.value)
+    subst (λ (numbers : List ℕ). AllByRecursion (IsCovered numbers c.args.around.now c.session-item.result.operations) c.session-item.result.operations) (sym c.deref.ensures.value)
     (session-covered c.args.concerned.now c.args.around.now (session_of c.session-item.result) c.in_ok-numbers.numbers.items c.in_ok-numbers.ensures
     (subst (λ (l : List SessionState). AllByRecursion (IsMet c.args.concerned.now c.args.around.now) (sessions_of l))
     (drop-next c.args.sessions.now c.loop-session.session-index c.session-item.result c.loop-session-test.true c.session-item.is) c.loop-session.invariant.met).0)

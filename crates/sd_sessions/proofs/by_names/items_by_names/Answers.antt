@@ -37,7 +37,7 @@ loop-operation-preserved c =
 
 pub compare_answers-requires-clause-covered : goal.compare_answers-requires-clause-covered
 compare_answers-requires-clause-covered c =
-    all-here (IsCovered c.args.looked.now.numbers.now c.args.looked.now.around.now) c.concerned-operations.result.now c.loop-operation.operation-index c.operation-item.result c.loop-operation-test.true c.operation-item.is
+    all-here (IsCovered c.args.looked.now.numbers.now c.args.looked.now.around.now c.args.before.now) c.concerned-operations.result.now c.loop-operation.operation-index c.operation-item.result c.loop-operation-test.true c.operation-item.is
     c.loop-operation.invariant.covered
 
 pub returns : goal.returns

@@ -14,6 +14,6 @@ invariant-loop-operation l =
           l.brought ≡ l.initial.brought ++ flat_map (lost (answered earlier) (answered later) l.before) (take l.operation-index l.operations);
       adds : (earlier later : View) → AllByRecursion (IsSeenOf earlier later l.looked.around.now l.before) l.operations →
           l.adds ≡ flat_map (gained (answered earlier) (answered later) l.before) (take l.operation-index l.operations);
-      covered : AllByRecursion (IsCovered l.looked.numbers.now l.looked.around.now) l.operations;
+      covered : AllByRecursion (IsCovered l.looked.numbers.now l.looked.around.now l.before) l.operations;
       formed : AreWellFormed (drop l.operation-index l.operations);
     }
