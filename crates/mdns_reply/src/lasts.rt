@@ -8,7 +8,7 @@ ghost use Rattle.mdns_history.specs.Multicasts.{multicast_gap, defence_gap};
 ghost use Rattle.mdns_reply.specs.Lasts.{most_ttl, last_of, free_at, IsLeft, Stands};
 
 use crate::mark::Mark;
-use crate::moments::{Moments, forget_old, note_all};
+use crate::moments::{KEPT_TIME, Moments, forget_old, note_all};
 use by_name::KeyedState;
 use dns_message::Rrs;
 use dns_record::Rr;
@@ -30,8 +30,9 @@ const FEW: usize = 64;
 #[derive(Drop)]
 pub struct Lasts {
     moments: Moments,
-    // How many were left when the old ones were last forgotten.
+    // How many were left when the old ones were last forgotten, and when that was, in ms.
     left: usize,
+    looked: u64,
 }
 
 impl Model for Lasts {
@@ -56,6 +57,7 @@ impl Lasts {
         Lasts {
             moments: IndexMap::with_hasher(alloc, KeyedState::new(key)),
             left: 0,
+            looked: 0,
         }
     }
 
@@ -140,13 +142,12 @@ impl Lasts {
 
     /// Notes that these records were multicast at `now` in responses, where there is room for them: those with TTL 0 are taken
     /// back, and then each with another TTL has this moment. The moments stand for the longer history, then. It takes no
-    /// memory. (RFC 6762 6)
+    /// memory, and may give back what isn't used. (RFC 6762 6)
     pub fn apply(&mut self, now: u64, sent: Rrs)
         requires bound { now ≤ 2 ^ 53 }
         requires room { length sent ≤ self.old.spare }
         ensures stands { (entry : Entry) (past : List Entry) → entry.moment ≡ now → moment_of past ≤ now → multicasts_in entry ≡ sent
             → Stands self.old.lasts past → Stands self.new.lasts (entry ∷ past) }
-        ensures room { self.old.spare ≤ self.new.spare + length sent }
     {
         let sent = sent.into_vec();
         if sent.is_empty() {
@@ -156,15 +157,17 @@ impl Lasts {
         self.forget_in_time(now);
     }
 
-    // Forgets what is so long ago that nobody can tell, where there are twice as many as were left the last time.
+    // Forgets what is so long ago that nobody can tell, where there are twice as many as were left the last time, or nothing that was
+    // left then can be worth keeping.
     fn forget_in_time(&mut self, now: u64)
-        ensures lasts { (rr : Rr) → IsLeft now (last_of rr self.old.lasts) (last_of rr self.new.lasts) }
-        ensures room { self.old.spare ≤ self.new.spare }
+        ensures { (rr : Rr) → IsLeft now (last_of rr self.old.lasts) (last_of rr self.new.lasts) }
     {
         let len = self.moments.len();
-        if len > FEW && len / 2 > self.left {
+        let has_grown = len > FEW && len / 2 > self.left;
+        if has_grown || now.saturating_sub(self.looked) > KEPT_TIME {
             forget_old(&mut self.moments, now);
             self.left = self.moments.len();
+            self.looked = now;
         }
     }
 }

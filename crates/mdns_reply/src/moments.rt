@@ -11,8 +11,8 @@ use by_name::KeyedState;
 use dns_record::Rr;
 use indexmap::IndexMap;
 
-// For how long a last multicast is kept, in ms: a quarter of the greatest TTL that own records have.
-const KEPT_TIME: u64 = 1_125_000;
+/// For how long a last multicast is kept, in ms: a quarter of the greatest TTL that own records have.
+pub const KEPT_TIME: u64 = 1_125_000;
 
 // A record that is kept.
 type Kept = Mark<'static>;
@@ -76,14 +76,15 @@ fn put(moments: &mut Moments, now: u64, rr: Rr)
     let _ = moments.insert(Mark::kept(rr), now);
 }
 
-/// Forgets the moments that are so long ago that nobody can tell.
+/// Forgets the moments that are so long ago that nobody can tell, and gives back the room that is left beyond as much again.
 pub fn forget_old(moments: &mut Moments, now: u64)
-    ensures lasts { moments.new.entries ≡ filter (λ (one : Last). is_kept now one.1) moments.old.entries }
-    ensures room { spare moments.old ≤ spare moments.new }
+    ensures { moments.new.entries ≡ filter (λ (one : Last). is_kept now one.1) moments.old.entries }
 {
     moments.retain(
         |_mark: &Kept, moment: &mut u64| -> bool
             ensures { (result ≡ is_kept now moment.old) × (moment.new ≡ moment.old) }
         { now.saturating_sub(*moment) <= KEPT_TIME },
     );
+    let twice = moments.len().saturating_mul(2);
+    moments.shrink_to(twice);
 }
