@@ -2,54 +2,81 @@
 #![tactic(auto)]
 
 mod ending;
+mod help;
 mod lines;
 mod listen;
 mod outside;
 mod request;
 mod top;
 mod words;
+mod wrong;
 
 use crate::ending::Ending;
+use crate::help::{USAGE, help_for};
 use crate::outside::{Output, UnixPlug};
 use crate::top::dns_sd;
+use crate::wrong::say_wrong;
 use std::io::Eprint;
 use std::process::ExitCode;
 use std::{env, io};
 
-/// The commands, for somebody who has given none of them.
-const USAGE: &str = "usage: dns-sd [-socket PATH] [-count N] COMMAND
-  -B TYPE [DOMAIN]                      the instances of a service type, as _ipp._tcp
-  -L NAME TYPE [DOMAIN]                 where an instance is reached, and its TXT data
-  -R NAME TYPE DOMAIN PORT [TXT ...]    registers a service until the program ends
-  -Q NAME [RRTYPE [IN]]                 the records of a name, of type A where none is given
-  -G v4|v6|v4v6 NAME                    the addresses of a name
-PATH is mdnsd.sock and DOMAIN local where they aren't given. -count ends the program after N lines.";
+/// What the codes behind `refused` mean.
+const REFUSED: &str = "dns-sd: the daemon refused the request. The codes:
+  -65540  it is malformed
+  -65544  its name is outside local, or there is no host to register at
+  -65548  the name is held
+  -65553  a limit was reached";
 
 fn main(rt: HostRuntime) -> ExitCode {
-    let status = run(rt);
+    let words = match read_words(rt) {
+        Ok(words) => words,
+        Err(status) => {
+            explain(&rt, status);
+            return ExitCode::from(status);
+        }
+    };
+    if let Some(text) = help_for(&words) {
+        let told = rt.println(text);
+        let status = if told.is_ok() {
+            0
+        } else {
+            Ending::WriteFault as u8
+        };
+        return ExitCode::from(status);
+    }
+    let status = run(rt, &words);
+    if status == Ending::Usage as u8
+        && let Ok(wrong) = say_wrong(rt.alloc(), &words)
+    {
+        let _ = eprintln!(rt; "dns-sd: {wrong}");
+    }
     explain(&rt, status);
     ExitCode::from(status)
 }
 
-// Runs the words of the command line, and answers the status.
-fn run(rt: HostRuntime) -> u8 {
-    let alloc = rt.alloc();
+// The words behind the program's own name, or the status where they can't be read.
+fn read_words(rt: HostRuntime) -> Result<Vec<String>, u8> {
     let args = match env::args(&rt) {
         Ok(args) => args,
-        Err(error) => return unread_status(&error),
+        Err(error) => return Err(unread_status(&error)),
     };
-    let mut words = Vec::new(alloc);
+    let mut words = Vec::new(rt.alloc());
     for word in args.skip(1) {
         if words.push(word).is_err() {
-            return Ending::NoMemory as u8;
+            return Err(Ending::NoMemory as u8);
         }
     }
+    Ok(words)
+}
+
+// Runs the words of the command line, and answers the status.
+fn run(rt: HostRuntime, words: &[String]) -> u8 {
     let mut plug = UnixPlug { rt, faults: 0 };
     let mut output = Output {
         inner: io::writer(&rt),
         faults: 0,
     };
-    dns_sd(alloc, words.as_slice(), &mut plug, &mut output)
+    dns_sd(rt.alloc(), words, &mut plug, &mut output)
 }
 
 // The status where the words can't be read: memory was refused, or a word is no text.
@@ -65,6 +92,7 @@ fn unread_status(error: &io::Error) -> u8 {
 fn explain<R: Eprint>(rt: &R, status: u8) {
     let why = match status {
         1 => USAGE,
+        3 => REFUSED,
         4 => "dns-sd: the daemon ended the connection",
         5 => "dns-sd: the output failed",
         6 => "dns-sd: out of memory",

@@ -131,7 +131,11 @@ impl<R: Net + Eprint + Drop> Plug for UnixPlug<R> {
         match self.open(path) {
             Ok(ends) => Ok(ends),
             Err(error) => {
-                let _ = eprintln!(self.rt; "dns-sd: no daemon at {path}: {error}");
+                let why = match error.kind() {
+                    io::ErrorKind::NotFound | io::ErrorKind::ConnectionRefused => "no daemon at",
+                    _ => "can't connect to",
+                };
+                let _ = eprintln!(self.rt; "dns-sd: {why} {path}: {error}");
                 self.faults = self.faults.saturating_add(1);
                 Err(Failed)
             }

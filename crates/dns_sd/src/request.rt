@@ -1,5 +1,5 @@
 // The request of a command.
-ghost use Rattle.std.specs.Prelude.{◌≡◌, ◌++◌, ◌∷◌, ◌≤◌, length, IsTrue, IfOk, OnOk};
+ghost use Rattle.std.specs.Prelude.{◌≡◌, ◌↔◌, ◌++◌, ◌∷◌, ◌≤◌, length, IsTrue, IfOk, OnOk};
 ghost use Rattle.std.specs.Option.{option_map};
 ghost use Rattle.txt_record.specs.Strings.{txt_data};
 ghost use Rattle.sd_ipc.specs.Frames.{is_short};
@@ -156,7 +156,8 @@ fn is_domain_end(words: &[String]) -> bool
     }
 }
 
-fn is_domain(word: &str) -> bool
+/// Whether a word is the domain that is served: `local`, with or without its dot, or the default.
+pub fn is_domain(word: &str) -> bool
     ensures { result ≡ is_domain word.now }
 {
     word == "local" || word == "local." || word == "." || word == ""
@@ -175,7 +176,8 @@ fn kind(words: &[String]) -> Option<u16>
     }
 }
 
-fn families_word(word: &str) -> Option<u8>
+/// The families of addresses that a word names.
+pub fn families_word(word: &str) -> Option<u8>
     ensures { result ≡ families_word word.now }
 {
     if word == "v4" {
@@ -196,12 +198,19 @@ fn are_strings(words: &[String]) -> bool
 {
     let mut rest = words;
     'words: while let Some((word, after)) = next_word(rest) {
-        if word.len() > MOST_STRING {
+        if !is_string(word) {
             return false;
         }
         rest = after;
     }
     true
+}
+
+/// Whether a word is short enough for a string of TXT data.
+pub fn is_string(word: &str) -> bool
+    ensures { IsTrue result ↔ (length word.now ≤ 255) }
+{
+    word.len() <= MOST_STRING
 }
 
 // TXT data of these strings.
