@@ -16,7 +16,7 @@ use Rattle.sd_sessions.specs.declared.change.SessionChange.{SessionChange}
 use Rattle.sd_sessions.specs.Sessions.{Session}
 use Rattle.sd_sessions.specs.Answered.{Answering}
 use Rattle.sd_sessions.specs.Changes.{had, items_between, passes}
-use Rattle.sd_sessions.specs.Settling.{called, operations_then, change_for}
+use Rattle.sd_sessions.specs.Settling.{own_call, operations_then, change_for}
 
 -- Answers count on the operations of a session alone, before the event and after it.
 module _ (test : Operation → Bool) (f g : Answering) (same : (o : Operation) → test o ≡ true → f o ≡ g o) where
@@ -68,7 +68,7 @@ module _ (test : Operation → Bool) (earlier later other_earlier other_later : 
   change-same session before after =
       let make : List Item → SessionChange = λ items. record {
         session = session.number;
-        operations = called (accepted_call ev outcome) session.number session.operations;
+        call = own_call (accepted_call ev outcome) session.number;
         brought = cond (session.cut || is_number session.number (detached ev outcome)) [] items;
         cuts = passes session.queue (cond (session.cut || is_number session.number (detached ev outcome)) [] items);
       } in

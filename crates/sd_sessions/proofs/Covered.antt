@@ -1,7 +1,7 @@
 -- The operations that an event leaves, where it concerns none but of some numbers.
 use Rattle.std.proofs.Common.{◌≡◌, ℕ, ◌==◌, inl, inr, Bool, true, false, cond, not, ◌||◌, List, [], ◌∷◌, ◌++◌, Option, Some, None, IsPermutation, refl, ap, subst, ◌∙◌, sym, true≢false, arith}
 use Rattle.std.specs.List.{find, list_any, AllByRecursion}
-use Rattle.std.specs.Option.{is_some, unwrap_or}
+use Rattle.std.specs.Option.{is_some}
 use Rattle.std.specs.Str.{bytes_eq}
 use Rattle.std.proofs.lemmas.Bool.{and_parts, or_left, or_right, eqb-true}
 use Rattle.std.proofs.lemmas.List.Folds.{list_any-append}
@@ -24,11 +24,11 @@ use Rattle.sd_index.specs.declared.asker.Asker.{Asker}
 use Rattle.sd_index.specs.Asked.{asker_eq, askers_of, asks}
 use Rattle.sd_sessions.specs.Codes.{is_running}
 use Rattle.sd_sessions.specs.Sessions.{Session}
-use Rattle.sd_sessions.specs.Settling.{called}
+use Rattle.sd_sessions.specs.Settling.{own_call}
 use Rattle.sd_sessions.specs.Kept.{HaveOwn, AreOwn}
 use Rattle.sd_sessions.specs.Walked.{walk_for}
 use Rattle.sd_sessions.specs.Indexed.{asker_for, AreIndexed}
-use Rattle.sd_sessions.specs.Concerned.{asker_at, concerned, has_one, is_one_of, AreMore, AreToldMet, IsApart, IsCallCovered, IsCallMet, IsCovered, IsMet, IsStill, IsUnmoved, IsWalkMet}
+use Rattle.sd_sessions.specs.Concerned.{asker_at, concerned, has_one, is_one_of, AreMore, AreToldMet, IsApart, IsCallMet, IsCovered, IsMet, IsOwnCovered, IsStill, IsUnmoved, IsWalkMet}
 use Rattle.sd_sessions.proofs.Asking.{holds-found, passes-found}
 use Rattle.sd_sessions.proofs.IndexNamed.{IsFiled, all-filed, owner-alike}
 use Rattle.sd_sessions.proofs.Seen.{all-insert, all-map, updated_asks, updated_registers}
@@ -158,9 +158,13 @@ module _ (askers : List Asker) (around : Around) (session : Session) (numbers : 
       of [] h runs = tt
       of (o ∷ os) h runs = ((λ none. (h.0 (sym (are o.op) ∙ none), runs.0)), of os h.1 runs.1)
 
-  pub call-covered : (call : Option Accepted) → IsCallMet askers call → IsCallCovered numbers session.number call
+  pub call-covered : (call : Option Accepted) → IsCallMet askers call → IsOwnCovered numbers (own_call call session.number)
   call-covered None met = tt
-  call-covered (Some call) met = λ e. are call.op ∙ ap (λ (n : ℕ). is_one_of askers (asker_at n call.op)) (sym (eqb-true call.session session.number e)) ∙ met
+  call-covered (Some call) met = of (call.session == session.number) refl
+    where
+      of : (b : Bool) → (call.session == session.number) ≡ b → IsOwnCovered numbers (cond b (Some (record { op = call.op; request = call.request })) None)
+      of true e = are call.op ∙ ap (λ (n : ℕ). is_one_of askers (asker_at n call.op)) (sym (eqb-true call.session session.number e)) ∙ met
+      of false e = tt
 
 -- ---- after a call
 
@@ -181,7 +185,8 @@ module _ (numbers : List ℕ) (around : Around) (before : List Operation) where
   covered-insert : (o : Operation) (os : List Operation) → has_one numbers o.op ≡ true → AllByRecursion Covered os → AllByRecursion Covered (Rattle.dns_name.specs.Lists.insert_by Rattle.mdns_history.specs.Sessions.by_op o os)
   covered-insert o os has all = all-insert Covered o os (λ none. absurd (true≢false (sym has ∙ none))) all
 
-  covered-request : (session op : ℕ) (r : Request) (os : List Operation) → has_one numbers op ≡ true → AllByRecursion Covered os → AllByRecursion Covered (after_request session op r os)
+  -- The operations that a call leaves are covered where it is.
+  pub covered-request : (session op : ℕ) (r : Request) (os : List Operation) → has_one numbers op ≡ true → AllByRecursion Covered os → AllByRecursion Covered (after_request session op r os)
   covered-request session op (request.Query kind name) os has all = covered-insert _ os has all
   covered-request session op (request.Browse regtype) os has all = covered-insert _ os has all
   covered-request session op (request.Resolve label regtype) os has all = covered-insert _ os has all
@@ -189,16 +194,6 @@ module _ (numbers : List ℕ) (around : Around) (before : List Operation) where
   covered-request session op (request.Register label regtype port norename txt) os has all = covered-insert _ os has all
   covered-request session op (request.Update txt) os has all = all-map Covered (updated op txt) (covered-updated op txt) os all
   covered-request session op request.Stop os has all = each-filter Covered (λ o. not (has_op op o)) os all
-
-  -- The operations that a call leaves are covered where it is.
-  pub covered-called : (call : Option Accepted) (number : ℕ) (os : List Operation) → IsCallCovered numbers number call → AllByRecursion Covered os →
-      AllByRecursion Covered (unwrap_or (called call number os) os)
-  covered-called None number os call all = all
-  covered-called (Some call) number os covered all = of (call.session == number) refl
-    where
-      of : (b : Bool) → (call.session == number) ≡ b → AllByRecursion Covered (unwrap_or (cond b (Some (after_request number call.op call.request os)) None) os)
-      of true e = covered-request number call.op call.request os (covered e) all
-      of false e = all
 
 pub all-concerned : (P : Operation → Type 0) (numbers : List ℕ) (os : List Operation) → AllByRecursion P os → AllByRecursion P (concerned numbers os)
 all-concerned P [] os all = tt

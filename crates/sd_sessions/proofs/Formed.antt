@@ -5,7 +5,6 @@ use Rattle.mdns_happened.specs.Told.{Told}
 use Rattle.sd_sessions.specs.Answered.{Answering}
 use Rattle.sd_sessions.specs.Sessions.{Session}
 use Rattle.std.specs.Prelude.{filter, IsTrue, ◌==◌}
-use Rattle.std.specs.Option.{unwrap_or}
 use Rattle.std.specs.Ordering.{is_lt}
 use Rattle.dns_name.specs.Lists.{insert_by}
 use Rattle.sd_call.specs.declared.request.Request.{Request}
@@ -14,9 +13,9 @@ use Rattle.sd_name.specs.ServiceTypes.{service_type, is_service_label}
 use Rattle.sd_call.specs.Requests.{well_formed, has_subtypes_up_to, with_txt}
 use Rattle.mdns_history.specs.declared.operation.Operation.{Operation}
 use Rattle.mdns_history.specs.Sessions.{Accepted, by_op, has_op, updated, after_request}
-use Rattle.sd_sessions.specs.Settling.{called, change_told, shifted_told, sessions_told}
+use Rattle.sd_sessions.specs.Settling.{own_call, left_to, after_own, change_told, shifted_told, sessions_told}
 use Rattle.sd_sessions.proofs.Left.{HoldsCalled, have-left}
-use Rattle.sd_sessions.specs.Kept.{AreWellFormed, HaveWellFormed, IsWellFormedCall, operations_in}
+use Rattle.sd_sessions.specs.Kept.{AreWellFormed, HaveWellFormed, IsWellFormedCall, IsWellFormedOwn, operations_in}
 
 formed-insert : (o : Operation) (os : List Operation) → IsTrue (well_formed o.request) → AreWellFormed os → AreWellFormed (insert_by by_op o os)
 formed-insert o [] one all = (one, tt)
@@ -26,7 +25,7 @@ formed-insert o (p ∷ os) one all = at (is_lt (by_op p o)) (formed-insert o os 
     at true rest = (all.0, rest)
     at false rest = (one, all)
 
-formed-filter : (test : Operation → Bool) (os : List Operation) → AreWellFormed os → AreWellFormed (filter test os)
+pub formed-filter : (test : Operation → Bool) (os : List Operation) → AreWellFormed os → AreWellFormed (filter test os)
 formed-filter test [] all = tt
 formed-filter test (o ∷ os) all = at (test o) (formed-filter test os all.1)
   where
@@ -57,7 +56,7 @@ formed-updated op txt (o ∷ os) t all = (at (has_op op o), formed-updated op tx
     at true = formed-txt txt o.request t all.0
     at false = all.0
 
-formed-request : (session op : ℕ) (r : Request) (os : List Operation) → IsTrue (well_formed r) → AreWellFormed os → AreWellFormed (after_request session op r os)
+pub formed-request : (session op : ℕ) (r : Request) (os : List Operation) → IsTrue (well_formed r) → AreWellFormed os → AreWellFormed (after_request session op r os)
 formed-request session op (request.Query kind name) os h all = formed-insert _ os h all
 formed-request session op (request.Browse regtype) os h all = formed-insert _ os h all
 formed-request session op (request.Resolve label regtype) os h all = formed-insert _ os h all
@@ -67,13 +66,22 @@ formed-request session op (request.Update txt) os h all = formed-updated op txt 
 formed-request session op request.Stop os h all = formed-filter (λ o. not (has_op op o)) os all
 
 -- the operations of a session after a call, or else before it
-pub formed-called : (call : Option Accepted) (number : ℕ) (os : List Operation) → IsWellFormedCall call → AreWellFormed os → AreWellFormed (unwrap_or (called call number os) os)
+pub formed-called : (call : Option Accepted) (number : ℕ) (os : List Operation) → IsWellFormedCall call → AreWellFormed os → AreWellFormed (left_to call number os)
 formed-called None number os h all = all
 formed-called (Some call) number os h all = at (call.session == number)
   where
-    at : (b : Bool) → AreWellFormed (unwrap_or (cond b (Some (after_request number call.op call.request os)) None) os)
+    at : (b : Bool) → AreWellFormed (after_own number (cond b (Some (record { op = call.op; request = call.request })) None) os)
     at true = formed-request number call.op call.request os h all
     at false = all
+
+-- a session's own call, of one that was accepted
+pub formed-own : (call : Option Accepted) (number : ℕ) → IsWellFormedCall call → IsWellFormedOwn (own_call call number)
+formed-own None number h = tt
+formed-own (Some call) number h = at (call.session == number)
+  where
+    at : (b : Bool) → IsWellFormedOwn (cond b (Some (record { op = call.op; request = call.request })) None)
+    at true = h
+    at false = tt
 
 -- what a session asks for is well formed
 pub formed-found : (test : Session → Bool) (sessions : List Session) → HaveWellFormed sessions → AreWellFormed (operations_in (find test sessions))

@@ -2,7 +2,6 @@
 use Rattle.std.proofs.Common.{◌≡◌, ℕ, ◌==◌, Bool, true, false, cond, not, ◌&&◌, List, [], ◌∷◌, ◌++◌, map, drop, Option, Some, None, IsPermutation, refl, ap, subst, ◌∙◌, sym, arith, append-nil}
 use Rattle.std.specs.Prelude.{filter, nat_lt}
 use Rattle.std.specs.List.{find, list_all}
-use Rattle.std.specs.Option.{unwrap_or}
 use Rattle.std.proofs.lemmas.List.Concat.{flat_map-append}
 use Rattle.std.proofs.lemmas.List.Sorted.{IsPermutation-sym, IsPermutation-trans}
 use Rattle.mdns_history.specs.Sessions.{Accepted, after_request, is_number}
@@ -11,7 +10,7 @@ use Rattle.sd_index.specs.declared.asker.Asker.{Asker}
 use Rattle.sd_sessions.specs.Answered.{Answering}
 use Rattle.sd_sessions.specs.Codes.{has_number}
 use Rattle.sd_sessions.specs.Sessions.{Session}
-use Rattle.sd_sessions.specs.Settling.{called, change_told, all_settled, opened_session, remaining_but, with_opened, shifted_told, taken_from, sessions_told}
+use Rattle.sd_sessions.specs.Settling.{after_own, change_told, all_settled, opened_session, remaining_but, with_opened, shifted_told, taken_from, sessions_told}
 use Rattle.sd_sessions.specs.Kept.{numbers_of, IsRising}
 use Rattle.sd_sessions.specs.Indexed.{asking_of, askers_by, askers_in, askers_after, left_by}
 use Rattle.sd_sessions.proofs.Asking.{RiseBy, all-others, split-off, passes-found}
@@ -94,7 +93,7 @@ called-others call owner (s ∷ ss) = of (s.number == call.session) refl (called
     of true e ih = ih
     of false e ih =
         let apart : (call.session == s.number) ≡ false = grind arith in
-        λ i. asking_of owner (unwrap_or (cond (apart i) (Some (after_request s.number call.op call.request s.operations)) None) s.operations) ++ ih i
+        λ i. asking_of owner (after_own s.number (cond (apart i) (Some (record { op = call.op; request = call.request })) None) s.operations) ++ ih i
 
 -- A call is carried over from the operations of its session to all sessions.
 pub call-filed : (call : Accepted) (owner : List ℕ) (ss : List Session) (s : Session) (before after : List Asker) → IsRising (numbers_of ss) → find (has_number call.session) ss ≡ Some s →
@@ -121,7 +120,7 @@ call-filed call owner ss s before after rising found files h =
 
     left : left_by (Some call) s ≡ after_request call.session call.op call.request s.operations
     left =
-        ap (λ (b : Bool). unwrap_or (cond b (Some (after_request s.number call.op call.request s.operations)) None) s.operations) turned
+        ap (λ (b : Bool). after_own s.number (cond b (Some (record { op = call.op; request = call.request })) None) s.operations) turned
         ∙ ap (λ (n : ℕ). after_request n call.op call.request s.operations) is
 
 -- where no session has the number of a call nothing changes

@@ -2,7 +2,7 @@
 use Rattle.std.proofs.Common.{◌≡◌, ℕ, ◌+◌, ◌<◌, ◌≤◌, ◌==◌, Bool, true, false, cond, not, ◌&&◌, ◌||◌, List, [], ◌∷◌, ◌++◌, map, Option, Some, None, refl, ap, ◌∙◌, sym, arith, append-nil, append_assoc}
 use Rattle.std.specs.Prelude.{filter, nat_lt}
 use Rattle.std.specs.List.{flat_map}
-use Rattle.std.specs.Option.{option_to_list, unwrap_or}
+use Rattle.std.specs.Option.{option_to_list}
 use Rattle.sd_call.specs.declared.item.Item.{Item}
 use Rattle.sd_call.specs.Answers.{frames_len}
 use Rattle.mdns_history.specs.declared.operation.Operation.{Operation}
@@ -20,7 +20,7 @@ use Rattle.sd_sessions.specs.declared.change.SessionChange.{SessionChange}
 use Rattle.sd_sessions.specs.Sessions.{session_in, sessions_in}
 use Rattle.sd_sessions.specs.Answered.{Answering}
 use Rattle.sd_sessions.specs.Changes.{items_between, passes}
-use Rattle.sd_sessions.specs.Settling.{called, change_for, cuts_of, gifts_of}
+use Rattle.sd_sessions.specs.Settling.{left_to, after_own, change_for, cuts_of, gifts_of}
 use Rattle.sd_sessions.proofs.NumberLists.{has, has-filter, filter-same, filter-filter, filter-append, flat_map-same}
 use Rattle.sd_sessions.proofs.EntryParts.{noted_marks, entry_after}
 use Rattle.sd_sessions.proofs.Attached.{holds_legal, opens_alone, opened-number, attached-opened, attached-ended, attached-kept}
@@ -54,11 +54,11 @@ flat_map-filter f p (n ∷ ns) = of (p n) (flat_map-filter f p ns)
     of true e = ap (λ zs. f n ++ zs) e
     of false e = e
 
-pub called-is : (call : Option Accepted) (n : ℕ) (os : List Operation) → unwrap_or (called call n os) os ≡ after_call n call os
+pub called-is : (call : Option Accepted) (n : ℕ) (os : List Operation) → left_to call n os ≡ after_call n call os
 called-is None n os = refl
 called-is (Some call) n os = of (call.session == n)
   where
-    of : (b : Bool) → unwrap_or (cond b (Some (after_request n call.op call.request os)) None) os ≡ cond b (after_request n call.op call.request os) os
+    of : (b : Bool) → after_own n (cond b (Some (record { op = call.op; request = call.request })) None) os ≡ cond b (after_request n call.op call.request os) os
     of true = refl
     of false = refl
 
@@ -115,14 +115,14 @@ module _ (duties : Duties) (past : List Entry) (moment word : ℕ) (ev : Event) 
     brought-kept n h uncut undetached =
         let os : List Operation = operations_of n past in
         let items : List Operation → List Item = λ after. items_between earlier_answers later_answers (reply_of n ev early) os after in
-        ap (λ b. cond (b || is_number n (detached ev early)) [] (items (unwrap_or (called (accepted_call ev early) n os) os))) uncut
-        ∙ ap (λ b. cond b [] (items (unwrap_or (called (accepted_call ev early) n os) os))) undetached
+        ap (λ b. cond (b || is_number n (detached ev early)) [] (items (left_to (accepted_call ev early) n os))) uncut
+        ∙ ap (λ b. cond b [] (items (left_to (accepted_call ev early) n os))) undetached
         ∙ ap items (called-is (accepted_call ev early) n os ∙ sym (operations_of-attached duties past moment word ev n (stays-attached n h undetached)))
         ∙ sym (change_items-marked duties past moment word ev n)
 
     -- nothing is brought to one that is cut or detached
     brought-none : (n : ℕ) → (is_cut n past || is_number n (detached ev early)) ≡ true → (change n).brought ≡ []
-    brought-none n h = ap (λ b. cond b [] (items_between earlier_answers later_answers (reply_of n ev early) (operations_of n past) (unwrap_or (called (accepted_call ev early) n (operations_of n past)) (operations_of n past)))) h
+    brought-none n h = ap (λ b. cond b [] (items_between earlier_answers later_answers (reply_of n ev early) (operations_of n past) (left_to (accepted_call ev early) n (operations_of n past)))) h
 
     -- a change cuts a session where it stays, isn't cut by now, and its queue would pass its limit
     pub cuts-kept : (n : ℕ) → has n (attached_sessions past) ≡ true → (change n).cuts ≡ (stays n && (not (is_cut n past) && passes_now duties past moment word ev n))

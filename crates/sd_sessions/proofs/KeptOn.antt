@@ -14,7 +14,7 @@ use Rattle.mdns_cache.proofs.ListLemmas.{each-filter}
 use Rattle.mdns_happened.specs.Told.{Told, Taking}
 use Rattle.sd_sessions.specs.Answered.{Answering}
 use Rattle.sd_sessions.specs.Sessions.{Session}
-use Rattle.sd_sessions.specs.Settling.{called, change_told, all_settled, remaining_but, with_opened, shifted_told, taken_from, sessions_told}
+use Rattle.sd_sessions.specs.Settling.{left_to, after_own, change_told, all_settled, remaining_but, with_opened, shifted_told, taken_from, sessions_told}
 use Rattle.sd_sessions.specs.Kept.{numbers_of, AreKept, AreOwn, AreRising, HaveOwn, HaveRising, IsNewIn, IsFresh, IsRising, IsWellFormedCall}
 use Rattle.sd_sessions.proofs.Left.{HoldsCalled, have-left}
 use Rattle.sd_sessions.proofs.Formed.{formed-left}
@@ -25,12 +25,12 @@ use Rattle.sd_sessions.proofs.NumberLists.{all-filter, all-more, IsRising-filter
 
 -- the operations that a new call leaves
 pub rising-called : (call : Option Accepted) (session : Session) → AreRising session.operations → IsNewIn call session →
-    AreRising (unwrap_or (called call session.number session.operations) session.operations)
+    AreRising (left_to call session.number session.operations)
 rising-called None session rising new = rising
 rising-called (Some call) session rising new = of (call.session == session.number) refl
   where
     of : (b : Bool) → (call.session == session.number) ≡ b →
-        AreRising (unwrap_or (cond b (Some (after_request session.number call.op call.request session.operations)) None) session.operations)
+        AreRising (after_own session.number (cond b (Some (record { op = call.op; request = call.request })) None) session.operations)
     of true e = rising_request session.number call.op call.request session.operations rising (new e)
     of false e = rising
 
@@ -48,11 +48,11 @@ own-request number op (request.Register label regtype port norename txt) os own 
 own-request number op (request.Update txt) os own = all-map (λ (o : Operation). o.session ≡ number) (updated op txt) (λ o h. h) os own
 own-request number op request.Stop os own = each-filter (λ (o : Operation). o.session ≡ number) (λ o. not (has_op op o)) os own
 
-own-called : (call : Option Accepted) (number : ℕ) (os : List Operation) → AreOwn number os → AreOwn number (unwrap_or (called call number os) os)
+own-called : (call : Option Accepted) (number : ℕ) (os : List Operation) → AreOwn number os → AreOwn number (left_to call number os)
 own-called None number os own = own
 own-called (Some call) number os own = of (call.session == number)
   where
-    of : (b : Bool) → AreOwn number (unwrap_or (cond b (Some (after_request number call.op call.request os)) None) os)
+    of : (b : Bool) → AreOwn number (after_own number (cond b (Some (record { op = call.op; request = call.request })) None) os)
     of true = own-request number call.op call.request os own
     of false = own
 

@@ -2,12 +2,11 @@
 use Rattle.std.proofs.Common.{ℕ, Bool, true, false, cond, List, [], ◌∷◌, ◌++◌, map, drop, Option, Some, None}
 use Rattle.std.specs.Prelude.{filter, ◌==◌}
 use Rattle.std.specs.List.{AllByRecursion}
-use Rattle.std.specs.Option.{unwrap_or}
 use Rattle.mdns_history.specs.declared.operation.Operation.{Operation}
 use Rattle.mdns_happened.specs.Told.{Told, Taking}
 use Rattle.sd_sessions.specs.Answered.{Answering}
 use Rattle.sd_sessions.specs.Sessions.{Session}
-use Rattle.sd_sessions.specs.Settling.{called, change_told, all_settled, remaining_but, opened_session, with_opened, shifted_told, taken_from, sessions_told}
+use Rattle.sd_sessions.specs.Settling.{left_to, change_told, all_settled, remaining_but, opened_session, with_opened, shifted_told, taken_from, sessions_told}
 
 module _ (P : ℕ → List Operation → Type 0) where
   abbrev Have : List Session → Type 0
@@ -44,7 +43,7 @@ module _ (P : ℕ → List Operation → Type 0) where
   module _ (told : Told) (earlier later : Answering) where
     -- it holds of the operations that the event's call leaves to a session
     abbrev pub HoldsCalled : Session → Type 0
-    HoldsCalled session = P session.number (unwrap_or (called told.call session.number session.operations) session.operations)
+    HoldsCalled session = P session.number (left_to told.call session.number session.operations)
 
     settled : (sessions : List Session) → AllByRecursion HoldsCalled sessions → Have (all_settled sessions (map (change_told told earlier later) sessions))
     settled [] all = tt

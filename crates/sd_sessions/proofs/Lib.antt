@@ -6,6 +6,7 @@ pub mod NumberLists
 pub mod Attached
 pub mod Operations
 pub mod OperationPlaces
+pub mod OwnCalls
 pub mod Brought
 pub mod Shape
 pub mod Queues

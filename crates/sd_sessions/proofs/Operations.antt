@@ -83,7 +83,7 @@ AreRising-insert o (q ∷ os) new rising = of (nat_lt q.op o.op) refl (q.op == o
         let first : nat_lt o.op q.op ≡ true = grind arith in
         (ap (λ b. b && list_all (λ p. nat_lt o.op p.op) os) first ∙ above_more o.op q.op os less rising.0, rising)
 
-AreRising-filter : (t : Operation → Bool) (os : List Operation) → AreRising os → AreRising (filter t os)
+pub AreRising-filter : (t : Operation → Bool) (os : List Operation) → AreRising os → AreRising (filter t os)
 AreRising-filter t [] rising = tt
 AreRising-filter t (o ∷ os) rising = of (t o) (AreRising-filter t os rising.1)
   where

@@ -2,7 +2,6 @@
 use Rattle.std.proofs.Common.{◌≡◌, ℕ, ◌<◌, ◌==◌, Bool, true, false, cond, not, ◌&&◌, List, [], ◌∷◌, map, Option, Some, None, refl, ap, subst, ◌∙◌, sym, arith}
 use Rattle.std.specs.Prelude.{nat_lt}
 use Rattle.std.specs.List.{find, list_all, AllByRecursion}
-use Rattle.std.specs.Option.{unwrap_or}
 use Rattle.std.specs.Ordering.{is_lt}
 use Rattle.dns_name.specs.Lists.{insert_by}
 use Rattle.dns_record.specs.declared.record.Key.{Key}
@@ -21,7 +20,7 @@ use Rattle.mdns_happened.specs.Told.{Told}
 use Rattle.mdns_happened.specs.Walks.{is_walked, AreWalks, AreOwnWalks, IsKnown, IsOwnKnown}
 use Rattle.sd_sessions.specs.Answered.{View, known, answered}
 use Rattle.sd_sessions.specs.Sessions.{Session}
-use Rattle.sd_sessions.specs.Settling.{called}
+use Rattle.sd_sessions.specs.Settling.{left_to, after_own}
 use Rattle.sd_sessions.specs.Kept.{AreRising, IsNewIn, HaveRising}
 use Rattle.sd_sessions.specs.Walked.{AreBeside, AreKnown, IsAskedKnown, IsBegunTold, IsBeside, IsCallWalked, IsCarried, IsNewSeen, IsSeen, IsSeenOf}
 
@@ -194,7 +193,7 @@ IsBoth before after around operation = IsAskedKnown before.held after.held aroun
 
 -- What is seen of a session is seen of each operation that an event leaves to it.
 pub seen-after : (told : Told) (before after : View) (around : Around) (session : Session) → IsSeen told before after around session →
-    AllByRecursion (IsSeenOf before after around session.operations) (unwrap_or (called told.call session.number session.operations) session.operations)
+    AllByRecursion (IsSeenOf before after around session.operations) (left_to told.call session.number session.operations)
 seen-after told before after around session seen = of told.call seen.call seen.begun seen.fresh
   where
     both : AllByRecursion (IsBoth before after around) session.operations
@@ -204,12 +203,12 @@ seen-after told before after around session seen = of told.call seen.call seen.b
     own = each (IsBoth before after around) _ _ (λ o is found. old before after around seen.walked seen.own seen.registered session.operations o is.0 is.1 found) session.operations both (found-itself session.operations seen.rising)
 
     of : (call : Option Accepted) → IsCallWalked around.walks.now call → IsBegunTold after around call → IsNewIn call session →
-        AllByRecursion (IsSeenOf before after around session.operations) (unwrap_or (called call session.number session.operations) session.operations)
+        AllByRecursion (IsSeenOf before after around session.operations) (left_to call session.number session.operations)
     of None walked begun new = own
     of (Some call) walked begun new = at (call.session == session.number) refl
       where
         at : (b : Bool) → (call.session == session.number) ≡ b →
-            AllByRecursion (IsSeenOf before after around session.operations) (unwrap_or (cond b (Some (after_request session.number call.op call.request session.operations)) None) session.operations)
+            AllByRecursion (IsSeenOf before after around session.operations) (after_own session.number (cond b (Some (record { op = call.op; request = call.request })) None) session.operations)
         at true e =
             let here : call.session ≡ session.number = grind arith in
             let begun_here : is_register call.request ≡ true → is_told around.registered.now session.number call.op ≡ false → after.registered session.number call.op ≡ [] =

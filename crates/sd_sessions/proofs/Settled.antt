@@ -1,5 +1,5 @@
 -- Settling the changes of sessions from the last one on.
-use Rattle.std.proofs.Common.{◌≡◌, ℕ, zero, suc, ◌+◌, ◌<◌, ◌≤◌, Bool, true, false, cond, ◌||◌, List, [], ◌∷◌, ◌++◌, map, take, length, get_or, set, Option, is_none, refl, ap, subst, ◌∙◌, sym, arith, add-one}
+use Rattle.std.proofs.Common.{◌≡◌, ℕ, zero, suc, ◌+◌, ◌<◌, Bool, true, false, cond, ◌||◌, List, [], ◌∷◌, ◌++◌, map, take, length, get_or, set, refl, ap, subst, ◌∙◌, sym, arith, add-one}
 use Rattle.sd_call.specs.declared.item.Item.{Item}
 use Rattle.mdns_history.specs.Sessions.{is_number}
 use Rattle.mdns_happened.specs.Told.{Told}
@@ -8,8 +8,7 @@ use Rattle.sd_sessions.specs.declared.session.SessionState.{SessionState}
 use Rattle.sd_sessions.specs.declared.change.SessionChange.{SessionChange}
 use Rattle.sd_sessions.specs.Sessions.{Session}
 use Rattle.sd_sessions.specs.Settling.{settled, all_settled, change_told, brought_told}
-use Rattle.sd_sessions.specs.Kept.{queued, session_of, sessions_of, HaveRoom, IsFit, AreFit}
-use Rattle.sd_outbox.specs.Queues.{Queue}
+use Rattle.sd_sessions.specs.Kept.{session_of, sessions_of, AreRising, HasRoomFor, HaveRising, HaveRoom, IsFit, AreFit}
 
 pub none-of : {X : Type 0} (xs : List X) → length xs ≡ 0 → xs ≡ []
 none-of [] h = refl
@@ -31,7 +30,7 @@ settled-last (state ∷ states) (first ∷ changes) change now d within e =
 
 -- the room that the last change needs, and that of those before it
 room-last : (states : List SessionState) (changes : List SessionChange) (change : SessionChange) (now d : SessionState) → length changes < length states →
-    HaveRoom states (changes ++ change ∷ []) → (length change.brought ≤ (get_or states (length changes) d).outbox.spare) × HaveRoom (set states (length changes) now) changes
+    HaveRoom states (changes ++ change ∷ []) → HasRoomFor (get_or states (length changes) d) change × HaveRoom (set states (length changes) now) changes
 room-last [] changes change now d within room = absurd (omega arith)
 room-last (state ∷ states) [] change now d within room = (room.0, tt)
 room-last (state ∷ states) (first ∷ changes) change now d within room =
@@ -48,9 +47,9 @@ fit-last (state ∷ states) (first ∷ changes) change now d within fit =
 -- what the last change asks of its session
 pub last-asks : (states : List SessionState) (before changes : List SessionChange) (change : SessionChange) (i : ℕ) (d : SessionState) →
     before ≡ changes ++ change ∷ [] → i ≡ length changes → i < length states → HaveRoom states before → AreFit (sessions_of states) before →
-    (length change.brought ≤ (get_or states i d).outbox.spare) × IsFit (session_of (get_or states i d)) change
+    HasRoomFor (get_or states i d) change × IsFit (session_of (get_or states i d)) change
 last-asks states before changes change i d is at within room fit =
-    let P : ℕ → Type 0 = λ k. (length change.brought ≤ (get_or states k d).outbox.spare) × IsFit (session_of (get_or states k d)) change in
+    let P : ℕ → Type 0 = λ k. HasRoomFor (get_or states k d) change × IsFit (session_of (get_or states k d)) change in
     let within_states : length changes < length states = omega arith in
     subst P (sym at) (
       (room-last states changes change d d within_states (subst (HaveRoom states) is room)).0,
@@ -76,8 +75,8 @@ settle-last states before changes change i now d is at within room fit e =
     })
 
 -- The change of a session fits it.
-pub change_told-fits : (told : Told) (earlier later : Answering) (session : Session) → IsFit session (change_told told earlier later session)
-change_told-fits told earlier later session = record { cuts = refl; cut = none }
+pub change_told-fits : (told : Told) (earlier later : Answering) (session : Session) → AreRising session.operations → IsFit session (change_told told earlier later session)
+change_told-fits told earlier later session rising = record { cuts = refl; cut = none; rising = rising }
   where
     of : (a b : Bool) (items : List Item) → a ≡ true → cond (a || b) [] items ≡ []
     of true b items e = refl
@@ -87,34 +86,29 @@ change_told-fits told earlier later session = record { cuts = refl; cut = none }
     none e = of session.cut (is_number session.number told.detached) _ e
 
 -- The changes of sessions fit them.
-pub changes_told-fit : (told : Told) (earlier later : Answering) (sessions : List Session) → AreFit sessions (map (change_told told earlier later) sessions)
-changes_told-fit told earlier later [] = tt
-changes_told-fit told earlier later (session ∷ sessions) = (change_told-fits told earlier later session, changes_told-fit told earlier later sessions)
+pub changes_told-fit : (told : Told) (earlier later : Answering) (sessions : List Session) → HaveRising sessions → AreFit sessions (map (change_told told earlier later) sessions)
+changes_told-fit told earlier later [] rising = tt
+changes_told-fit told earlier later (session ∷ sessions) rising = (change_told-fits told earlier later session rising.0, changes_told-fit told earlier later sessions rising.1)
 
 -- The changes that a plan has fit the sessions that it was made of.
 pub planned-fit : (told : Told) (earlier later : Answering) (sessions : List Session) (changes : List SessionChange) →
-    changes ≡ map (change_told told earlier later) sessions → AreFit sessions changes
-planned-fit told earlier later sessions changes e = subst (AreFit sessions) (sym e) (changes_told-fit told earlier later sessions)
+    HaveRising sessions → changes ≡ map (change_told told earlier later) sessions → AreFit sessions changes
+planned-fit told earlier later sessions changes rising e = subst (AreFit sessions) (sym e) (changes_told-fit told earlier later sessions rising)
 
--- a session whose outbox has other room is kept the same
-pub with_room : (state : SessionState) (outbox : Queue) → outbox.items ≡ state.outbox.items → session_of (record state { outbox = outbox }) ≡ session_of state
-with_room state outbox e =
-    let P : Option (List Item) → Session = λ items. record { number = state.number; operations = state.operations; cut = is_none items; queue = queued items } in ap P e
-
+-- a session that is kept the same
 pub same-set : (states : List SessionState) (i : ℕ) (now d : SessionState) → i < length states → session_of now ≡ session_of (get_or states i d) → sessions_of (set states i now) ≡ sessions_of states
 same-set [] i now d h e = absurd (omega arith)
 same-set (state ∷ states) zero now d h e = ap (λ y. y ∷ sessions_of states) e
 same-set (state ∷ states) (suc i) now d h e = ap (λ ys. session_of state ∷ ys) (same-set states i now d (omega arith) e)
 
 room-next : (states : List SessionState) (changes : List SessionChange) (i : ℕ) (now : SessionState) (change : SessionChange) → i < length states → i < length changes →
-    change ≡ get_or changes i change → length change.brought ≤ now.outbox.spare → HaveRoom (take i states) changes → HaveRoom (take (suc i) (set states i now)) changes
+    change ≡ get_or changes i change → HasRoomFor now change → HaveRoom (take i states) changes → HaveRoom (take (suc i) (set states i now)) changes
 room-next [] changes i now change h k is fits room = absurd (omega arith)
 room-next (state ∷ states) [] i now change h k is fits room = absurd (omega arith)
-room-next (state ∷ states) (first ∷ changes) zero now change h k is fits room =
-    let P : SessionChange → Type 0 = λ c. length c.brought ≤ now.outbox.spare in (subst P is fits, tt)
+room-next (state ∷ states) (first ∷ changes) zero now change h k is fits room = (subst (HasRoomFor now) is fits, tt)
 room-next (state ∷ states) (first ∷ changes) (suc i) now change h k is fits room = (room.0, room-next states changes i now change (omega arith) (omega arith) is fits room.1)
 
 pub room-next-at : (states : List SessionState) (changes : List SessionChange) (i : ℕ) (now : SessionState) (change : SessionChange) → i < length states → i < length changes →
-    change ≡ get_or changes i change → length change.brought ≤ now.outbox.spare → HaveRoom (take i states) changes → HaveRoom (take (i + 1) (set states i now)) changes
+    change ≡ get_or changes i change → HasRoomFor now change → HaveRoom (take i states) changes → HaveRoom (take (i + 1) (set states i now)) changes
 room-next-at states changes i now change h k is fits room =
     let P : ℕ → Type 0 = λ n. HaveRoom (take n (set states i now)) changes in subst P (sym (add-one i)) (room-next states changes i now change h k is fits room)

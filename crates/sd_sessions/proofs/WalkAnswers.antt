@@ -1,7 +1,7 @@
 -- The answers of an operation before and after, by the walk of its name, or by what is told of it as a registration.
 use Rattle.std.proofs.Common.{◌≡◌, ℕ, ◌==◌, Bool, true, false, cond, not, ◌||◌, List, [], ◌∷◌, ◌++◌, map, filter, take, Option, Some, None, refl, ap, subst, ◌∙◌, sym, arith, true≢false}
 use Rattle.std.specs.List.{find, list_any, flat_map, AllByRecursion}
-use Rattle.std.specs.Option.{is_some, option_map_or, option_to_list, unwrap_or}
+use Rattle.std.specs.Option.{is_some, option_map_or, option_to_list}
 use Rattle.std.proofs.lemmas.Bool.{or_left, or_right, and_parts}
 use Rattle.std.proofs.lemmas.List.Elements.{filter-append}
 use Rattle.std.proofs.lemmas.Map.Text.{is_eq-slice_cmp}
@@ -34,7 +34,7 @@ use Rattle.mdns_happened.specs.Walks.{is_for, walk_of, is_walked, own_of, IsWalk
 use Rattle.sd_sessions.specs.Answered.{Answering, View, known, answered}
 use Rattle.sd_sessions.specs.Changes.{had, lost, gained, items_between}
 use Rattle.sd_sessions.specs.Codes.{is_running}
-use Rattle.sd_sessions.specs.Settling.{called, brought_told}
+use Rattle.sd_sessions.specs.Settling.{left_to, brought_told}
 use Rattle.sd_sessions.specs.Sessions.{Session}
 use Rattle.sd_sessions.specs.Walked.{walk_for, IsBeside, IsCarried, IsSeenOf}
 use Rattle.sd_sessions.specs.Concerned.{concerned, IsApart, IsCovered, IsUnmoved}
@@ -260,10 +260,10 @@ pub without-same : (one other : List Answer) → one ≡ other → without answe
 without-same one other same = ap (λ (l : List Answer). without answer_eq one l) (sym same) ∙ none_without one one (λ test e. e)
 
 -- An operation that has the answers that it had loses and gains nothing.
-none-lost : (before : List Operation) (earlier later : Answering) (o : Operation) → had earlier before o.op ≡ later o → lost earlier later before o ≡ []
+pub none-lost : (before : List Operation) (earlier later : Answering) (o : Operation) → had earlier before o.op ≡ later o → lost earlier later before o ≡ []
 none-lost before earlier later o same = ap (map (λ answer. Remove o.op answer)) (without-same (had earlier before o.op) (later o) same)
 
-none-gained : (before : List Operation) (earlier later : Answering) (o : Operation) → had earlier before o.op ≡ later o → gained earlier later before o ≡ []
+pub none-gained : (before : List Operation) (earlier later : Answering) (o : Operation) → had earlier before o.op ≡ later o → gained earlier later before o ≡ []
 none-gained before earlier later o same = ap (map (λ answer. Add o.op answer)) (without-same (later o) (had earlier before o.op) (sym same))
 
 module _ (before after : View) (around : Around) (operations : List Operation) where
@@ -319,7 +319,7 @@ items-assembled before after around numbers operations os ops n reply start brou
 
 -- a session that isn't cut or ended is brought what its operations change
 pub brought-uncut : (told : Told) (earlier later : Answering) (session : Session) (items : List Item) → (session.cut || is_number session.number told.detached) ≡ false →
-    items ≡ items_between earlier later (told.reply session.number) session.operations (unwrap_or (called told.call session.number session.operations) session.operations) →
+    items ≡ items_between earlier later (told.reply session.number) session.operations (left_to told.call session.number session.operations) →
     items ≡ brought_told told earlier later session
 brought-uncut told earlier later session items uncut same =
-    same ∙ sym (ap (λ (b : Bool). cond b [] (items_between earlier later (told.reply session.number) session.operations (unwrap_or (called told.call session.number session.operations) session.operations))) uncut)
+    same ∙ sym (ap (λ (b : Bool). cond b [] (items_between earlier later (told.reply session.number) session.operations (left_to told.call session.number session.operations))) uncut)

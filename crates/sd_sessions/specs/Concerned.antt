@@ -1,5 +1,5 @@
 -- Which operations an event concerns: of the others nothing was walked or told.
-use Rattle.std.specs.Prelude.{◌≡◌, ℕ, ◌==◌, ◌⊎◌, Bool, true, false, List, [], ◌∷◌, ◌++◌, Option, Some, None}
+use Rattle.std.specs.Prelude.{◌≡◌, ℕ, ◌==◌, ◌⊎◌, Bool, true, false, List, [], ◌∷◌, ◌++◌, filter, Option, Some, None}
 use Rattle.std.specs.List.{list_any, AllByRecursion}
 use Rattle.sd_call.specs.declared.request.Request.{Request}
 use Rattle.sd_call.specs.Requests.{is_register}
@@ -15,6 +15,7 @@ use Rattle.mdns_happened.specs.declared.walk.Walk.{Walk}
 use Rattle.mdns_happened.specs.Registrations.{registered_in}
 use Rattle.sd_index.specs.declared.asker.Asker.{Asker}
 use Rattle.sd_index.specs.Asked.{asker_eq, askers_of}
+use Rattle.sd_sessions.specs.declared.change.Call.{Call}
 use Rattle.sd_sessions.specs.Sessions.{Session}
 use Rattle.sd_sessions.specs.Codes.{is_running}
 use Rattle.sd_sessions.specs.Walked.{walk_for}
@@ -50,10 +51,10 @@ pub record IsApart (around : Around) (operation : Operation) : Type 0 where
 abbrev pub IsCovered : List ℕ → Around → List Operation → Operation → Type 0
 IsCovered numbers around before operation = has_one numbers operation.op ≡ false → IsApart around operation × (is_running operation.op before ≡ true)
 
--- the operation of an accepted call of a session has one of these numbers
-abbrev pub IsCallCovered : List ℕ → ℕ → Option Accepted → Type 0
-IsCallCovered numbers number None = Unit {0}
-IsCallCovered numbers number (Some call) = (call.session == number) ≡ true → has_one numbers call.op ≡ true
+-- the operation of a session's call has one of these numbers
+abbrev pub IsOwnCovered : List ℕ → Option Call → Type 0
+IsOwnCovered numbers None = Unit {0}
+IsOwnCovered numbers (Some call) = has_one numbers call.op ≡ true
 
 -- an event concerns no operation of a session but these
 abbrev pub IsMet : List Asker → Around → Session → Type 0
@@ -81,3 +82,7 @@ AreMore some more = (one : Asker) → is_one_of some one ≡ true → is_one_of 
 abbrev pub concerned : List ℕ → List Operation → List Operation
 concerned [] operations = []
 concerned (number ∷ numbers) operations = operations
+
+-- the operations of these numbers
+abbrev pub of_numbers : List ℕ → List Operation → List Operation
+of_numbers numbers operations = filter (λ (operation : Operation). has_one numbers operation.op) operations

@@ -2,7 +2,6 @@
 use Rattle.std.specs.Prelude.{◌≡◌, ℕ, nat_lt, Bool, true, List, length, Option}
 use Rattle.std.specs.List.{flat_map}
 use Rattle.std.specs.List.Sorted.{IsPermutation}
-use Rattle.std.specs.Option.{unwrap_or}
 use Rattle.by_name.specs.At.{At, owner_of}
 use Rattle.mdns_cache.specs.Ended.{is_among}
 use Rattle.mdns_history.specs.declared.operation.Operation.{Operation}
@@ -11,7 +10,7 @@ use Rattle.mdns_happened.specs.Told.{Told}
 use Rattle.sd_index.specs.declared.asker.Asker.{Asker}
 use Rattle.sd_index.specs.Asked.{askers_of, if_asks}
 use Rattle.sd_sessions.specs.Sessions.{Session}
-use Rattle.sd_sessions.specs.Settling.{called, remaining_but}
+use Rattle.sd_sessions.specs.Settling.{left_to, remaining_but}
 
 -- an operation as an index has it
 abbrev pub asker_for : Operation → Asker
@@ -35,7 +34,7 @@ AreIndexed entries sessions = (owner : List ℕ) → IsPermutation (askers_of ow
 
 -- the operations that an accepted call leaves to a session
 abbrev pub left_by : Option Accepted → Session → List Operation
-left_by call session = unwrap_or (called call session.number session.operations) session.operations
+left_by call session = left_to call session.number session.operations
 
 -- who asks for a name after what is told
 abbrev pub askers_after : Told → List ℕ → List Session → List Asker

@@ -1,6 +1,7 @@
 -- What the types of the sessions mean.
-use Rattle.std.specs.Prelude.{◌≡◌, ℕ, ◌≤◌, ◌==◌, nat_lt, nat_le, true, IsTrue, List, [], ◌∷◌, ◌++◌, map, length, Option, Some, None, is_none}
+use Rattle.std.specs.Prelude.{◌≡◌, ℕ, ◌<◌, ◌≤◌, ◌==◌, nat_lt, nat_le, true, IsTrue, List, [], ◌∷◌, ◌++◌, map, length, Option, Some, None, is_none, vec_len, vec_capacity}
 use Rattle.std.specs.List.{list_all, find, AllByRecursion}
+use Rattle.std.specs.Option.{is_some}
 use Rattle.sd_call.specs.declared.item.Item.{Item}
 use Rattle.sd_call.specs.Requests.{well_formed, is_start}
 use Rattle.mdns_history.specs.declared.operation.Operation.{Operation}
@@ -8,6 +9,7 @@ use Rattle.mdns_history.specs.Sessions.{Accepted, has_op}
 use Rattle.mdns_happened.specs.Told.{Told}
 pub use Rattle.sd_outbox.specs.Queues.{queued}
 use Rattle.sd_sessions.specs.declared.session.SessionState.{SessionState}
+use Rattle.sd_sessions.specs.declared.change.Call.{Call}
 use Rattle.sd_sessions.specs.declared.change.SessionChange.{SessionChange}
 use Rattle.sd_sessions.specs.Sessions.{Session}
 use Rattle.sd_sessions.specs.Changes.{passes}
@@ -72,22 +74,29 @@ joined (Some items) more = Some (items ++ more)
 
 -- a session as it is kept
 abbrev pub session_of : SessionState → Session
-session_of state = record { number = state.number; operations = state.operations; cut = is_none state.outbox.items; queue = queued state.outbox.items }
+session_of state = record { number = state.number; operations = state.operations.items; cut = is_none state.outbox.items; queue = queued state.outbox.items }
 
 -- the sessions as they are kept
 abbrev pub sessions_of : List SessionState → List Session
 sessions_of states = map session_of states
 
--- each outbox has room for what its session is brought
+-- a session has room for what it is brought, and for an operation where it calls
+pub record HasRoomFor (state : SessionState) (change : SessionChange) : Type 0 where
+  pub queue : length change.brought ≤ state.outbox.spare
+  pub place : is_some change.call ≡ true → vec_len state.operations < vec_capacity state.operations
+
+-- each session has room for its change
 abbrev pub HaveRoom : List SessionState → List SessionChange → Type 0
 HaveRoom [] changes = Unit {0}
 HaveRoom (state ∷ states) [] = Unit {0}
-HaveRoom (state ∷ states) (change ∷ changes) = (length change.brought ≤ state.outbox.spare) × HaveRoom states changes
+HaveRoom (state ∷ states) (change ∷ changes) = HasRoomFor state change × HaveRoom states changes
 
--- a change fits a session: it cuts exactly where what it brings would pass the limit of the queue, and brings nothing to a session that was cut
+-- a change fits a session, whose operations have numbers that rise: it cuts exactly where what it brings would pass the limit of the queue, and
+-- brings nothing to a session that was cut
 pub record IsFit (session : Session) (change : SessionChange) : Type 0 where
   pub cuts : change.cuts ≡ passes session.queue change.brought
   pub cut : session.cut ≡ true → change.brought ≡ []
+  pub rising : AreRising session.operations
 
 -- each change fits its session
 abbrev pub AreFit : List Session → List SessionChange → Type 0
@@ -106,7 +115,18 @@ HasRoom [] changes = Unit {0}
 HasRoom (room ∷ rooms) [] = Unit {0}
 HasRoom (room ∷ rooms) (change ∷ changes) = (length change.brought ≤ room) × HasRoom rooms changes
 
+-- each session that calls has room for an operation
+abbrev pub HavePlaces : List ℕ → List SessionChange → Type 0
+HavePlaces [] changes = Unit {0}
+HavePlaces (place ∷ places) [] = Unit {0}
+HavePlaces (place ∷ places) (change ∷ changes) = (is_some change.call ≡ true → 0 < place) × HavePlaces places changes
+
 -- a call that was accepted is well formed
 abbrev pub IsWellFormedCall : Option Accepted → Type 0
 IsWellFormedCall None = Unit {0}
 IsWellFormedCall (Some call) = IsTrue (well_formed call.request)
+
+-- a session's own call is well formed
+abbrev pub IsWellFormedOwn : Option Call → Type 0
+IsWellFormedOwn None = Unit {0}
+IsWellFormedOwn (Some call) = IsTrue (well_formed call.request)

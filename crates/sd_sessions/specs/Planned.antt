@@ -9,7 +9,7 @@ use Rattle.sd_sessions.specs.declared.sessions.Plan.{Plan}
 use Rattle.sd_sessions.specs.Sessions.{Session, State}
 use Rattle.sd_sessions.specs.Answered.{Answering}
 use Rattle.sd_sessions.specs.Settling.{change_told, most_taken}
-use Rattle.sd_sessions.specs.Kept.{HasRoom, IsFresh, IsWellFormedCall}
+use Rattle.sd_sessions.specs.Kept.{HasRoom, HavePlaces, IsFresh, IsWellFormedCall}
 
 -- A plan is of what happened to these sessions, where their operations have these answers before it and after it.
 pub record IsPlan (told : Told) (earlier later : Answering) (sessions : List Session) (plan : Plan) : Type 0 where
@@ -19,9 +19,10 @@ pub record IsPlan (told : Told) (earlier later : Answering) (sessions : List Ses
   pub empty : plan.taken.items ≡ []
   pub room : most_taken told.taking ≤ vec_capacity plan.taken
 
--- There is room for a plan: in each queue, for a session that is opened, and for an operation that is started.
+-- There is room for a plan: in each queue, for an operation of the session that calls, for a session that is opened, and in the index.
 pub record IsReady (told : Told) (plan : Plan) (state : State) : Type 0 where
   pub queues : HasRoom state.room plan.changes.items
+  pub starts : HavePlaces state.starts plan.changes.items
   pub place : is_some told.opened ≡ true → 0 < state.places
   pub filing : is_some told.call ≡ true → 0 < state.filing
 

@@ -14,11 +14,13 @@ pub record Session : Type 0 where
   pub queue : List Item
 
 -- What contracts see of the sessions: how many were opened, those that are attached, for how many more items the queue of each has room, for
--- how many more sessions there is room, and for how many more operations the index of who asks for a name has room.
+-- how many more operations each has room, for how many more sessions there is room, and for how many more operations the index of who asks for a
+-- name has room.
 pub record State : Type 0 where
   pub opened : ℕ
   pub sessions : List Session
   pub room : List ℕ
+  pub starts : List ℕ
   pub places : ℕ
   pub filing : ℕ
 

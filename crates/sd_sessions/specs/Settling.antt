@@ -1,7 +1,6 @@
 -- What an event makes of the sessions that are kept.
 use Rattle.std.specs.Prelude.{ℕ, suc, ◌==◌, nat_lt, false, not, ◌||◌, List, [], ◌∷◌, ◌++◌, map, filter, Option, Some, None, if◌then◌else◌, take, drop}
 use Rattle.std.specs.List.{flat_map, find}
-use Rattle.std.specs.Option.{unwrap_or}
 use Rattle.sd_call.specs.declared.item.Item.{Item}
 use Rattle.mdns_history.specs.declared.operation.Operation.{Operation}
 use Rattle.mdns_history.specs.declared.event.Event.{Event}
@@ -14,6 +13,7 @@ use Rattle.mdns_history.specs.Outcomes.{items_or_empty}
 use Rattle.mdns_history.specs.Sessions.{Accepted, accepted_call, after_request, detached, is_number}
 use Rattle.mdns_history.specs.Items.{given_to}
 use Rattle.mdns_happened.specs.Told.{Told, Taking, taking_of, told_of}
+use Rattle.sd_sessions.specs.declared.change.Call.{Call}
 use Rattle.sd_sessions.specs.declared.change.SessionChange.{SessionChange}
 use Rattle.sd_sessions.specs.Sessions.{Session}
 use Rattle.sd_sessions.specs.Codes.{has_number}
@@ -25,29 +25,36 @@ abbrev pub count_below : ℕ → List Operation → ℕ
 count_below op [] = 0
 count_below op (operation ∷ operations) = if nat_lt operation.op op then suc (count_below op operations) else 0
 
--- the operations that a call leaves to its session, where an event is one that was accepted
-abbrev pub called : Option Accepted → ℕ → List Operation → Option (List Operation)
-called None number operations = None
-called (Some call) number operations =
-    if call.session == number then Some (after_request number call.op call.request operations) else None
+-- the call of a session of this number, where an accepted call is the session's
+abbrev pub own_call : Option Accepted → ℕ → Option Call
+own_call None number = None
+own_call (Some call) number = if call.session == number then Some (record { op = call.op; request = call.request }) else None
+
+-- the operations of a session after its call, where there is one
+abbrev pub after_own : ℕ → Option Call → List Operation → List Operation
+after_own number None operations = operations
+after_own number (Some call) operations = after_request number call.op call.request operations
+
+-- the operations that an accepted call leaves to a session
+abbrev pub left_to : Option Accepted → ℕ → List Operation → List Operation
+left_to call number operations = after_own number (own_call call number) operations
 
 -- the operations of a session after an event with its outcome
 abbrev pub operations_then : Event → Outcome → Session → List Operation
-operations_then event outcome session = unwrap_or (called (accepted_call event outcome) session.number session.operations) session.operations
+operations_then event outcome session = left_to (accepted_call event outcome) session.number session.operations
 
 -- what a session has of an event, told of the answers before and after it
 abbrev pub brought_told : Told → Answering → Answering → Session → List Item
 brought_told told earlier later session =
     if session.cut || is_number session.number told.detached then []
-    else items_between earlier later (told.reply session.number) session.operations
-    (unwrap_or (called told.call session.number session.operations) session.operations)
+    else items_between earlier later (told.reply session.number) session.operations (left_to told.call session.number session.operations)
 
--- the change of a session: its new operations, what it is brought, and whether that would pass the limit of its queue
+-- the change of a session: its call, what it is brought, and whether that would pass the limit of its queue
 abbrev pub change_told : Told → Answering → Answering → Session → SessionChange
 change_told told earlier later session =
     record {
       session = session.number;
-      operations = called told.call session.number session.operations;
+      call = own_call told.call session.number;
       brought = brought_told told earlier later session;
       cuts = passes session.queue (brought_told told earlier later session);
     }
@@ -68,12 +75,12 @@ cuts_of changes = map (λ change. mark.Cut change.session) (filter (λ change. c
 abbrev pub gifts_of : List SessionChange → List Given
 gifts_of changes = flat_map (λ change. map (given_to change.session) change.brought) (filter (λ change. not change.cuts) changes)
 
--- a session with its change: cut for good, or with what it was brought behind its queue
+-- a session with its change: its operations after its call, and cut for good, or with what it was brought behind its queue
 abbrev pub settled : Session → SessionChange → Session
 settled session change =
     record {
       number = session.number;
-      operations = unwrap_or change.operations session.operations;
+      operations = after_own session.number change.call session.operations;
       cut = session.cut || change.cuts;
       queue = if session.cut || change.cuts then [] else session.queue ++ change.brought;
     }

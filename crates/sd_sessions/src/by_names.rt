@@ -2,7 +2,7 @@
 ghost use Rattle.std.specs.Prelude.{◌≡◌, ◌||◌, ◌++◌, [], List, map, true, false, if◌then◌else◌, IsTrue, IfOk, OnOk, IfSome};
 ghost use Rattle.std.specs.List.{AllByRecursion};
 ghost use Rattle.std.specs.List.Sorted.{IsSorted};
-ghost use Rattle.std.specs.Option.{option_copied, option_to_list, unwrap_or};
+ghost use Rattle.std.specs.Option.{option_copied, option_to_list};
 ghost use Rattle.dns_name.specs.Lists.{without};
 ghost use Rattle.sd_call.specs.declared.answer.Answer.{Answer};
 ghost use Rattle.sd_call.specs.declared.item.Item.TheVariants as item;
@@ -16,15 +16,16 @@ ghost use Rattle.mdns_happened.specs.Told.{told_by};
 ghost use Rattle.sd_sessions.specs.Answered.{answered, View};
 ghost use Rattle.sd_sessions.specs.Changes.{had, items_between};
 ghost use Rattle.sd_sessions.specs.Codes.{is_running};
-ghost use Rattle.sd_sessions.specs.Settling.{called, brought_told, change_told};
-ghost use Rattle.sd_sessions.specs.Kept.{session_of, sessions_of, AreWellFormed, HaveWellFormed, IsWellFormedCall};
+ghost use Rattle.sd_sessions.specs.Settling.{own_call, after_own, brought_told, change_told};
+ghost use Rattle.sd_sessions.specs.Kept.{session_of, sessions_of, AreRising, AreWellFormed, HaveRising, HaveWellFormed, IsWellFormedCall, IsWellFormedOwn};
 ghost use Rattle.sd_sessions.specs.Walked.{walk_for, IsSeen, IsSeenOf, IsCompared, IsInOrder};
-ghost use Rattle.sd_sessions.specs.Concerned.{concerned, has_one, IsCallCovered, IsCallMet, IsCovered, IsMet};
+ghost use Rattle.sd_sessions.specs.Concerned.{concerned, IsCallMet, IsCovered, IsMet, IsOwnCovered};
 
-use crate::change::{SessionChange, called, or_own};
+use crate::change::{Call, SessionChange, own_call};
 use crate::codes::{is_running, registers};
 use crate::concerned::numbers_of;
 use crate::items::{put_adds, put_removes};
+use crate::numbered::{concerned_after, has_one};
 use crate::session::SessionState;
 use crate::walks::{earlier_of, later_of};
 use dns_record::Key;
@@ -58,6 +59,7 @@ pub fn changes_by_names(
     around: &Around<'_>,
 ) -> Result<Vec<SessionChange>, AllocError>
     requires operations { HaveWellFormed (sessions_of sessions.now) }
+    requires rising { HaveRising (sessions_of sessions.now) }
     requires call { IsWellFormedCall (told_by happened.now).call }
     requires met { AllByRecursion (IsMet concerned.now around.now) (sessions_of sessions.now) }
     requires called { IsCallMet concerned.now (told_by happened.now).call }
@@ -82,20 +84,20 @@ fn change_by_names(
     happened: &Happened<'_>,
     looked: &Looked<'_>,
 ) -> Result<SessionChange, AllocError>
-    requires operations { AreWellFormed session.now.operations }
+    requires operations { AreWellFormed session.now.operations.items }
+    requires rising { AreRising session.now.operations.items }
     requires call { IsWellFormedCall (told_by happened.now).call }
-    requires covered { AllByRecursion (IsCovered looked.now.numbers.now looked.now.around.now session.now.operations) session.now.operations }
-    requires called { IsCallCovered looked.now.numbers.now session.now.number (told_by happened.now).call }
+    requires covered { AllByRecursion (IsCovered looked.now.numbers.now looked.now.around.now session.now.operations.items) session.now.operations.items }
+    requires called { IsOwnCovered looked.now.numbers.now (own_call (told_by happened.now).call session.now.number) }
     ensures { IfOk result (λ change. (earlier later : View) → IsSeen (told_by happened.now) earlier later looked.now.around.now (session_of session.now)
         → change ≡ change_told (told_by happened.now) (answered earlier) (answered later) (session_of session.now)) }
 {
-    let operations = called(alloc, session, happened)?;
-    let after = or_own(&operations, &session.operations);
-    let brought = bring_by_names(alloc, session, after, happened, looked)?;
+    let call = own_call(alloc, session.number, happened)?;
+    let brought = bring_by_names(alloc, session, &call, happened, looked)?;
     let cuts = session.outbox.passes(brought.as_slice());
     Ok(SessionChange {
         session: session.number,
-        operations,
+        call,
         brought,
         cuts,
     })
@@ -105,22 +107,24 @@ fn change_by_names(
 fn bring_by_names(
     alloc: Global,
     session: &SessionState,
-    after: &[Operation],
+    call: &Option<Call>,
     happened: &Happened<'_>,
     looked: &Looked<'_>,
 ) -> Result<Items, AllocError>
-    requires formed { AreWellFormed after.now }
-    requires covered { AllByRecursion (IsCovered looked.now.numbers.now looked.now.around.now session.now.operations) after.now }
+    requires operations { AreWellFormed session.now.operations.items }
+    requires rising { AreRising session.now.operations.items }
+    requires call { IsWellFormedOwn call.now }
+    requires covered { AllByRecursion (IsCovered looked.now.numbers.now looked.now.around.now session.now.operations.items) session.now.operations.items }
+    requires called { IsOwnCovered looked.now.numbers.now call.now }
     ensures { IfOk result (λ items. (earlier later : View) → IsSeen (told_by happened.now) earlier later looked.now.around.now (session_of session.now)
-        → after.now ≡ unwrap_or (called (told_by happened.now).call session.now.number session.now.operations) session.now.operations
+        → call.now ≡ own_call (told_by happened.now).call session.now.number
         → items ≡ brought_told (told_by happened.now) (answered earlier) (answered later) (session_of session.now)) }
 {
     if gets_nothing(session, happened) {
         return Ok(Items::new(alloc));
     }
     let reply = happened.reply_to(session.number);
-    let before = session.operations.as_slice();
-    let items = items_by_names(alloc, reply, before, after, looked)?;
+    let items = items_with_call(alloc, reply, session, call, looked)?;
     Ok(items)
 }
 
@@ -129,6 +133,36 @@ fn gets_nothing(session: &SessionState, happened: &Happened<'_>) -> bool
     ensures { result ≡ ((session_of session.now).cut || is_number session.now.number (told_by happened.now).detached) }
 {
     session.outbox.is_cut() || happened.detaches(session.number)
+}
+
+// What a session that isn't cut or detached is brought, behind a reply: by its call the operations change.
+fn items_with_call(
+    alloc: Global,
+    reply: Option<Item>,
+    session: &SessionState,
+    call: &Option<Call>,
+    looked: &Looked<'_>,
+) -> Result<Items, AllocError>
+    requires operations { AreWellFormed session.now.operations.items }
+    requires rising { AreRising session.now.operations.items }
+    requires call { IsWellFormedOwn call.now }
+    requires covered { AllByRecursion (IsCovered looked.now.numbers.now looked.now.around.now session.now.operations.items) session.now.operations.items }
+    requires called { IsOwnCovered looked.now.numbers.now call.now }
+    ensures { IfOk result (λ items. (earlier later : View) → let before = session.now.operations.items in let after = after_own session.now.number call.now before in
+        AllByRecursion (IsSeenOf earlier later looked.now.around.now before) after → items ≡ items_between (answered earlier) (answered later) reply before after) }
+{
+    let before = session.operations.as_slice();
+    match call {
+        Some(call) => {
+            let after = concerned_after(alloc, before, session.number, call, looked.numbers)?;
+            let items = items_by_names(alloc, reply, before, &after, looked)?;
+            Ok(items)
+        }
+        None => {
+            let items = items_by_names(alloc, reply, before, before, looked)?;
+            Ok(items)
+        }
+    }
 }
 
 // What a session is brought where its operations change from those before to those after.
@@ -217,13 +251,6 @@ fn compare_answers(
     } else {
         compare_walked(alloc, before, operation, looked.around)
     }
-}
-
-// Whether a number is one of several.
-fn has_one(numbers: &[u32], op: u32) -> bool
-    ensures { result ≡ has_one numbers.now op }
-{
-    numbers.iter().any(|number| *number == op)
 }
 
 // The answers of a registration before and after; `None` where nothing is told of it.

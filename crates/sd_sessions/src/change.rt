@@ -1,54 +1,60 @@
 // What an event changes in the sessions, computed before anything is changed.
 ghost use Rattle.std.specs.Prelude.{◌≡◌, ◌++◌, map, IfOk, OnOk};
-ghost use Rattle.std.specs.Option.{unwrap_or};
 ghost use Rattle.mdns_history.specs.Items.{given_to};
 ghost use Rattle.mdns_happened.specs.Told.{told_by};
-ghost use Rattle.sd_sessions.specs.Settling.{called, cuts_of, gifts_of};
+ghost use Rattle.sd_sessions.specs.Settling.{own_call, cuts_of, gifts_of};
 
-use crate::running::operations_after;
-use crate::session::SessionState;
 use mdns_happened::Happened;
-use mdns_history::{Gifts, Given, Items, Mark, Marks, Operation, Operations};
-use sd_call::Item;
+use mdns_history::{Gifts, Given, Items, Mark, Marks};
+use sd_call::{Item, Request};
 use std::alloc::{AllocError, Global};
 
-/// What an event changes in a session: its operations, where they change, what it is brought, and whether that cuts it.
+/// A call of a session: the number of its operation, and what it asks for.
+#[derive(Drop)]
+pub struct Call {
+    pub op: u32,
+    pub request: Request,
+}
+
+/// What an event changes in a session: the call that the session made, where it is one that was accepted, what the session is
+/// brought, and whether that cuts it.
 #[derive(Drop)]
 pub struct SessionChange {
     pub session: u64,
-    pub operations: Option<Operations>,
+    pub call: Option<Call>,
     pub brought: Items,
     pub cuts: bool,
 }
 
-/// The operations that a call leaves, or else those that were there.
-pub fn or_own<'a>(operations: &'a Option<Operations>, own: &'a Operations) -> &'a [Operation]
-    ensures { result.now ≡ unwrap_or operations.now own.now }
-{
-    match operations {
-        Some(operations) => operations.as_slice(),
-        None => own.as_slice(),
+impl Call {
+    /// An equal call. Refused only for want of memory.
+    pub fn copy(&self, alloc: Global) -> Result<Call, AllocError>
+        ensures { IfOk result (λ copy. copy ≡ self.now) }
+    {
+        Ok(Call {
+            op: self.op,
+            request: self.request.copy(alloc)?,
+        })
     }
 }
 
-/// The operations that a call leaves to a session, where it is the session's and was accepted. Refused only for want of memory.
-pub fn called(
+/// The call of the session of a number, where it is the session's that was accepted, copied. Refused only for want of memory.
+pub fn own_call(
     alloc: Global,
-    session: &SessionState,
+    number: u64,
     happened: &Happened<'_>,
-) -> Result<Option<Operations>, AllocError>
-    ensures { IfOk result (λ after. after ≡ called (told_by happened.now).call session.now.number session.now.operations) }
+) -> Result<Option<Call>, AllocError>
+    ensures { IfOk result (λ call. call ≡ own_call (told_by happened.now).call number) }
 {
     match happened {
         Happened::Called {
-            session: caller,
+            session,
             op,
             request,
             code: 0,
-        } if *caller == session.number => {
-            let operations = session.operations.as_slice();
-            let after = operations_after(alloc, operations, *caller, *op, request)?;
-            Ok(Some(Operations::from_vec(after)))
+        } if *session == number => {
+            let request = request.copy(alloc)?;
+            Ok(Some(Call { op: *op, request }))
         }
         _ => Ok(None),
     }

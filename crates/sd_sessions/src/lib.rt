@@ -9,13 +9,14 @@ mod index;
 mod items;
 mod law;
 mod names;
+mod numbered;
 mod running;
 mod session;
 mod sessions;
 mod settle;
 mod walks;
 
-pub use change::SessionChange;
+pub use change::{Call, SessionChange};
 pub use codes::Registering;
 pub use law::sessions_follow_the_history;
 pub use sessions::{Plan, Sessions};

@@ -1,58 +1,62 @@
 // What a call makes of the operations of its session.
-ghost use Rattle.std.specs.Prelude.{◌≡◌, ◌≤◌, not, map, filter, length, IfOk};
-ghost use Rattle.sd_call.specs.Requests.{with_txt};
+ghost use Rattle.std.specs.Prelude.{◌≡◌, ◌<◌, ◌≤◌, not, map, filter, length, position, true, vec_len, vec_capacity};
+ghost use Rattle.std.specs.Option.{is_some};
 ghost use Rattle.dns_name.specs.Lists.{insert_by};
+ghost use Rattle.sd_call.specs.Requests.{with_txt};
 ghost use Rattle.mdns_history.specs.Sessions.{after_request, updated, has_op, by_op};
-ghost use Rattle.sd_sessions.specs.Settling.{count_below};
+ghost use Rattle.sd_sessions.specs.Kept.{AreRising};
+ghost use Rattle.sd_sessions.specs.Settling.{after_own, count_below};
 
+use crate::change::Call;
 use bytes::Bytes;
 use mdns_history::Operation;
 use sd_call::Request;
-use std::alloc::{AllocError, Global};
 
-/// The operations of a session after a call that was answered with code 0: a start adds one, a stop takes one out, an
-/// update replaces the TXT of one. Refused only for want of memory.
-pub fn operations_after(
-    alloc: Global,
-    operations: &[Operation],
-    session: u64,
-    op: u32,
-    request: &Request,
-) -> Result<Vec<Operation>, AllocError>
-    ensures { IfOk result (λ after. after.items ≡ after_request session op request.now operations.now) }
+/// Makes of the operations of a session what its own call makes of them, where there is one. It takes no memory.
+pub fn run_own(operations: &mut Vec<Operation>, session: u64, call: Option<Call>)
+    requires rising { AreRising operations.old.items }
+    requires room { is_some call ≡ true → vec_len operations.old < vec_capacity operations.old }
+    ensures { operations.new.items ≡ after_own session call operations.old.items }
 {
+    if let Some(call) = call {
+        run(operations, session, call);
+    }
+}
+
+/// Makes of the operations of a session what a call makes of them: a start adds one, for which there is room, a stop takes one
+/// out, an update replaces the TXT of one. It takes no memory.
+pub fn run(operations: &mut Vec<Operation>, session: u64, call: Call)
+    requires rising { AreRising operations.old.items }
+    requires room { vec_len operations.old < vec_capacity operations.old }
+    ensures { operations.new.items ≡ after_request session call.op call.request operations.old.items }
+{
+    let Call { op, request } = call;
     match request {
-        Request::Update { txt } => with_update(alloc, operations, op, txt),
-        Request::Stop => without(alloc, operations, op),
+        Request::Update { txt } => replace_txt(operations, op, txt),
+        Request::Stop => take_out(operations, op),
         Request::Query { .. }
         | Request::Browse { .. }
         | Request::Resolve { .. }
         | Request::Address { .. }
         | Request::Register { .. } => {
-            let request = request.copy(alloc)?;
             let started = Operation {
                 session,
                 op,
                 request,
             };
-            with_start(alloc, operations, started)
+            put_in(operations, started);
         }
     }
 }
 
-// The operations with one more, in its place by number.
+// Puts an operation in its place by number.
 #[tactic(auto, using(crate::proofs::OperationPlaces::insert_place))]
-fn with_start(
-    alloc: Global,
-    operations: &[Operation],
-    started: Operation,
-) -> Result<Vec<Operation>, AllocError>
-    ensures { IfOk result (λ after. after.items ≡ insert_by by_op started operations.now) }
+fn put_in(operations: &mut Vec<Operation>, started: Operation)
+    requires { vec_len operations.old < vec_capacity operations.old }
+    ensures { operations.new.items ≡ insert_by by_op started operations.old.items }
 {
     let place = count_below(operations, started.op);
-    let mut after = copies(alloc, operations)?;
-    after.insert(place, started)?;
-    Ok(after)
+    let _ = operations.insert(place, started);
 }
 
 // How many operations stand before the first of this number or of a greater one.
@@ -70,81 +74,36 @@ fn count_below(operations: &[Operation], op: u32) -> usize
     count
 }
 
-fn copies(alloc: Global, operations: &[Operation]) -> Result<Vec<Operation>, AllocError>
-    ensures { IfOk result (λ after. after.items ≡ operations.now) }
+// Takes the operations of a number out.
+fn take_out(operations: &mut Vec<Operation>, op: u32)
+    ensures { operations.new.items ≡ filter (λ operation. not (has_op op operation)) operations.old.items }
 {
-    let mut after = Vec::new(alloc);
-    for operation in operations {
-        after.push(operation.copy(alloc)?)?;
-    }
-    Ok(after)
+    operations.retain(|operation| operation.op != op);
 }
 
-// The operations but those of a number.
-fn without(alloc: Global, operations: &[Operation], op: u32) -> Result<Vec<Operation>, AllocError>
-    ensures { IfOk result (λ after. after.items ≡ filter (λ operation. not (has_op op operation)) operations.now) }
+// Replaces the TXT of the operation of a number.
+fn replace_txt(operations: &mut [Operation], op: u32, txt: Bytes)
+    requires { AreRising operations.old }
+    ensures { operations.new ≡ map (updated op txt) operations.old }
 {
-    let mut after = Vec::new(alloc);
-    for operation in operations {
-        if operation.op != op {
-            after.push(operation.copy(alloc)?)?;
-        }
+    match place_of(operations, op) {
+        Some(place) => update(&mut operations[place].request, txt),
+        None => {}
     }
-    Ok(after)
 }
 
-// The operations with the TXT of one replaced.
-fn with_update(
-    alloc: Global,
-    operations: &[Operation],
-    op: u32,
-    txt: &Bytes,
-) -> Result<Vec<Operation>, AllocError>
-    ensures { IfOk result (λ after. after.items ≡ map (updated op txt.now) operations.now) }
+// The place of the operation of a number.
+fn place_of(operations: &[Operation], op: u32) -> Option<usize>
+    ensures { result ≡ position (has_op op) operations.now }
 {
-    let mut after = Vec::new(alloc);
-    for operation in operations {
-        after.push(updated(alloc, operation, op, txt)?)?;
-    }
-    Ok(after)
+    operations.iter().position(|operation| operation.op == op)
 }
 
-fn updated(
-    alloc: Global,
-    operation: &Operation,
-    op: u32,
-    txt: &Bytes,
-) -> Result<Operation, AllocError>
-    ensures { IfOk result (λ after. after ≡ updated op txt.now operation.now) }
+// Replaces the TXT of a registration; every other request stays as it is.
+fn update(request: &mut Request, new: Bytes)
+    ensures { request.new ≡ with_txt new request.old }
 {
-    if operation.op != op {
-        return operation.copy(alloc);
-    }
-    Ok(Operation {
-        session: operation.session,
-        op: operation.op,
-        request: with_txt(alloc, &operation.request, txt)?,
-    })
-}
-
-// A registration with its TXT replaced; every other request as it is.
-fn with_txt(alloc: Global, request: &Request, txt: &Bytes) -> Result<Request, AllocError>
-    ensures { IfOk result (λ after. after ≡ with_txt txt.now request.now) }
-{
-    match request {
-        Request::Register {
-            label,
-            regtype,
-            port,
-            norename,
-            ..
-        } => Ok(Request::Register {
-            label: label.copy(alloc)?,
-            regtype: regtype.copy(alloc)?,
-            port: *port,
-            norename: *norename,
-            txt: txt.clone()?,
-        }),
-        _ => request.copy(alloc),
+    if let Request::Register { txt, .. } = request {
+        *txt = new;
     }
 }

@@ -5,14 +5,14 @@ ghost use Rattle.std.specs.Option.{option_map, option_copied};
 ghost use Rattle.sd_sessions.specs.Codes.{has_number};
 ghost use Rattle.sd_sessions.specs.Kept.{session_of, sessions_of};
 
-use mdns_history::Operations;
+use mdns_history::Operation;
 use sd_outbox::Outbox;
 
 /// An attached session: its number, its live operations by number, and what is queued for it.
 #[derive(Drop)]
 pub struct SessionState {
     pub number: u64,
-    pub operations: Operations,
+    pub operations: Vec<Operation>,
     pub outbox: Outbox,
 }
 

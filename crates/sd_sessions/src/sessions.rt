@@ -63,6 +63,7 @@ impl Model for Sessions {
       opened = s.opened;
       sessions = sessions_of s.attached.items;
       room = map (λ one. one.outbox.spare) s.attached.items;
+      starts = map (λ one. vec_capacity one.operations - vec_len one.operations) s.attached.items;
       places = vec_capacity s.attached - vec_len s.attached;
       filing = s.askers.spare;
     } };

@@ -1,34 +1,46 @@
 // The changes of sessions made, once nothing can be refused any more.
 ghost use Rattle.std.specs.Prelude.{◌≡◌, ◌==◌, ◌<◌, ◌≤◌, [], true, false, take, drop, length, position, vec_len, vec_capacity, Some, OnOk};
-ghost use Rattle.std.specs.Option.{option_map, is_some, unwrap_or};
+ghost use Rattle.std.specs.Option.{option_map, is_some};
 ghost use Rattle.std.specs.List.{find};
 ghost use Rattle.mdns_happened.specs.Told.{told_by};
 ghost use Rattle.sd_sessions.specs.declared.session.SessionState.{SessionState};
 ghost use Rattle.sd_sessions.specs.Changes.{passes};
 ghost use Rattle.sd_sessions.specs.Codes.{has_number};
-ghost use Rattle.sd_sessions.specs.Settling.{settled, all_settled, with_opened, remaining_but, handed_to, outcome_told, sessions_told, taken_from, most_taken};
-ghost use Rattle.sd_sessions.specs.Kept.{session_of, sessions_of, queued, joined, HaveRoom, IsFit, AreFit};
+ghost use Rattle.sd_sessions.specs.Settling.{after_own, settled, all_settled, with_opened, remaining_but, handed_to, outcome_told, sessions_told, taken_from, most_taken};
+ghost use Rattle.sd_sessions.specs.Kept.{session_of, sessions_of, queued, joined, HasRoomFor, HaveRoom, IsFit, AreFit};
 
 use crate::change::SessionChange;
+use crate::running::run_own;
 use crate::session::SessionState;
 use mdns_happened::Happened;
-use mdns_history::{Items, Operations, Outcome};
+use mdns_history::{Items, Outcome};
 use sd_call::Item;
 use sd_outbox::{Outbox, Taken};
 use std::alloc::{AllocError, Global};
 
-/// Takes the room that the sessions' queues need for what they are brought. Nothing else changes. Refused only for want
-/// of memory.
+/// Takes the room that the sessions need for what they are brought, and for the operation that a call starts. Nothing else changes.
+/// Refused only for want of memory.
 pub fn make_room(sessions: &mut [SessionState], changes: &[SessionChange]) -> Result<(), AllocError>
     requires { length sessions.old ≡ length changes.now }
     ensures same { sessions_of sessions.new ≡ sessions_of sessions.old }
     ensures room { OnOk result (HaveRoom sessions.new changes.now) }
 {
     for place in 0..sessions.len() {
-        let more = changes[place].brought.as_slice().len();
-        let session = &mut sessions[place];
-        session.outbox.reserve(more)?;
+        make_room_in(&mut sessions[place], &changes[place])?;
     }
+    Ok(())
+}
+
+// Takes the room that a session needs.
+fn make_room_in(session: &mut SessionState, change: &SessionChange) -> Result<(), AllocError>
+    ensures same { session_of session.new ≡ session_of session.old }
+    ensures room { OnOk result (HasRoomFor session.new change.now) }
+{
+    if change.call.is_some() {
+        session.operations.reserve(1)?;
+    }
+    let more = change.brought.as_slice().len();
+    session.outbox.reserve(more)?;
     Ok(())
 }
 
@@ -45,12 +57,12 @@ pub fn settle(sessions: &mut [SessionState], mut changes: Vec<SessionChange>)
 }
 
 fn settle_one(session: &mut SessionState, change: SessionChange)
-    requires room { length change.brought ≤ session.old.outbox.spare }
+    requires room { HasRoomFor session.old change }
     requires fit { IsFit (session_of session.old) change }
     ensures { session_of session.new ≡ settled (session_of session.old) change }
 {
     let SessionChange {
-        operations,
+        call,
         brought,
         cuts,
         ..
@@ -60,15 +72,7 @@ fn settle_one(session: &mut SessionState, change: SessionChange)
     } else {
         queue(&mut session.outbox, brought);
     }
-    replace(&mut session.operations, operations);
-}
-
-fn replace(operations: &mut Operations, other: Option<Operations>)
-    ensures { operations.new ≡ unwrap_or other operations.old }
-{
-    if let Some(other) = other {
-        *operations = other;
-    }
+    run_own(&mut session.operations, session.number, call);
 }
 
 // Puts items behind a queue that has room for them.
@@ -122,7 +126,7 @@ fn open_session(alloc: Global, sessions: &mut Vec<SessionState>, happened: &Happ
     if let Happened::Opened { session } = happened {
         let _ = sessions.push(SessionState {
             number: *session,
-            operations: Operations::new(alloc),
+            operations: Vec::new(alloc),
             outbox: Outbox::new(alloc),
         });
     }

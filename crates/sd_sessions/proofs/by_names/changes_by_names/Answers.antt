@@ -3,11 +3,11 @@ use Rattle.std.proofs.lemmas.List.{take_all}
 use Rattle.mdns_happened.specs.Told.{Told, told_by}
 use Rattle.sd_sessions.specs.Answered.{answered}
 use Rattle.sd_sessions.specs.declared.session.SessionState.{SessionState}
-use Rattle.sd_sessions.specs.Settling.{change_told}
-use Rattle.sd_sessions.specs.Kept.{session_of, sessions_of, HaveWellFormed}
+use Rattle.sd_sessions.specs.Settling.{own_call, change_told}
+use Rattle.sd_sessions.specs.Kept.{session_of, sessions_of, HaveRising, HaveWellFormed}
 use Rattle.sd_sessions.specs.Walked.{IsSeen}
 use Rattle.std.specs.List.{AllByRecursion}
-use Rattle.sd_sessions.specs.Concerned.{IsCallCovered, IsCovered, IsMet}
+use Rattle.sd_sessions.specs.Concerned.{IsCovered, IsMet, IsOwnCovered}
 use Rattle.sd_sessions.proofs.Covered.{call-covered, session-covered}
 use Rattle.sd_sessions.proofs.Nexts.{all-at, drop-next, map_map-next}
 use Rattle.sd_sessions.proofs.by_names.changes_by_names.Goals as goal
@@ -23,18 +23,19 @@ loop-session-preserved c =
           ∙ sym (map_map-next (change_told told (answered earlier) (answered later)) session_of c.args.sessions.now c.loop-session.session-index c.session-item.result c.loop-session-test.true c.session-item.is);
       met = (subst (λ (l : List SessionState). AllByRecursion (IsMet c.args.concerned.now c.args.around.now) (sessions_of l)) (drop-next c.args.sessions.now c.loop-session.session-index c.session-item.result c.loop-session-test.true c.session-item.is) c.loop-session.invariant.met).1;
       formed = (subst (λ (l : List SessionState). HaveWellFormed (sessions_of l)) (drop-next c.args.sessions.now c.loop-session.session-index c.session-item.result c.loop-session-test.true c.session-item.is) c.loop-session.invariant.formed).1;
+      rising = (subst (λ (l : List SessionState). HaveRising (sessions_of l)) (drop-next c.args.sessions.now c.loop-session.session-index c.session-item.result c.loop-session-test.true c.session-item.is) c.loop-session.invariant.rising).1;
     }
 
 pub change_by_names-requires-clause-covered : goal.change_by_names-requires-clause-covered
 change_by_names-requires-clause-covered c =
-    subst (λ (numbers : List ℕ). AllByRecursion (IsCovered numbers c.args.around.now c.session-item.result.operations) c.session-item.result.operations) (sym c.deref.ensures.value)
+    subst (λ (numbers : List ℕ). AllByRecursion (IsCovered numbers c.args.around.now c.session-item.result.operations.items) c.session-item.result.operations.items) (sym c.deref.ensures.value)
     (session-covered c.args.concerned.now c.args.around.now (session_of c.session-item.result) c.in_ok-numbers.numbers.items c.in_ok-numbers.ensures
     (subst (λ (l : List SessionState). AllByRecursion (IsMet c.args.concerned.now c.args.around.now) (sessions_of l))
     (drop-next c.args.sessions.now c.loop-session.session-index c.session-item.result c.loop-session-test.true c.session-item.is) c.loop-session.invariant.met).0)
 
 pub change_by_names-requires-clause-called : goal.change_by_names-requires-clause-called
 change_by_names-requires-clause-called c =
-    subst (λ (numbers : List ℕ). IsCallCovered numbers c.session-item.result.number (told_by c.args.happened.now).call) (sym c.deref.ensures.value)
+    subst (λ (numbers : List ℕ). IsOwnCovered numbers (own_call (told_by c.args.happened.now).call c.session-item.result.number)) (sym c.deref.ensures.value)
     (call-covered c.args.concerned.now c.args.around.now (session_of c.session-item.result) c.in_ok-numbers.numbers.items c.in_ok-numbers.ensures (told_by c.args.happened.now).call c.requires.called)
 
 pub returns : goal.returns

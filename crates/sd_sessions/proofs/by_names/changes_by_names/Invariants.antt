@@ -3,7 +3,7 @@ use Rattle.std.specs.List.{AllByRecursion}
 use Rattle.mdns_happened.specs.Told.{told_by}
 use Rattle.sd_sessions.specs.Answered.{answered, View}
 use Rattle.sd_sessions.specs.Settling.{change_told}
-use Rattle.sd_sessions.specs.Kept.{sessions_of, HaveWellFormed}
+use Rattle.sd_sessions.specs.Kept.{sessions_of, HaveRising, HaveWellFormed}
 use Rattle.sd_sessions.specs.Walked.{IsSeen}
 use Rattle.sd_sessions.specs.Concerned.{IsMet}
 use Rattle.sd_sessions.proofs.by_names.changes_by_names.Given as goal
@@ -15,4 +15,5 @@ invariant-loop-session l =
           l.changes.items ≡ map (change_told (told_by l.happened) (answered earlier) (answered later)) (sessions_of (take l.session-index l.sessions));
       met : AllByRecursion (IsMet l.concerned l.around) (sessions_of (drop l.session-index l.sessions));
       formed : HaveWellFormed (sessions_of (drop l.session-index l.sessions));
+      rising : HaveRising (sessions_of (drop l.session-index l.sessions));
     }

@@ -7,7 +7,7 @@ use Rattle.sd_sessions.specs.declared.session.SessionState.{SessionState}
 use Rattle.sd_sessions.specs.declared.change.SessionChange.{SessionChange}
 use Rattle.sd_sessions.specs.Sessions.{Session, State}
 use Rattle.sd_sessions.specs.Settling.{change_told, sessions_told, shifted_told}
-use Rattle.sd_sessions.specs.Kept.{sessions_of, numbers_of, AreKept, HasRoom, HaveRising, HaveWellFormed, IsFresh, IsRising}
+use Rattle.sd_sessions.specs.Kept.{sessions_of, numbers_of, AreKept, HasRoom, HavePlaces, HaveRising, HaveWellFormed, IsFresh, IsRising}
 use Rattle.sd_sessions.specs.Indexed.{askers_in, askers_after, AreIndexed}
 use Rattle.sd_sessions.proofs.IndexLeft.{askers-left}
 use Rattle.sd_sessions.proofs.Rooms.{room-kept}
@@ -18,11 +18,12 @@ use Rattle.sd_sessions.proofs.sessions.Sessions.apply.Goals as goal
 pub carry_out-outcome-requires-clause-room : goal.carry_out-outcome-requires-clause-room
 carry_out-outcome-requires-clause-room c =
     room-kept c.self.inside.attached.items c.args.plan.changes.items (subst (λ (s : State). HasRoom s.room c.args.plan.changes.items) (sym c.self.view_is) c.requires.ready.queues)
+    (subst (λ (s : State). HavePlaces s.starts c.args.plan.changes.items) (sym c.self.view_is) c.requires.ready.starts)
 
 pub carry_out-outcome-requires-clause-fit : goal.carry_out-outcome-requires-clause-fit
 carry_out-outcome-requires-clause-fit c =
     let told : Told = told_by c.args.happened.now in
-    planned-fit told c.requires.planned.0 c.requires.planned.1 (sessions_of c.self.inside.attached.items) c.args.plan.changes.items
+    planned-fit told c.requires.planned.0 c.requires.planned.1 (sessions_of c.self.inside.attached.items) c.args.plan.changes.items c.self.invariant.0.rising
     (c.requires.planned.2.changes ∙ ap (λ (s : State). map (change_told told c.requires.planned.0 c.requires.planned.1) s.sessions) (sym c.self.view_is))
 
 pub invariant_of-self : goal.invariant_of-self
