@@ -2,11 +2,13 @@
 use Rattle.std.proofs.Common.{◌≡◌, ℕ, ◌+◌, ◌<◌, ◌≤◌, List, [], ◌∷◌, ◌++◌, take, length, Some, None, refl, ap, subst, sym, ◌∙◌, ⊎_elim, arith}
 use Rattle.std.specs.Prelude.{slice_get}
 use Rattle.std.proofs.lemmas.List.{take_more, take_all, length-append}
+use Rattle.std.proofs.lemmas.List.Sums.{sum_by-append, sum_by-cons}
 use Rattle.std.proofs.lemmas.Option.{slice_get_within, slice_get_cases, get_or_from_slice_get}
 use Rattle.dns_record.specs.declared.record.Rr.{Rr}
 use Rattle.mdns_history.specs.declared.held.Held.{Held}
 use Rattle.mdns_cache.proofs.ListLemmas.{each-append}
 use Rattle.mdns_happened.specs.declared.walk.Walk.{Walk}
+use Rattle.mdns_records.specs.Visits.{visits_of, visits_of_all}
 use Rattle.mdns_happened.specs.Walks.{IsWalk, IsOwnWalk, AreWalks, AreOwnWalks}
 
 -- one walk more
@@ -44,3 +46,11 @@ copied-all all copied place at none h =
 
 pub copied-none : (all : List Held) → AreCopied all []
 copied-none all = record { items = refl; within = omega arith }
+
+-- The visits of a walk of some names, and of one name more, are at most those of all names.
+pub visits-more : (held : List Held) (walked : List (List (List ℕ))) (name : List (List ℕ)) (left rest names : List (List (List ℕ))) → left ≡ name ∷ rest → walked ++ left ≡ names →
+    visits_of_all held walked + visits_of held name ≤ visits_of_all held names
+visits-more held walked name left rest names first all =
+    let whole : visits_of_all held names ≡ visits_of_all held walked + visits_of_all held left = ap (visits_of_all held) (sym all) ∙ sum_by-append (visits_of held) walked left in
+    let one : visits_of_all held left ≡ visits_of held name + visits_of_all held rest = ap (visits_of_all held) first ∙ sum_by-cons (visits_of held) name rest in
+    omega (arith, whole, one)

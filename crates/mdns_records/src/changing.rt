@@ -1,10 +1,11 @@
 // What an event changes of a cache.
-ghost use Rattle.std.specs.Prelude.{◌≡◌, ℕ, ◌≤◌, ◌++◌, List, filter, length};
+ghost use Rattle.std.specs.Prelude.{◌≡◌, ℕ, ◌+◌, ◌≤◌, ◌++◌, List, filter, length};
 ghost use Rattle.std.specs.List.Sorted.{IsPermutation};
 ghost use Rattle.mdns_history.specs.Hearings.{Hearing};
 ghost use Rattle.mdns_history.specs.Lifetimes.{is_live_at};
 ghost use Rattle.mdns_cache.specs.Lifetimes.{hearings_at, Holds, AllLive, AllHeard};
 ghost use Rattle.mdns_records.specs.After.{held_after};
+ghost use Rattle.mdns_records.specs.Visits.{ended_in};
 
 use dns_message::Rrs;
 use mdns_cache::{Cache, Steps};
@@ -22,6 +23,7 @@ pub fn change<L: Ledger>(cache: &mut Cache, when: When, heard: Rrs, steps: &mut 
     ensures heard { AllHeard when.moment cache.old.held → AllHeard when.moment cache.new.held }
     ensures holds { (past : List Hearing) (before : ℕ) → before ≤ when.moment → Holds cache.old.held past before
         → Holds cache.new.held (hearings_at when.moment when.word heard ++ past) when.moment }
+    ensures visits { steps.new ≡ steps.old + length (ended_in when.moment cache.old.held) + 1 }
 {
     take_ended(cache, when.moment, steps);
     let _ = cache.hear(when.moment, when.word, heard);
@@ -33,6 +35,7 @@ fn take_ended<L: Ledger>(cache: &mut Cache, now: u64, steps: &mut Steps<L>)
     ensures live { AllLive now cache.new.held }
     ensures limit { cache.new.limit ≡ cache.old.limit }
     ensures room { cache.old.spare ≤ cache.new.spare }
+    ensures visits { steps.new ≡ steps.old + length (ended_in now cache.old.held) + 1 }
 {
     while cache.expire(now, steps).is_some() {}
 }

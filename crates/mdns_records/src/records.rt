@@ -1,5 +1,5 @@
 // The records that are held.
-ghost use Rattle.std.specs.Prelude.{◌≡◌, ◌↔◌, ℕ, ◌≤◌, ◌^◌, List, [], ◌++◌, map, length, true, IsTrue, IfOk, OnOk, OnErr};
+ghost use Rattle.std.specs.Prelude.{◌≡◌, ◌↔◌, ℕ, ◌+◌, ◌≤◌, ◌^◌, List, [], ◌++◌, map, length, true, IsTrue, IfOk, OnOk, OnErr};
 ghost use Rattle.std.specs.List.{list_all, IsDistinct};
 ghost use Rattle.std.specs.List.Sorted.{IsPermutation};
 ghost use Rattle.dns_name.specs.Names.{folded_eq};
@@ -8,6 +8,7 @@ ghost use Rattle.mdns_history.specs.Lifetimes.{live_of, room_for_records};
 ghost use Rattle.mdns_cache.specs.Lifetimes.{hearings_at, Holds, AllLive, AllHeard, held_of, next_end_of};
 ghost use Rattle.mdns_happened.specs.Walks.{AreOwnWalks, AreWalks, IsOwnWalk, IsWalk};
 ghost use Rattle.mdns_records.specs.After.{held_after, is_of_event, AreTouched};
+ghost use Rattle.mdns_records.specs.Visits.{visits_of, visits_of_all, ended_in};
 
 use crate::changing::change;
 use crate::hear::heard_copy;
@@ -116,6 +117,9 @@ impl Records {
         ensures names { IfOk result (λ walks. map (λ walk. walk.name) walks.items ≡ names.items) }
         // Which records are the daemon's own isn't known here.
         ensures own { IfOk result (λ walks. AreOwnWalks [] [] walks.items) }
+        // No record of another name is looked at, and none twice but for a name that is there twice.
+        ensures visits { OnOk result (steps.new ≡ steps.old + visits_of_all self.now.held names.items) }
+        ensures most { steps.new ≤ steps.old + visits_of_all self.now.held names.items }
     {
         let mut walks = Vec::new(self.alloc);
         for name in names {
@@ -135,6 +139,8 @@ impl Records {
         ensures walk { IfOk result (IsWalk self.now.held (held_after when.moment when.word heard.now self.now.held)) }
         ensures name { IfOk result (λ walk. walk.name ≡ name) }
         ensures own { IfOk result (IsOwnWalk [] []) }
+        ensures visits { OnOk result (steps.new ≡ steps.old + visits_of self.now.held name) }
+        ensures most { steps.new ≤ steps.old + visits_of self.now.held name }
     {
         let earlier = self.records_of(&name, steps)?;
         let later = heard_copy(self.alloc, &earlier, &name, when, heard)?;
@@ -152,7 +158,9 @@ impl Records {
         name: &Name,
         steps: &mut Steps<L>,
     ) -> Result<Vec<Held>, AllocError>
-        ensures { IfOk result (λ held. held.items ≡ held_of name.now self.now.held) }
+        ensures held { IfOk result (λ held. held.items ≡ held_of name.now self.now.held) }
+        ensures visits { OnOk result (steps.new ≡ steps.old + visits_of self.now.held name.now) }
+        ensures most { steps.new ≤ steps.old + visits_of self.now.held name.now }
     {
         // Most names have one record.
         let mut held = Vec::with_capacity(self.alloc, 1)?;
@@ -182,6 +190,8 @@ impl Records {
         // What held exactly the live records of any hearings holds those of these as well.
         ensures holds { (past : List Hearing) (before : ℕ) → before ≤ when.moment → Holds self.old.held past before
             → Holds self.new.held (hearings_at when.moment when.word heard ++ past) when.moment }
+        // Only the records that have ended are looked at.
+        ensures visits { steps.new ≡ steps.old + length (ended_in when.moment self.old.held) + 1 }
     {
         change(&mut self.cache, when, heard, steps);
     }

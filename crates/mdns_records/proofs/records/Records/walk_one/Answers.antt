@@ -5,9 +5,9 @@ use Rattle.mdns_records.proofs.records.Records.walk_one.Goals as goal
 
 pub returns-clause-walk : goal.returns-clause-walk
 returns-clause-walk g c = record {
-  earlier = c.in_ok-earlier.ensures;
+  earlier = c.in_ok-earlier.ensures.held;
   later = c.in_ok-later.ensures
-      ∙ ap (held_after c.args.when.moment c.args.when.word (filter (is_named c.args.name) c.args.heard.now)) (c.deref.ensures.value ∙ c.in_ok-earlier.ensures)
+      ∙ ap (held_after c.args.when.moment c.args.when.word (filter (is_named c.args.name) c.args.heard.now)) (c.deref.ensures.value ∙ c.in_ok-earlier.ensures.held)
       ∙ sym (later_of c.args.name c.args.when.moment c.args.when.word c.args.heard.now c.args.self.now.held);
 }
 
