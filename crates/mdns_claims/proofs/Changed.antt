@@ -45,7 +45,7 @@ not_within some others within name e = of (is_among some name) refl
     of false h = refl
     of true h = absurd (true≢false (sym (within name h) ∙ e))
 
-same_among : (one other : List (List ℕ)) → folded_eq one other ≡ true → (names : List (List (List ℕ))) → is_among names one ≡ is_among names other
+pub same_among : (one other : List (List ℕ)) → folded_eq one other ≡ true → (names : List (List (List ℕ))) → is_among names one ≡ is_among names other
 same_among one other e [] = refl
 same_among one other e (name ∷ names) = λ i. folded_eq-equivalence.congr one other name e i || same_among one other e names i
 

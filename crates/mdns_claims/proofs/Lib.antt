@@ -26,3 +26,4 @@ pub mod Brought
 pub mod Mapped
 pub mod Sure
 pub mod Asked
+pub mod Moving

@@ -9,3 +9,4 @@ pub mod Planned
 pub mod Seen
 pub mod Later
 pub mod Laws
+pub mod Moved

@@ -16,6 +16,7 @@ mod held;
 mod later;
 mod law;
 mod looks;
+mod moved;
 mod names;
 mod ours;
 mod own;

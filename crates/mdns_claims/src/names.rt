@@ -1,5 +1,6 @@
 // The names that records have, put together.
 ghost use Rattle.std.specs.Prelude.{List, OnOk, [], false, true, ℕ, ◌≡◌};
+ghost use Rattle.dns_name.specs.Names.{folded_eq};
 ghost use Rattle.mdns_claims.specs.Owned.{AreWithin, claimed_of, is_among, of_name};
 
 use dns_name::Name;
@@ -31,10 +32,11 @@ fn put_owners(names: &mut Vec<Name>, rrs: &[Rr]) -> Result<(), AllocError>
     Ok(())
 }
 
-// Puts a name that isn't among others, case aside.
-fn put_once(names: &mut Vec<Name>, name: &Name) -> Result<(), AllocError>
+/// Puts a name that isn't among others, case aside. Refused only for want of memory.
+pub fn put_once(names: &mut Vec<Name>, name: &Name) -> Result<(), AllocError>
     ensures kept { OnOk result (AreWithin names.old.items names.new.items) }
     ensures put { OnOk result (is_among names.new.items name.now ≡ true) }
+    ensures only { OnOk result ((other : List (List ℕ)) → is_among names.new.items other ≡ true → is_among names.old.items other ≡ false → folded_eq other name.now ≡ true) }
 {
     if !is_among(names, name) {
         names.push(name.copy())?;

@@ -126,7 +126,8 @@ fn has_record(one: &Claimant, rr: &Rr) -> bool
     claim.sure && (is_among(claim.unique.as_slice(), rr) || is_among(claim.shared.as_slice(), rr))
 }
 
-fn is_among(rrs: &[Rr], rr: &Rr) -> bool
+/// Whether a record is the same as one of several.
+pub fn is_among(rrs: &[Rr], rr: &Rr) -> bool
     ensures { result ≡ list_any (same rr.now) rrs.now }
 {
     rrs.iter().any(|other| rr.same(other))

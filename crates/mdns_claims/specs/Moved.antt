@@ -1,0 +1,9 @@
+-- Of which names a record comes to be own or ceases to be.
+use Rattle.std.specs.Prelude.{ℕ, Bool, not, List}
+use Rattle.dns_record.specs.declared.record.Rr.{Rr}
+use Rattle.mdns_history.specs.Announcing.{same_records}
+use Rattle.mdns_claims.specs.Owned.{of_name}
+
+-- some record of a name is among these records and not among the others, or among the others alone
+abbrev pub is_moved : List (List ℕ) → List Rr → List Rr → Bool
+is_moved name before behind = not (same_records (of_name name before) (of_name name behind))
