@@ -37,3 +37,4 @@ pub mod Asking
 pub mod IndexLeft
 pub mod IndexNamed
 pub mod Covered
+pub mod PutOnly

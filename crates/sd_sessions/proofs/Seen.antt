@@ -17,12 +17,12 @@ use Rattle.mdns_cache.proofs.ListLemmas.{each-filter}
 use Rattle.mdns_happened.specs.declared.around.Around.{Around}
 use Rattle.mdns_happened.specs.Registrations.{is_told, AreRegistered}
 use Rattle.mdns_happened.specs.Told.{Told}
-use Rattle.mdns_happened.specs.Walks.{is_walked, AreWalks, AreOwnWalks, IsKnown, IsOwnKnown}
+use Rattle.mdns_happened.specs.Walks.{is_walked, AreWalks, AreOwnWalks, IsKnown}
 use Rattle.sd_sessions.specs.Answered.{View, known, answered}
 use Rattle.sd_sessions.specs.Sessions.{Session}
 use Rattle.sd_sessions.specs.Settling.{left_to, after_own}
 use Rattle.sd_sessions.specs.Kept.{AreRising, IsNewIn, HaveRising}
-use Rattle.sd_sessions.specs.Walked.{AreBeside, AreKnown, IsAskedKnown, IsBegunTold, IsBeside, IsCallWalked, IsCarried, IsNewSeen, IsSeen, IsSeenOf}
+use Rattle.sd_sessions.specs.Walked.{AreBeside, AreKnown, IsAskedKnown, IsBegunTold, IsBeside, IsCallWalked, IsCarried, IsNewSeen, IsSeen, IsSeenOf, IsOwnAlike}
 
 -- where the numbers of operations rise, that of a number is the operation itself
 behind : (o : Operation) (os ps : List Operation) → list_all (λ p. nat_lt o.op p.op) ps ≡ true → AllByRecursion (λ p. find (has_op p.op) os ≡ Some p) ps →
@@ -148,7 +148,7 @@ module _ (before after : View) (around : Around) (are : AreWalks before.held aft
 
       beside : IsBeside before after around o → IsBeside before after around (updated op txt o)
       beside is = record {
-        own = subst (AllByRecursion (λ (key : Key). IsOwnKnown before.own after.own around.walks.now key.name)) (sym (updated_asks op txt o)) is.own;
+        own = subst (AllByRecursion (λ (key : Key). IsOwnAlike before after around.walks.now key.name)) (sym (updated_asks op txt o)) is.own;
         registered = λ registers untold. is.registered (stays registers) untold;
       }
 

@@ -36,7 +36,7 @@ use Rattle.sd_sessions.specs.Changes.{had, lost, gained, items_between}
 use Rattle.sd_sessions.specs.Codes.{is_running}
 use Rattle.sd_sessions.specs.Settling.{left_to, brought_told}
 use Rattle.sd_sessions.specs.Sessions.{Session}
-use Rattle.sd_sessions.specs.Walked.{walk_for, IsBeside, IsCarried, IsSeenOf}
+use Rattle.sd_sessions.specs.Walked.{walk_for, IsOwnAlike, IsBeside, IsCarried, IsSeenOf}
 use Rattle.sd_sessions.specs.Concerned.{concerned, IsApart, IsCovered, IsUnmoved}
 use Rattle.sd_sessions.proofs.Covered.{all-concerned}
 use Rattle.sd_sessions.proofs.Nexts.{filter_map_swap}
@@ -133,18 +133,18 @@ module _ (before after : View) (around : Around) (operations : List Operation) (
           held_stays : AllByRecursion (λ (key : Key). is_walked around.walks.now key.name ≡ false → held_of key.name after.held ≡ held_of key.name before.held) (question ∷ more)
           held_stays = subst (AllByRecursion (λ (key : Key). is_walked around.walks.now key.name ≡ false → held_of key.name after.held ≡ held_of key.name before.held)) asked seen.known
 
-          own_stays : IsBeside before after around o → AllByRecursion (λ (key : Key). is_walked around.walks.now key.name ≡ false → own_of key.name after.own ≡ own_of key.name before.own) (question ∷ more)
-          own_stays beside = subst (AllByRecursion (λ (key : Key). is_walked around.walks.now key.name ≡ false → own_of key.name after.own ≡ own_of key.name before.own)) asked beside.own
+          own_alike : IsBeside before after around o → AllByRecursion (λ (key : Key). IsOwnAlike before after around.walks.now key.name) (question ∷ more)
+          own_alike beside = subst (AllByRecursion (λ (key : Key). IsOwnAlike before after around.walks.now key.name)) asked beside.own
 
           of : (found : Option Operation) → IsCarried before after around found o → option_map_or (answered before) found [] ≡ answered after o
           of None new =
               let first : AllByRecursion (λ (key : Key). is_walked around.walks.now key.name ≡ true) (question ∷ more) = subst (AllByRecursion (λ (key : Key). is_walked around.walks.now key.name ≡ true)) asked new.walked in
               absurd (true≢false (sym first.0 ∙ not_walked))
           of (Some one) same =
-              let own : own_of question.name after.own ≡ own_of question.name before.own = (own_stays same.1).0 not_walked in
               let held : held_of question.name after.held ≡ held_of question.name before.held = held_stays.0 not_walked in
               same.0 before ∙ over_known before ∙ sym (of_name o.request question more before asked)
-              ∙ sym (λ i. answers_over o.request (rrs_of (held i) ++ own i))
+              ∙ sym ((own_alike same.1).0 not_walked o.request)
+              ∙ sym (λ i. answers_over o.request (rrs_of (held i) ++ own_of question.name after.own))
               ∙ of_name o.request question more after asked ∙ sym (over_known after)
 
       module _ (walk : Walk) (found : walk_of question.name around.walks.now ≡ Some walk) where

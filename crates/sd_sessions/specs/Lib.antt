@@ -9,3 +9,4 @@ pub mod Laws
 pub mod Walked
 pub mod Indexed
 pub mod Concerned
+pub mod Put

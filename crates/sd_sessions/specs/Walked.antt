@@ -1,5 +1,5 @@
 -- Which names of records an event is looked at by, for the operations of sessions.
-use Rattle.std.specs.Prelude.{◌≡◌, ℕ, true, false, List, [], ◌∷◌, Option, Some, None}
+use Rattle.std.specs.Prelude.{◌≡◌, ℕ, true, false, List, [], ◌∷◌, ◌++◌, Option, Some, None}
 use Rattle.std.specs.List.{find, AllByRecursion}
 use Rattle.std.specs.List.Sorted.{IsSorted}
 use Rattle.dns_record.specs.declared.record.Key.{Key}
@@ -7,16 +7,19 @@ use Rattle.sd_call.specs.declared.answer.Answer.{Answer}
 use Rattle.sd_call.specs.declared.request.Request.{Request}
 use Rattle.sd_call.specs.Answers.{answer_cmp}
 use Rattle.sd_call.specs.Requests.{is_register}
+use Rattle.sd_answer.specs.Known.{rrs_of}
+use Rattle.mdns_history.specs.Answers.{answers_over}
 use Rattle.mdns_history.specs.declared.held.Held.{Held}
 use Rattle.mdns_history.specs.declared.operation.Operation.{Operation}
 use Rattle.mdns_history.specs.Questions.{keys_of}
 use Rattle.mdns_history.specs.Sessions.{Accepted, has_op}
 use Rattle.mdns_cache.specs.Ended.{is_among}
+use Rattle.mdns_cache.specs.Lifetimes.{held_of}
 use Rattle.mdns_happened.specs.declared.around.Around.{Around}
 use Rattle.mdns_happened.specs.declared.walk.Walk.{Walk}
 use Rattle.mdns_happened.specs.Registrations.{is_told, AreRegistered}
 use Rattle.mdns_happened.specs.Told.{Told}
-use Rattle.mdns_happened.specs.Walks.{is_walked, walk_of, AreWalks, AreOwnWalks, IsKnown, IsOwnKnown}
+use Rattle.mdns_happened.specs.Walks.{is_walked, walk_of, own_of, AreWalks, AreOwnWalks, IsKnown}
 use Rattle.sd_sessions.specs.declared.by_names.Compared.{Compared}
 use Rattle.sd_sessions.specs.Answered.{View, answered}
 use Rattle.sd_sessions.specs.Sessions.{Session}
@@ -52,10 +55,17 @@ abbrev pub IsCallWalked : List Walk → Option Accepted → Type 0
 IsCallWalked walks None = Unit {0}
 IsCallWalked walks (Some call) = AllByRecursion (λ (key : Key). is_walked walks key.name ≡ true) (keys_of call.request)
 
+-- What an event makes of the own records of a name is known by walks: the name was walked, or beside the records that are held they give the answers
+-- that they gave.
+abbrev pub IsOwnAlike : View → View → List Walk → List (List ℕ) → Type 0
+IsOwnAlike before after walks name =
+    is_walked walks name ≡ false → (request : Request) →
+    answers_over request (rrs_of (held_of name before.held) ++ own_of name after.own) ≡ answers_over request (rrs_of (held_of name before.held) ++ own_of name before.own)
+
 -- What an event makes of the own records of each name that an operation asks for is known by walks; and of a registration's answers it is told, or
 -- they stay as they are.
 pub record IsBeside (before after : View) (around : Around) (operation : Operation) : Type 0 where
-  pub own : AllByRecursion (λ (key : Key). IsOwnKnown before.own after.own around.walks.now key.name) (keys_of operation.request)
+  pub own : AllByRecursion (λ (key : Key). IsOwnAlike before after around.walks.now key.name) (keys_of operation.request)
   pub registered : is_register operation.request ≡ true → is_told around.registered.now operation.session operation.op ≡ false
       → after.registered operation.session operation.op ≡ before.registered operation.session operation.op
 

@@ -1,6 +1,7 @@
 // The names by whose records an event is looked at.
 ghost use Rattle.std.specs.Prelude.{◌≡◌, true, IsTrue, OnOk};
 ghost use Rattle.std.specs.List.{AllByRecursion};
+ghost use Rattle.dns_name.specs.Names.{folded_eq};
 ghost use Rattle.sd_call.specs.Requests.{well_formed};
 ghost use Rattle.mdns_history.specs.Questions.{keys_of};
 ghost use Rattle.mdns_cache.specs.Ended.{is_among};
@@ -8,6 +9,7 @@ ghost use Rattle.mdns_happened.specs.Told.{told_by};
 ghost use Rattle.sd_sessions.specs.Kept.{IsWellFormedCall};
 ghost use Rattle.sd_sessions.specs.Walked.{AreWithin, IsCallNamed};
 ghost use Rattle.sd_sessions.specs.Indexed.{is_asked, ArePut};
+ghost use Rattle.sd_sessions.specs.Put.{is_called, is_name_in, ArePutOnce, ArePutOnly};
 
 use dns_name::Name;
 use dns_record::Key;
@@ -25,6 +27,8 @@ pub fn put_touched(
 ) -> Result<(), AllocError>
     ensures kept { OnOk result (AreWithin names.old.items names.new.items) }
     ensures put { OnOk result (ArePut touched.now askers.now.entries names.new.items) }
+    ensures only { OnOk result (ArePutOnly (is_among touched.now) names.old.items names.new.items) }
+    ensures once { OnOk result (ArePutOnce names.old.items names.new.items) }
 {
     for name in touched {
         put_if_asked(names, askers, name)?;
@@ -36,6 +40,8 @@ pub fn put_touched(
 fn put_if_asked(names: &mut Vec<Name>, askers: &Askers, name: &Name) -> Result<(), AllocError>
     ensures kept { OnOk result (AreWithin names.old.items names.new.items) }
     ensures put { OnOk result (is_asked askers.now.entries name.now ≡ true → is_among names.new.items name.now ≡ true) }
+    ensures only { OnOk result (ArePutOnly (λ other. folded_eq other name.now) names.old.items names.new.items) }
+    ensures once { OnOk result (ArePutOnce names.old.items names.new.items) }
 {
     if askers.has(name) {
         put_once(names, name)?;
@@ -48,6 +54,8 @@ pub fn put_called(names: &mut Vec<Name>, happened: &Happened<'_>) -> Result<(), 
     requires { IsWellFormedCall (told_by happened.now).call }
     ensures kept { OnOk result (AreWithin names.old.items names.new.items) }
     ensures call { OnOk result (IsCallNamed names.new.items (told_by happened.now).call) }
+    ensures only { OnOk result (ArePutOnly (is_called (told_by happened.now).call) names.old.items names.new.items) }
+    ensures once { OnOk result (ArePutOnce names.old.items names.new.items) }
 {
     match happened {
         Happened::Called {
@@ -64,6 +72,8 @@ fn put_asked(names: &mut Vec<Name>, request: &Request) -> Result<(), AllocError>
     requires { IsTrue (well_formed request.now) }
     ensures kept { OnOk result (AreWithin names.old.items names.new.items) }
     ensures asked { OnOk result (AllByRecursion (λ key. is_among names.new.items key.name ≡ true) (keys_of request.now)) }
+    ensures only { OnOk result (ArePutOnly (is_name_in (keys_of request.now)) names.old.items names.new.items) }
+    ensures once { OnOk result (ArePutOnce names.old.items names.new.items) }
 {
     let questions = questions_of(request);
     put_names_of(names, questions.as_slice())?;
@@ -74,6 +84,8 @@ fn put_asked(names: &mut Vec<Name>, request: &Request) -> Result<(), AllocError>
 fn put_names_of(names: &mut Vec<Name>, questions: &[Key]) -> Result<(), AllocError>
     ensures kept { OnOk result (AreWithin names.old.items names.new.items) }
     ensures asked { OnOk result (AllByRecursion (λ key. is_among names.new.items key.name ≡ true) questions.now) }
+    ensures only { OnOk result (ArePutOnly (is_name_in questions.now) names.old.items names.new.items) }
+    ensures once { OnOk result (ArePutOnce names.old.items names.new.items) }
 {
     for question in questions {
         put_once(names, &question.name)?;
@@ -85,6 +97,8 @@ fn put_names_of(names: &mut Vec<Name>, questions: &[Key]) -> Result<(), AllocErr
 fn put_once(names: &mut Vec<Name>, name: &Name) -> Result<(), AllocError>
     ensures kept { OnOk result (AreWithin names.old.items names.new.items) }
     ensures put { OnOk result (is_among names.new.items name.now ≡ true) }
+    ensures only { OnOk result (ArePutOnly (λ other. folded_eq other name.now) names.old.items names.new.items) }
+    ensures once { OnOk result (ArePutOnce names.old.items names.new.items) }
 {
     if !is_among(names, name) {
         names.push(name.copy())?;

@@ -10,6 +10,7 @@ ghost use Rattle.sd_sessions.specs.Codes.{call_outcome_of, has_number};
 ghost use Rattle.sd_sessions.specs.Settling.{cuts_of, gifts_of, most_taken, outcome_told, sessions_told, shifted_told};
 ghost use Rattle.sd_sessions.specs.Kept.{operations_in, session_of, sessions_of, AreFit, AreWellFormed, HaveRoom, IsWellFormedCall};
 ghost use Rattle.sd_sessions.specs.Planned.{IsPlan, IsAnyPlan, IsReady, IsTold};
+ghost use Rattle.sd_sessions.specs.Put.{is_called, ArePutOnce, ArePutOnly};
 ghost use Rattle.sd_sessions.specs.Walked.{AreBeside, AreNamed, IsCallNamed, AreKnown, IsCallWalked};
 
 use crate::by_names::changes_by_names;
@@ -166,6 +167,8 @@ impl Sessions {
         ensures kept { OnOk result ((name : List (List ℕ)) → is_among names.old.items name ≡ true → is_among names.new.items name ≡ true) }
         ensures asked { OnOk result (AreNamed touched.now names.new.items self.now.sessions) }
         ensures call { OnOk result (IsCallNamed names.new.items (told_by happened.now).call) }
+        ensures only { OnOk result (ArePutOnly (λ name. is_among touched.now name || is_called (told_by happened.now).call name) names.old.items names.new.items) }
+        ensures once { OnOk result (ArePutOnce names.old.items names.new.items) }
     {
         put_touched(names, &self.askers, touched)?;
         put_called(names, happened)?;
