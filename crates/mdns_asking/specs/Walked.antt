@@ -1,6 +1,7 @@
 -- Which names are walked for the questions, and what the walks have of them.
 use Rattle.std.specs.Prelude.{◌≡◌, ℕ, ◌+◌, ◌==◌, nat_le, Bool, true, false, not, ◌&&◌, List, Option, Some, None, is_some, if◌then◌else◌}
 use Rattle.std.specs.List.{list_any, AllByRecursion}
+use Rattle.dns_name.specs.Names.{folded_eq}
 use Rattle.mdns_base.specs.Hosts.{mdns_port}
 use Rattle.dns_record.specs.declared.record.Key.{Key}
 use Rattle.mdns_history.specs.declared.held.Held.{Held}
@@ -30,6 +31,10 @@ may_be_heard (Some heard) moment one = may_stand_for moment heard one
 -- an event may ask a question, by what is kept of it: once time has passed it is due, or a message may stand for it
 abbrev pub may_be_asked : Told → ℕ → Tracked → Bool
 may_be_asked told moment one = if told.ticks then is_some (cause_of moment one) else may_be_heard told.heard moment one
+
+-- a name is that of a question that an event may ask, by what is kept of it, case aside
+abbrev pub is_maybe_asked : Told → ℕ → List Tracked → List (List ℕ) → Bool
+is_maybe_asked told moment questions name = list_any (λ (one : Tracked). may_be_asked told moment one && folded_eq name one.key.name) questions
 
 -- What the names to be walked have for an event that touches those: the name of each question that is touched or may be asked, and of each that gets a user.
 pub record AreNamed (told : Told) (moment : ℕ) (questions : List Tracked) (those names : List (List (List ℕ))) : Type 0 where

@@ -1,5 +1,5 @@
 // The questions that have users.
-ghost use Rattle.std.specs.Prelude.{◌≡◌, ℕ, ◌≤◌, List, [], map, length, true, IfOk, OnOk};
+ghost use Rattle.std.specs.Prelude.{◌≡◌, ◌||◌, ℕ, ◌≤◌, List, [], map, length, true, IfOk, OnOk};
 ghost use Rattle.dns_name.specs.Lists.{least};
 ghost use Rattle.mdns_history.specs.declared.held.Held.{Held};
 ghost use Rattle.mdns_cache.specs.Lifetimes.{AllLive};
@@ -9,10 +9,11 @@ ghost use Rattle.mdns_happened.specs.Walks.{AreWalks};
 ghost use Rattle.mdns_question.specs.Next.{next_of};
 ghost use Rattle.mdns_question.specs.Refreshing.{AreTimed, moment_of};
 ghost use Rattle.sd_sessions.specs.Kept.{IsWellFormedCall};
+ghost use Rattle.sd_sessions.specs.Put.{is_called, ArePutOnce, ArePutOnly};
 ghost use Rattle.mdns_asking.specs.Asked.{begun_keys, ended_told, all_begun, all_ended, all_asked};
 ghost use Rattle.mdns_asking.specs.Kept.{HaveGaps};
 ghost use Rattle.mdns_asking.specs.Timed.{all_timed};
-ghost use Rattle.mdns_asking.specs.Walked.{AreNamed, AreEnough, AreKnown, AreWalked, AreHeard};
+ghost use Rattle.mdns_asking.specs.Walked.{is_maybe_asked, AreNamed, AreEnough, AreKnown, AreWalked, AreHeard};
 ghost use Rattle.mdns_asking.specs.Planned.{IsPlan};
 
 use crate::due::asked_questions;
@@ -81,6 +82,9 @@ impl Asking {
         requires { IsWellFormedCall (told_by happened.now).call }
         ensures kept { OnOk result ((name : List (List ℕ)) → is_among names.old.items name ≡ true → is_among names.new.items name ≡ true) }
         ensures named { OnOk result (AreNamed (told_by happened.now) when.moment self.now.questions touched.now names.new.items) }
+        ensures only { OnOk result (ArePutOnly (λ name. (is_among touched.now name || is_maybe_asked (told_by happened.now) when.moment self.now.questions name) || is_called (told_by happened.now).call name)
+            names.old.items names.new.items) }
+        ensures once { OnOk result (ArePutOnce names.old.items names.new.items) }
     {
         put_question_names(names, self.asker.questions(), when, happened, touched)?;
         put_begun_names(names, happened)?;

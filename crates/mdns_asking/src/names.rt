@@ -1,6 +1,7 @@
 // Which names are to be walked for the questions.
-ghost use Rattle.std.specs.Prelude.{◌≡◌, ℕ, List, ◌||◌, true, is_some, OnOk};
+ghost use Rattle.std.specs.Prelude.{◌≡◌, ℕ, List, ◌||◌, ◌&&◌, true, is_some, OnOk};
 ghost use Rattle.std.specs.List.{AllByRecursion};
+ghost use Rattle.dns_name.specs.Names.{folded_eq};
 ghost use Rattle.dns_record.specs.declared.record.Key.{Key};
 ghost use Rattle.mdns_cache.specs.Ended.{is_among};
 ghost use Rattle.mdns_happened.specs.Told.{told_by};
@@ -8,7 +9,8 @@ ghost use Rattle.mdns_question.specs.declared.tracked.Tracked.{Tracked};
 ghost use Rattle.mdns_question.specs.Refreshing.{cause_of};
 ghost use Rattle.sd_sessions.specs.Kept.{IsWellFormedCall};
 ghost use Rattle.mdns_asking.specs.Asked.{begun_keys};
-ghost use Rattle.mdns_asking.specs.Walked.{may_be_asked};
+ghost use Rattle.sd_sessions.specs.Put.{is_called, is_name_in, ArePutOnce, ArePutOnly};
+ghost use Rattle.mdns_asking.specs.Walked.{is_maybe_asked, may_be_asked};
 
 use crate::due::cause_with;
 use crate::message::may_stand_for;
@@ -30,11 +32,30 @@ pub fn put_question_names(
     ensures kept { OnOk result ((name : List (List ℕ)) → is_among names.old.items name ≡ true → is_among names.new.items name ≡ true) }
     ensures named { OnOk result (AllByRecursion (λ (one : Tracked).
         (is_among touched.now one.key.name || may_be_asked (told_by happened.now) when.moment one) ≡ true → is_among names.new.items one.key.name ≡ true) questions.now) }
+    ensures only { OnOk result (ArePutOnly (λ name. is_among touched.now name || is_maybe_asked (told_by happened.now) when.moment questions.now name) names.old.items names.new.items) }
+    ensures once { OnOk result (ArePutOnce names.old.items names.new.items) }
 {
     for one in questions {
-        if is_among(touched, &one.key.name) || may_be_asked(one, when, happened) {
-            put_name(names, &one.key.name)?;
-        }
+        put_question_name(names, one, when, happened, touched)?;
+    }
+    Ok(())
+}
+
+// Puts the name of a question that is touched, or that an event may ask.
+fn put_question_name(
+    names: &mut Vec<Name>,
+    one: &Tracked,
+    when: When,
+    happened: &Happened<'_>,
+    touched: &[Name],
+) -> Result<(), AllocError>
+    ensures kept { OnOk result ((name : List (List ℕ)) → is_among names.old.items name ≡ true → is_among names.new.items name ≡ true) }
+    ensures named { OnOk result ((is_among touched.now one.now.key.name || may_be_asked (told_by happened.now) when.moment one.now) ≡ true → is_among names.new.items one.now.key.name ≡ true) }
+    ensures only { OnOk result (ArePutOnly (λ name. is_among touched.now name || (may_be_asked (told_by happened.now) when.moment one.now && folded_eq name one.now.key.name)) names.old.items names.new.items) }
+    ensures once { OnOk result (ArePutOnce names.old.items names.new.items) }
+{
+    if is_among(touched, &one.key.name) || may_be_asked(one, when, happened) {
+        put_name(names, &one.key.name)?;
     }
     Ok(())
 }
@@ -44,6 +65,8 @@ pub fn put_begun_names(names: &mut Vec<Name>, happened: &Happened<'_>) -> Result
     requires { IsWellFormedCall (told_by happened.now).call }
     ensures kept { OnOk result ((name : List (List ℕ)) → is_among names.old.items name ≡ true → is_among names.new.items name ≡ true) }
     ensures named { OnOk result (AllByRecursion (λ (key : Key). is_among names.new.items key.name ≡ true) (begun_keys (told_by happened.now).call)) }
+    ensures only { OnOk result (ArePutOnly (is_called (told_by happened.now).call) names.old.items names.new.items) }
+    ensures once { OnOk result (ArePutOnce names.old.items names.new.items) }
 {
     match happened {
         Happened::Called {
@@ -58,6 +81,8 @@ pub fn put_begun_names(names: &mut Vec<Name>, happened: &Happened<'_>) -> Result
 fn put_key_names(names: &mut Vec<Name>, keys: &[Key]) -> Result<(), AllocError>
     ensures kept { OnOk result ((name : List (List ℕ)) → is_among names.old.items name ≡ true → is_among names.new.items name ≡ true) }
     ensures named { OnOk result (AllByRecursion (λ (key : Key). is_among names.new.items key.name ≡ true) keys.now) }
+    ensures only { OnOk result (ArePutOnly (is_name_in keys.now) names.old.items names.new.items) }
+    ensures once { OnOk result (ArePutOnce names.old.items names.new.items) }
 {
     for key in keys {
         put_name(names, &key.name)?;
@@ -69,6 +94,8 @@ fn put_key_names(names: &mut Vec<Name>, keys: &[Key]) -> Result<(), AllocError>
 fn put_name(names: &mut Vec<Name>, name: &Name) -> Result<(), AllocError>
     ensures kept { OnOk result ((other : List (List ℕ)) → is_among names.old.items other ≡ true → is_among names.new.items other ≡ true) }
     ensures put { OnOk result (is_among names.new.items name.now ≡ true) }
+    ensures only { OnOk result (ArePutOnly (λ other. folded_eq other name.now) names.old.items names.new.items) }
+    ensures once { OnOk result (ArePutOnce names.old.items names.new.items) }
 {
     if is_among(names, name) {
         return Ok(());
