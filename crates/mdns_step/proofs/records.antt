@@ -5,3 +5,9 @@ pub mod QuietRecords
 pub mod HeldData
 pub mod Walked
 pub mod Begun
+pub mod OwnKept
+pub mod Visits
+pub mod Looked
+pub mod Touching
+pub mod MaybeAsked
+pub mod Bounded

@@ -4,3 +4,5 @@ pub mod State
 pub mod Next
 pub mod Enough
 pub mod Laws
+pub mod Touched
+pub mod Looked

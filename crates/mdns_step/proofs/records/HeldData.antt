@@ -4,6 +4,7 @@ use Rattle.std.proofs.Common.{◌≡◌, ℕ, ◌≤◌, Bool, true, false, cond
 use Rattle.std.proofs.lemmas.Bool.{and_from}
 use Rattle.std.specs.Prelude.{filter, nat_lt}
 use Rattle.std.specs.List.{list_all}
+use Rattle.std.specs.List.Sorted.{IsPermutation}
 use Rattle.dns_record.specs.declared.record.Rr.{Rr}
 use Rattle.dns_record.specs.Records.{same}
 use Rattle.dns_record.proofs.Same.{same_tells}
@@ -17,7 +18,10 @@ use Rattle.mdns_history.specs.History.{now}
 use Rattle.mdns_history.specs.Hearings.{Hearing, hearings, brought, counted_records}
 use Rattle.mdns_history.specs.Lifetimes.{is_live_at, is_other, live_of, live_records}
 use Rattle.mdns_history.proofs.LifetimeSteps.{live_of-renewal, live_of-goodbye, live_of-later}
-use Rattle.mdns_cache.specs.Lifetimes.{hearing_at, hearings_at, renewed, shortened}
+use Rattle.mdns_cache.specs.Lifetimes.{hearing_at, hearings_at, renewed, shortened, after_hearing, after_hearings}
+use Rattle.mdns_history.specs.declared.event.Event.TheVariants as event
+use Rattle.mdns_happened.specs.Told.{heard_of}
+use Rattle.mdns_records.specs.After.{held_after}
 use Rattle.mdns_step.specs.State.{State, Stands}
 use Rattle.mdns_step.specs.Next.{is_full, heard_with, IsHeard}
 use Rattle.sd_answer.specs.Known.{rrs_of}
@@ -105,3 +109,46 @@ data-kept state history stands moment word ev later after refusal heard before c
     of true kept = kept
     of false kept = data-all_heard (hearings_at moment word (counted_records (brought ev))) (hearings history) moment (λ rr. (same_tells rr rr).1 refl)
         (data-hearings moment word (counted_records (brought ev)) counted) kept
+
+-- ---- the same, told of what is held
+
+data-append : (held more : List Held) → list_all is_data held ≡ true → list_all is_data more ≡ true → list_all is_data (held ++ more) ≡ true
+data-append [] more h k = k
+data-append (x ∷ held) more h k =
+    and_from (is_data x) (list_all is_data (held ++ more)) (first (is_data x) (list_all is_data held) h) (data-append held more (second (is_data x) (list_all is_data held) h) k)
+
+data-hearing : (hearing : Hearing) (held : List Held) → is_spellable_data hearing.rr.rdata ≡ true → list_all is_data held ≡ true → list_all is_data (after_hearing held hearing) ≡ true
+data-hearing hearing held form h = of (nat_lt 0 hearing.rr.ttl)
+  where
+    of : (b : Bool) → list_all is_data (cond b (map (shortened hearing) (filter (is_other hearing.rr) held) ++ renewed hearing ∷ []) (map (shortened hearing) held)) ≡ true
+    of true =
+        data-append (map (shortened hearing) (filter (is_other hearing.rr) held)) (renewed hearing ∷ [])
+        (data-shortened hearing (filter (is_other hearing.rr) held) ∙ data-filter (is_other hearing.rr) held h) (and_from (is_spellable_data hearing.rr.rdata) true form refl)
+    of false = data-shortened hearing held ∙ h
+
+data-after_all : (moment word : ℕ) (heard : List Rr) (held : List Held) → have_data heard ≡ true → list_all is_data held ≡ true → list_all is_data (after_hearings held (map (hearing_at moment word) heard)) ≡ true
+data-after_all moment word [] held form h = h
+data-after_all moment word (rr ∷ heard) held form h =
+    data-after_all moment word heard (after_hearing held (hearing_at moment word rr)) (second (is_spellable_data rr.rdata) (have_data heard) form)
+    (data-hearing (hearing_at moment word rr) held (first (is_spellable_data rr.rdata) (have_data heard) form) h)
+
+-- The data of what is held behind an event have their form, where those of what was held and of what is heard do.
+pub data-after : (moment word : ℕ) (heard : List Rr) (held : List Held) → have_data heard ≡ true → have_data (rrs_of held) ≡ true → have_data (rrs_of (held_after moment word heard held)) ≡ true
+data-after moment word heard held form h =
+    data_of-held (held_after moment word heard held)
+    ∙ data-after_all moment word heard (filter (is_live_at moment) held) form (data-filter (is_live_at moment) held (sym (data_of-held held) ∙ h))
+
+-- What is heard has data of their form, where what an event brings does.
+pub data-counted : (ev : Event) (refusal : List Mark) → have_data (counted_records (brought ev)) ≡ true → have_data (counted_records (heard_of refusal ev)) ≡ true
+data-counted (event.Hear from bytes) [] h = h
+data-counted (event.Hear from bytes) (mark ∷ marks) h = refl
+data-counted (event.Boot config) refusal h = refl
+data-counted event.Attach refusal h = refl
+data-counted (event.Detach session) refusal h = refl
+data-counted (event.Call session op request) refusal h = refl
+data-counted (event.Take session max) refusal h = refl
+data-counted event.Tick refusal h = refl
+
+-- Records in another order have data of their form as well.
+pub data-moved : (held other : List Held) → IsPermutation held other → have_data (rrs_of other) ≡ true → have_data (rrs_of held) ≡ true
+data-moved held other moved h = data_of-held held ∙ list_all-IsPermutation is_data held other moved ∙ sym (data_of-held other) ∙ h

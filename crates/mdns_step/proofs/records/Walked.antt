@@ -1,9 +1,10 @@
 -- What is walked for an event is what questions and sessions must know of it.
-use Rattle.std.proofs.Common.{◌≡◌, ℕ, Bool, true, false, cond, ◌||◌, true≢false, List, [], ◌∷◌, map, Option, Some, None, refl, ap, subst, ◌∙◌, sym}
+use Rattle.std.proofs.Common.{◌≡◌, ℕ, Bool, true, false, cond, not, ◌||◌, true≢false, List, [], ◌∷◌, map, Option, Some, None, refl, ap, subst, ◌∙◌, sym}
 use Rattle.std.specs.List.{AllByRecursion}
 use Rattle.dns_name.specs.Names.{folded_eq}
 use Rattle.dns_name.proofs.Folding.{folded_eq-equivalence}
 use Rattle.mdns_history.specs.declared.held.Held.{Held}
+use Rattle.mdns_history.specs.Announcing.{same_records}
 use Rattle.mdns_history.specs.Questions.{keys_of}
 use Rattle.mdns_history.specs.Sessions.{Accepted}
 use Rattle.mdns_cache.specs.Ended.{is_among}
@@ -13,15 +14,19 @@ use Rattle.mdns_happened.specs.Told.{Told}
 use Rattle.mdns_happened.specs.declared.around.Around.{Around}
 use Rattle.mdns_happened.specs.Registrations.{is_told, AreRegistered}
 use Rattle.sd_call.specs.Requests.{is_register}
-use Rattle.mdns_happened.specs.Walks.{is_walked, own_of, AreWalks, AreOwnWalks, IsKnown, IsOwnKnown}
+use Rattle.mdns_happened.specs.Walks.{is_walked, own_of, AreWalks, AreOwnWalks, IsKnown}
 use Rattle.mdns_question.specs.declared.tracked.Tracked.{Tracked}
 use Rattle.mdns_asking.specs.Asked.{begun_keys}
 use Rattle.mdns_asking.specs.Walked as for_asking
 use Rattle.sd_sessions.specs.Sessions.{Session}
 use Rattle.sd_sessions.specs.Walked as for_sessions
 use Rattle.mdns_step.specs.Viewed.{viewed}
-use Rattle.mdns_step.specs.Enough.{AreOwnKnown, AreEnough, claims_told, with_own}
+use Rattle.mdns_step.specs.Enough.{IsOwnKept, AreOwnKept, AreEnough, claims_told, with_own}
+use Rattle.dns_record.specs.declared.record.Key.{Key}
 use Rattle.dns_record.specs.declared.record.Rr.{Rr}
+use Rattle.sd_answer.specs.Known.{rrs_of}
+use Rattle.sd_answer.specs.Laws.{have_data}
+use Rattle.mdns_step.proofs.records.OwnKept.{own-kept}
 use Rattle.mdns_probe.specs.Kept.{Kept}
 use Rattle.mdns_claims.specs.State.{Contents}
 use Rattle.mdns_claims.specs.Behind.{occasion_of, kept_told, contents_told}
@@ -38,7 +43,7 @@ names_walked name (walk ∷ walks) = λ i. folded_eq-equivalence.symm name walk.
 -- Names were walked. Among them are those of the touched names that sessions or questions ask for; the records of a name that isn't touched stay, held and own.
 module _ (held later : List Held) (own own_later : List Rr) (touched names : List (List (List ℕ))) (walks : List Walk) (are : map (λ (walk : Walk). walk.name) walks ≡ names)
     (stay : (name : List (List ℕ)) → is_among touched name ≡ false → held_of name later ≡ held_of name held)
-    (own_stay : (name : List (List ℕ)) → is_among touched name ≡ false → own_of name own_later ≡ own_of name own) where
+    (own_stay : (name : List (List ℕ)) → is_among touched name ≡ false → same_records (own_of name own) (own_of name own_later) ≡ true) where
   walked : (name : List (List ℕ)) → is_among names name ≡ true → is_walked walks name ≡ true
   walked name among = sym (names_walked name walks) ∙ ap (λ (l : List (List (List ℕ))). is_among l name) are ∙ among
 
@@ -49,10 +54,10 @@ module _ (held later : List Held) (own own_later : List Rr) (touched names : Lis
       of true e none = absurd (true≢false (sym (walked name (taken e)) ∙ none))
       of false e none = stay name e
 
-  own_known : (name : List (List ℕ)) → (is_among touched name ≡ true → is_among names name ≡ true) → IsOwnKnown own own_later walks name
-  own_known name taken = λ none. of (is_among touched name) refl none
+  own_kept : (name : List (List ℕ)) → (is_among touched name ≡ true → is_among names name ≡ true) → IsOwnKept own own_later walks name
+  own_kept name taken = λ none. of (is_among touched name) refl none
     where
-      of : (b : Bool) → is_among touched name ≡ b → is_walked walks name ≡ false → own_of name own_later ≡ own_of name own
+      of : (b : Bool) → is_among touched name ≡ b → is_walked walks name ≡ false → same_records (own_of name own) (own_of name own_later) ≡ true
       of true e none = absurd (true≢false (sym (walked name (taken e)) ∙ none))
       of false e none = own_stay name e
 
@@ -68,9 +73,9 @@ module _ (held later : List Held) (own own_later : List Rr) (touched names : Lis
     for_operations sessions named =
         each_also _ _ (λ session. each_also _ _ (λ operation. each_also _ _ (λ key taken. known key.name (λ touches. kept key.name (taken touches))) (keys_of operation.request)) session.operations) sessions named
 
-    for_own : (sessions : List Session) → for_sessions.AreNamed touched before sessions → AreOwnKnown own own_later walks sessions
+    for_own : (sessions : List Session) → for_sessions.AreNamed touched before sessions → AreOwnKept own own_later walks sessions
     for_own sessions named =
-        each_also _ _ (λ session. each_also _ _ (λ operation. each_also _ _ (λ key taken. own_known key.name (λ touches. kept key.name (taken touches))) (keys_of operation.request)) session.operations) sessions named
+        each_also _ _ (λ session. each_also _ _ (λ operation. each_also _ _ (λ key taken. own_kept key.name (λ touches. kept key.name (taken touches))) (keys_of operation.request)) session.operations) sessions named
 
     for_call : (call : Option Accepted) → for_sessions.IsCallNamed before call → for_sessions.IsCallWalked walks call
     for_call None named = tt
@@ -84,24 +89,29 @@ module _ (held later : List Held) (own own_later : List Rr) (touched names : Lis
       own = owned;
       asking = for_questions told moment questions asked;
       sessions = for_operations sessions served;
-      own_known = for_own sessions served;
+      own_kept = for_own sessions served;
       call = for_call told.call called;
     }
 
 -- Beside the held records it is told what becomes of own records, by walks, and of the answers of registrations.
 pub beside-told : (told : Told) (contents then : Contents) (held later : List Held) (around : Around) (sessions : List Session) →
-    AreOwnWalks (own_in contents.kept) (own_in then.kept) around.walks.now → AreOwnKnown (own_in contents.kept) (own_in then.kept) around.walks.now sessions →
+    have_data (rrs_of held) ≡ true → have_data (own_in contents.kept) ≡ true → have_data (own_in then.kept) ≡ true →
+    AreOwnWalks (own_in contents.kept) (own_in then.kept) around.walks.now → AreOwnKept (own_in contents.kept) (own_in then.kept) around.walks.now sessions →
     AreRegistered (λ session op. registered_answers session op contents.kept) (λ session op. registered_answers session op then.kept) around.registered.now →
     ((session op : ℕ) → is_told around.registered.now session op ≡ false → registered_answers session op then.kept ≡ registered_answers session op contents.kept) →
     ((call : Accepted) → told.call ≡ Some call → is_register call.request ≡ true → is_told around.registered.now call.session call.op ≡ true) →
     for_sessions.AreBeside told (viewed contents held) (viewed then later) around sessions
-beside-told told contents then held later around sessions owned known registered rest begun = record {
+beside-told told contents then held later around sessions typed typed_own typed_then owned known registered rest begun = record {
   own = owned;
   registered = registered;
-  known = each_also _ _ (λ session. each_also _ _ (λ operation keys. record { own = keys; registered = λ registers unheard. rest operation.session operation.op unheard }) session.operations) sessions known;
+  known = each_also _ _ (λ session. each_also _ _ (λ operation keys. record { own = alike (keys_of operation.request) keys; registered = λ registers unheard. rest operation.session operation.op unheard }) session.operations) sessions known;
   begun = begins told.call refl;
 }
   where
+    alike : (keys : List Key) → AllByRecursion (λ (key : Key). IsOwnKept (own_in contents.kept) (own_in then.kept) around.walks.now key.name) keys →
+        AllByRecursion (λ (key : Key). for_sessions.IsOwnAlike (viewed contents held) (viewed then later) around.walks.now key.name) keys
+    alike keys kept = each_also _ _ (λ key stays none. own-kept key.name held (own_in contents.kept) (own_in then.kept) typed typed_own typed_then (stays none)) keys kept
+
     begins : (call : Option Accepted) → told.call ≡ call → for_sessions.IsBegunTold (viewed then later) around call
     begins None e = tt
     begins (Some call) e = λ registers unheard. absurd (true≢false (sym (begun call e registers) ∙ unheard))
@@ -147,12 +157,17 @@ among-none names more within name none = of (is_among names name) refl
     of true e = absurd (true≢false (sym (within name e) ∙ none))
     of false e = refl
 
+-- Where nothing comes or goes of a name that isn't among those that were put, the same records stay.
+pub kept-unmoved : (stays among : Bool) → (not stays ≡ true → among ≡ true) → among ≡ false → stays ≡ true
+kept-unmoved true among moved none = refl
+kept-unmoved false among moved none = absurd (true≢false (sym (moved refl) ∙ none))
+
 -- What was walked is enough, where own records were put beside the held ones.
 pub enough-owned : (held later : List Held) (contents : Contents) (told : Told) (now word : ℕ) (behind : List Kept) (touched names : List (List (List ℕ))) (walks owned : List Walk) →
     behind ≡ kept_told contents (occasion_of contents told now word) →
     owned ≡ map (with_own (own_in contents.kept) (own_in behind)) walks → map (λ (walk : Walk). walk.name) walks ≡ names →
     ((name : List (List ℕ)) → is_among touched name ≡ false → held_of name later ≡ held_of name held) →
-    ((name : List (List ℕ)) → is_among touched name ≡ false → own_of name (own_in behind) ≡ own_of name (own_in contents.kept)) →
+    ((name : List (List ℕ)) → is_among touched name ≡ false → same_records (own_of name (own_in contents.kept)) (own_of name (own_in behind)) ≡ true) →
     (before : List (List (List ℕ))) → ((name : List (List ℕ)) → is_among before name ≡ true → is_among names name ≡ true) →
     (questions : List Tracked) (sessions : List Session) → AreWalks held later walks → for_asking.AreNamed told now questions touched names →
     for_sessions.AreNamed touched before sessions → for_sessions.IsCallNamed before told.call →

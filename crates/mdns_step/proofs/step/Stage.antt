@@ -1,6 +1,6 @@
 -- The entry that follows a history, by its stages: the marks of a refusal, of claims, of questions that are asked and of groups that are announced, and
 -- what is sent; then the marks of cut sessions, then what is given. All duties are in force.
-use Rattle.std.proofs.Common.{◌≡◌, ℕ, ◌≤◌, false, cond, List, [], ◌∷◌, ◌++◌, refl, ap, ◌∙◌, sym, append_assoc}
+use Rattle.std.proofs.Common.{◌≡◌, ℕ, ◌≤◌, false, cond, List, [], ◌∷◌, ◌++◌, refl, ap, sym, append_assoc}
 use Rattle.mdns_history.specs.declared.event.Event.{Event}
 use Rattle.mdns_history.specs.declared.event.Event.TheVariants as event
 use Rattle.mdns_history.specs.declared.mark.Mark.{Mark}

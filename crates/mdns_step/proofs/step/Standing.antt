@@ -35,7 +35,7 @@ use Rattle.mdns_claims.specs.State as claims
 use Rattle.mdns_claims.specs.Behind.{next_in}
 use Rattle.mdns_reply.specs.Lasts.{Last}
 use Rattle.mdns_reply.specs.Lasts as lasts
-use Rattle.mdns_debts.specs.Queries.{Query, owed_queries}
+use Rattle.mdns_debts.specs.Queries.{owed_queries}
 use Rattle.mdns_debts.specs.Following.{queries_in}
 use Rattle.sd_sessions.proofs.KeptOutcome.{found-session}
 
