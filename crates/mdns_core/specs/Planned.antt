@@ -2,6 +2,7 @@
 use Rattle.std.specs.Prelude.{◌≡◌, ℕ, ◌≤◌, true, List, ◌++◌, map, length, IsTrue}
 use Rattle.std.specs.Option.{option_to_list}
 use Rattle.dns_record.specs.declared.record.Rr.{Rr}
+use Rattle.sd_answer.specs.Known.{rrs_of}
 use Rattle.sd_answer.specs.Laws.{have_data}
 use Rattle.mdns_history.specs.declared.event.Event.{Event}
 use Rattle.mdns_history.specs.declared.held.Held.{Held}
@@ -70,6 +71,7 @@ pub record IsPlanFor (state : State) (later : List Held) (now word : ℕ) (event
   pub told : told_in plan ≡ told_of event (kept_outcome state.claims state.opened state.sessions event) (told_in plan).refusal
   pub heard : (past : List Hearing) (before : ℕ) → before ≤ now → Holds state.held past before → IsHeard now word event past later (told_in plan).refusal
   pub within : length later ≤ room_for_records
+  pub typed : have_data (rrs_of later) ≡ true
   pub «data» : have_data (counted_records (brought event)) ≡ true
   pub claims : claiming.IsPlan state.claims (occasion_of state.claims (told_in plan) now word) plan.claims
   pub fits : claiming.IsFor state.claims.registered state.claims.kept plan.claims.deed

@@ -1,5 +1,5 @@
 // The daemon: it keeps the records that are live and the sessions that are attached, and gives these what changes.
-ghost use Rattle.std.specs.Prelude.{◌≡◌, ◌<◌, ◌≤◌, ◌^◌, ◌∷◌, ◌++◌, [], ℕ, List, max, IfOk, IfSome, OnOk, OnErr, Some, IsTrue, true, false};
+ghost use Rattle.std.specs.Prelude.{◌≡◌, ◌+◌, ◌*◌, ◌<◌, ◌≤◌, ◌^◌, ◌∷◌, ◌++◌, [], ℕ, List, max, IfOk, IfSome, OnOk, OnErr, Some, IsTrue, true, false};
 ghost use Rattle.std.specs.Option.{is_some, option_map};
 ghost use Rattle.std.specs.List.{find};
 ghost use Rattle.sd_call.specs.Replay.{replay};
@@ -9,7 +9,8 @@ ghost use Rattle.mdns_history.specs.Items.{session_items, taken_items, queue};
 ghost use Rattle.mdns_history.specs.Replays.{answer_sets};
 ghost use Rattle.mdns_asserts.specs.Earned.{IsEarned};
 ghost use Rattle.mdns_step.specs.InForce.{in_force};
-ghost use Rattle.mdns_history.specs.Fitting.{Fits, boot_entry, is_boot, is_host_label};
+ghost use Rattle.mdns_step.specs.Touched.{touched};
+ghost use Rattle.mdns_history.specs.Fitting.{Fits, FitsAt, boot_entry, is_boot, is_host_label};
 ghost use Rattle.mdns_history.specs.Due.{NextDue};
 ghost use Rattle.dns_name.specs.Lists.{least};
 ghost use Rattle.sd_sessions.specs.Codes.{has_number};
@@ -43,7 +44,9 @@ pub struct Daemon {
 }
 
 impl Model for Daemon {
-    ghost use Rattle.std.specs.Prelude.{◌≤◌, length};
+    ghost use Rattle.std.specs.Prelude.{◌≡◌, ◌≤◌, true, length};
+    ghost use Rattle.sd_answer.specs.Known.{rrs_of};
+    ghost use Rattle.sd_answer.specs.Laws.{have_data};
     ghost use Rattle.mdns_history.specs.Lifetimes.{room_for_records};
     ghost use Rattle.mdns_cache.specs.Lifetimes.{AllLive, AllHeard};
     ghost use Rattle.mdns_question.specs.Refreshing.{AreTimed};
@@ -55,7 +58,7 @@ impl Model for Daemon {
     ghost view = { λ d. state_of d.last d.parts };
 
     ghost invariant = { λ d. (length d.parts.records.held ≤ room_for_records) × AllLive d.last d.parts.records.held
-        × AllHeard d.last d.parts.records.held × AreTimed d.parts.records.held d.parts.asking.questions };
+        × AllHeard d.last d.parts.records.held × AreTimed d.parts.records.held d.parts.asking.questions × (have_data (rrs_of d.parts.records.held) ≡ true) };
 }
 
 impl Daemon {
@@ -162,6 +165,9 @@ impl Daemon {
         // After a tick of a daemon that stands for a history nothing is due by then.
         ensures ticked { OnOk result ((history : List Entry) → Stands self.old history → event ≡ Event.Tick → IfSome (due_of self.new) (λ due. now < due)) }
         ensures err { OnErr result (self.new ≡ self.old) }
+        // Few records are looked at: eight visits at most for all that the entry touches, and for one more.
+        ensures visits { (history : List Entry) (entry : Entry) → Stands self.old history → FitsAt in_force history now word event entry
+            → steps.new ≤ steps.old + 8 * (touched entry history + 1) }
     {
         let when = When { moment: now, word };
         let kept = Kept {

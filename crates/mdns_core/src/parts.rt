@@ -1,9 +1,10 @@
 // What a daemon keeps, in parts of their own.
-ghost use Rattle.std.specs.Prelude.{◌≡◌, ℕ, ◌≤◌, ◌^◌, length, OnOk};
+ghost use Rattle.std.specs.Prelude.{◌≡◌, ℕ, ◌+◌, ◌≤◌, ◌^◌, length, OnOk};
 ghost use Rattle.mdns_history.specs.declared.event.Event.{Event};
 ghost use Rattle.mdns_cache.specs.Lifetimes.{AllLive, AllHeard};
 ghost use Rattle.mdns_question.specs.Refreshing.{AreTimed};
 ghost use Rattle.mdns_records.specs.After.{held_after};
+ghost use Rattle.mdns_records.specs.Visits.{ended_in};
 ghost use Rattle.mdns_core.specs.Kept.{state_of};
 ghost use Rattle.mdns_core.specs.Planned.{IsPlan};
 ghost use Rattle.mdns_core.specs.Made.{HasRoom, IsMade};
@@ -68,6 +69,7 @@ impl Parts {
             → IsMade (state_of last self.old) (held_after when.moment when.word plan.entry.heard self.old.records.held) when.moment when.word plan.entry result (state_of when.moment self.new) }
         ensures live { AllLive when.moment self.new.records.held }
         ensures heard { AllHeard when.moment self.old.records.held → AllHeard when.moment self.new.records.held }
+        ensures visits { steps.new ≡ steps.old + length (ended_in when.moment self.old.records.held) + 1 }
     {
         let Plan {
             happened,

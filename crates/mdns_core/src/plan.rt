@@ -1,10 +1,12 @@
 // All that an event leads to, computed before anything is changed.
-ghost use Rattle.std.specs.Prelude.{◌≡◌, ◌≤◌, ◌++◌, map, length, IfOk, OnOk};
+ghost use Rattle.std.specs.Prelude.{◌≡◌, ◌≤◌, ◌++◌, true, map, length, IfOk, OnOk};
 ghost use Rattle.mdns_history.specs.Lifetimes.{room_for_records};
 ghost use Rattle.mdns_happened.specs.Told.{told_by};
 ghost use Rattle.mdns_happened.specs.Walks.{own_of};
 ghost use Rattle.mdns_cache.specs.Lifetimes.{AllHeard};
 ghost use Rattle.mdns_records.specs.After.{held_after};
+ghost use Rattle.sd_answer.specs.Known.{rrs_of};
+ghost use Rattle.sd_answer.specs.Laws.{have_data};
 ghost use Rattle.mdns_question.specs.Refreshing.{AreTimed};
 ghost use Rattle.mdns_question.specs.Standing.{mark_of};
 ghost use Rattle.sd_sessions.specs.Settling.{cuts_of};
@@ -17,6 +19,7 @@ ghost use Rattle.mdns_claims.specs.Later.{groups_behind};
 ghost use Rattle.mdns_claims.specs.Owned.{own_in};
 ghost use Rattle.mdns_claims.specs.Planned as claiming;
 ghost use Rattle.mdns_step.specs.Enough.{AreEnough, claims_told, with_own};
+ghost use Rattle.mdns_step.specs.Looked.{is_looked_at, AreBounded, AreFew};
 ghost use Rattle.mdns_core.specs.Planned.{IsPlan, IsTraffic, IsLed};
 ghost use Rattle.mdns_core.specs.Kept.{state_of};
 ghost use Rattle.std.specs.Option.{option_to_list};
@@ -99,7 +102,9 @@ pub fn make_plan<'a, L: Ledger>(
     requires within { length kept.now.parts.now.records.held ≤ room_for_records }
     requires past { AllHeard when.moment kept.now.parts.now.records.held }
     requires timed { AreTimed kept.now.parts.now.records.held kept.now.parts.now.asking.questions }
-    ensures { IfOk result (λ plan. IsPlan (state_of kept.now.last kept.now.parts.now) when.moment when.word event.now plan) }
+    requires typed { have_data (rrs_of kept.now.parts.now.records.held) ≡ true }
+    ensures plan { IfOk result (λ plan. IsPlan (state_of kept.now.last kept.now.parts.now) when.moment when.word event.now plan) }
+    ensures visits { AreBounded (state_of kept.now.last kept.now.parts.now) when.moment when.word event.now steps.old steps.new }
 {
     let reading = read_event(kept, when, event)?;
     let claims = kept.parts.claims.plan(when, &reading.happened)?;
@@ -138,6 +143,9 @@ fn led_to(
 ) -> Result<Led, AllocError>
     requires past { AllHeard when.moment kept.now.parts.now.records.held }
     requires timed { AreTimed kept.now.parts.now.records.held kept.now.parts.now.asking.questions }
+    requires typed { have_data (rrs_of kept.now.parts.now.records.held) ≡ true }
+    requires owned { have_data (own_in kept.now.parts.now.claims.contents.kept) ≡ true }
+    requires fits { claiming.IsFor kept.now.parts.now.claims.contents.registered kept.now.parts.now.claims.contents.kept claims.now.deed }
     requires told { IsTold (told_by reading.now.happened) kept.now.parts.now.sessions }
     requires call { IsWellFormedCall (told_by reading.now.happened).call }
     requires planned { claiming.IsPlan kept.now.parts.now.claims.contents (occasion_of kept.now.parts.now.claims.contents (told_by reading.now.happened) when.moment when.word) claims.now }
@@ -242,16 +250,19 @@ fn walk<L: Ledger>(
 ) -> Result<Vec<Walk>, AllocError>
     requires call { IsWellFormedCall (told_by reading.now.happened).call }
     requires planned { claiming.IsPlan kept.now.parts.now.claims.contents (occasion_of kept.now.parts.now.claims.contents (told_by reading.now.happened) when.moment when.word) claims.now }
-    ensures { IfOk result (λ walks. AreEnough (told_by reading.now.happened) when.moment kept.now.parts.now.records.held
+    ensures enough { IfOk result (λ walks. AreEnough (told_by reading.now.happened) when.moment kept.now.parts.now.records.held
         (held_after when.moment when.word reading.now.heard kept.now.parts.now.records.held)
         (own_in kept.now.parts.now.claims.contents.kept) (own_in (claims_told kept.now.parts.now.claims.contents (told_by reading.now.happened) when.moment when.word).kept)
         kept.now.parts.now.asking.questions kept.now.parts.now.sessions.sessions walks.items) }
+    ensures visits { AreFew (is_looked_at (told_by reading.now.happened) when.moment reading.now.heard kept.now.parts.now.records.held
+        (own_in kept.now.parts.now.claims.contents.kept) (own_in (claims_told kept.now.parts.now.claims.contents (told_by reading.now.happened) when.moment when.word).kept)
+        kept.now.parts.now.asking.questions) kept.now.parts.now.records.held steps.old steps.new }
 {
     let happened = &reading.happened;
     let heard = reading.heard.as_slice();
     let behind = kept.parts.claims.behind(when, happened, claims);
     let mut touched = kept.parts.records.touched(when.moment, heard)?;
-    behind.put_names(&mut touched)?;
+    behind.put_moved_names(kept.alloc, &mut touched)?;
     let mut names = Vec::new(kept.alloc);
     kept.parts
         .sessions

@@ -14,8 +14,10 @@ use Rattle.mdns_responding.specs.Told.{responses_told, announced_told}
 use Rattle.mdns_question.specs.Standing.{mark_of}
 use Rattle.sd_sessions.specs.Settling.{cuts_of}
 use Rattle.mdns_claims.specs.Behind.{occasion_of}
+use Rattle.sd_answer.specs.Laws.{have_data}
+use Rattle.mdns_claims.proofs.Typed.{own_data}
 use Rattle.mdns_claims.specs.Later.{groups_behind}
-use Rattle.mdns_claims.specs.Owned.{is_ours, registered_answers}
+use Rattle.mdns_claims.specs.Owned.{is_ours, own_in, registered_answers}
 use Rattle.sd_sessions.specs.Sessions.{Session}
 use Rattle.mdns_step.specs.Viewed.{viewed}
 use Rattle.mdns_step.specs.Enough.{claims_told}
@@ -63,9 +65,10 @@ returns c =
       asking = c.in_ok-traffic.ensures.is.asking held later c.requires.timed c.requires.walked.records (after-live now word c.args.reading.now.heard held) c.requires.walked.asking;
       gaps = c.in_ok-traffic.ensures.gaps;
       sessions = c.in_ok-sessions.ensures (viewed contents held) (viewed then later) c.requires.walked.records c.requires.walked.sessions c.requires.walked.call
-          (beside-told told contents then held later _ sessions
+          (beside-told told contents then held later _ sessions c.requires.typed c.requires.owned
+          (subst (λ (ks : List Kept). have_data (own_in ks) ≡ true) behind_is (own_data (groups_behind c.behind-behind.result) (c.behind-behind.ensures.data c.requires.fits)))
           c.requires.walked.own
-          c.requires.walked.own_known
+          c.requires.walked.own_kept
           registered
           (λ session op unheard.
           ap (registered_answers session op) (sym behind_is)

@@ -1,14 +1,17 @@
-use Rattle.std.proofs.Common.{◌≡◌, ◌∙◌, ◌≤◌, ℕ, ap, subst, sym, List}
+use Rattle.std.proofs.Common.{◌≡◌, ◌∙◌, ◌≤◌, ℕ, arith, length, ap, subst, sym, List}
 use Rattle.std.proofs.lemmas.List.Sorted.{length_permutation}
 use Rattle.mdns_history.specs.declared.held.Held.{Held}
 use Rattle.mdns_asserts.proofs.Earned.{are_earned}
 use Rattle.mdns_question.specs.Refreshing.{AreTimed}
 use Rattle.mdns_cache.specs.Lifetimes.{AllHeard}
+use Rattle.mdns_records.specs.Visits.{ended_in}
 use Rattle.mdns_records.specs.After.{held_after}
 use Rattle.mdns_records.proofs.Holding.{after-live}
 use Rattle.mdns_asking.proofs.Timed.{are_timed}
+use Rattle.mdns_step.proofs.records.HeldData.{data-moved}
 use Rattle.mdns_step.specs.InForce.{in_force}
 use Rattle.mdns_step.specs.State.{State, Stands}
+use Rattle.mdns_step.proofs.records.Bounded.{few-visits}
 use Rattle.mdns_step.proofs.step.Standing.{replayed-stands, queued-stands}
 use Rattle.mdns_step.proofs.step.Moved.{timed-moved, heard-since}
 use Rattle.mdns_core.specs.Kept.{state_of}
@@ -37,7 +40,7 @@ pub apply-marks-requires-clause-planned : goal.apply-marks-requires-clause-plann
 apply-marks-requires-clause-planned g c = (
   c.self.inside.last,
   c.args.event,
-  subst (λ (s : State). IsPlan s c.args.now c.args.word c.args.event c.in_ok-plan.plan) (sym (c.reserve.ensures.kept c.self.inside.last)) c.in_ok-plan.ensures,
+  subst (λ (s : State). IsPlan s c.args.now c.args.word c.args.event c.in_ok-plan.plan) (sym (c.reserve.ensures.kept c.self.inside.last)) c.in_ok-plan.ensures.plan,
 )
 
 pub returns-clause-fits : goal.returns-clause-fits
@@ -46,7 +49,7 @@ returns-clause-fits g c = λ history stands.
     let kept : state_of last c.reserve.new.self ≡ state_of last c.self.inside.parts = c.reserve.ensures.kept last in
     let before : State = state_of last c.reserve.new.self in
     let later : List Held = held_after c.args.now c.args.word c.in_ok-plan.plan.heard c.reserve.new.self.records.held in
-    let is : IsPlan before c.args.now c.args.word c.args.event c.in_ok-plan.plan = subst (λ (s : State). IsPlan s c.args.now c.args.word c.args.event c.in_ok-plan.plan) (sym kept) c.in_ok-plan.ensures in
+    let is : IsPlan before c.args.now c.args.word c.args.event c.in_ok-plan.plan = subst (λ (s : State). IsPlan s c.args.now c.args.word c.args.event c.in_ok-plan.plan) (sym kept) c.in_ok-plan.ensures.plan in
     carried-plan before later c.args.now c.args.word c.args.event c.in_ok-plan.plan is c.apply-marks.result (state_of c.args.now c.apply-marks.new.self)
     (c.apply-marks.ensures.made last c.args.event is)
     (subst (λ (s : State). s.last ≤ c.args.now) (sym c.self.view_is) c.requires.later) c.requires.bound c.requires.no_boot history
@@ -72,7 +75,7 @@ invariant_of-self-2 g c =
     let before : State = state_of last c.reserve.new.self in
     let held : List Held = c.reserve.new.self.records.held in
     let later : List Held = held_after c.args.now c.args.word c.in_ok-plan.plan.heard held in
-    let is : IsPlan before c.args.now c.args.word c.args.event c.in_ok-plan.plan = subst (λ (s : State). IsPlan s c.args.now c.args.word c.args.event c.in_ok-plan.plan) (sym kept) c.in_ok-plan.ensures in
+    let is : IsPlan before c.args.now c.args.word c.args.event c.in_ok-plan.plan = subst (λ (s : State). IsPlan s c.args.now c.args.word c.args.event c.in_ok-plan.plan) (sym kept) c.in_ok-plan.ensures.plan in
     let made : IsMade before later c.args.now c.args.word c.in_ok-plan.plan c.apply-marks.result (state_of c.args.now c.apply-marks.new.self) = c.apply-marks.ensures.made last c.args.event is in
     let heard : AllHeard last held = subst (AllHeard last) (sym (ap (λ (s : State). s.held) kept)) c.self.invariant.2 in (
       subst (λ (n : ℕ). n ≤ 32768) (length_permutation c.apply-marks.new.self.records.held later made.moved) is.within,
@@ -80,6 +83,7 @@ invariant_of-self-2 g c =
       c.apply-marks.ensures.heard (heard-since last c.args.now (subst (λ (s : State). s.last ≤ c.args.now) (sym c.self.view_is) c.requires.later) held heard),
       timed-moved c.apply-marks.new.self.records.held later made.moved c.apply-marks.new.self.asking.questions
           (subst (AreTimed later) (sym made.follow) (are_timed later (asked_of_plan c.args.now c.args.word c.in_ok-plan.plan before.questions))),
+      data-moved c.apply-marks.new.self.records.held later made.moved is.typed,
     )
 
 pub returns-clause-ticked : goal.returns-clause-ticked
@@ -89,9 +93,29 @@ returns-clause-ticked g c = λ history stands tick.
     let before : State = state_of last c.reserve.new.self in
     let held : List Held = c.reserve.new.self.records.held in
     let later : List Held = held_after c.args.now c.args.word c.in_ok-plan.plan.heard held in
-    let is : IsPlan before c.args.now c.args.word c.args.event c.in_ok-plan.plan = subst (λ (s : State). IsPlan s c.args.now c.args.word c.args.event c.in_ok-plan.plan) (sym kept) c.in_ok-plan.ensures in
+    let is : IsPlan before c.args.now c.args.word c.args.event c.in_ok-plan.plan = subst (λ (s : State). IsPlan s c.args.now c.args.word c.args.event c.in_ok-plan.plan) (sym kept) c.in_ok-plan.ensures.plan in
     ticked-plan before later c.args.now c.args.word c.args.event c.in_ok-plan.plan is c.apply-marks.result (state_of c.args.now c.apply-marks.new.self)
     (c.apply-marks.ensures.made last c.args.event is)
     (subst (λ (s : State). s.last ≤ c.args.now) (sym c.self.view_is) c.requires.later) c.requires.bound c.requires.no_boot history
     (subst (λ (s : State). Stands s history) (sym (kept ∙ c.self.view_is)) stands)
     (after-live c.args.now c.args.word c.in_ok-plan.plan.heard held) tick
+
+pub returns-in_err-plan-clause-visits : goal.returns-in_err-plan-clause-visits
+returns-in_err-plan-clause-visits g c = λ history entry stands fits.
+    let most = few-visits (state_of c.self.inside.last c.self.inside.parts) history (subst (λ (s : State). Stands s history) (sym c.self.view_is) stands) c.args.now c.args.word c.args.event
+    (subst (λ (s : State). s.last ≤ c.args.now) (sym c.self.view_is) c.requires.later) c.requires.no_boot c.self.invariant.3 entry fits c.args.steps.now c.make_plan.new.steps c.make_plan.ensures.visits in
+    omega (arith, most)
+
+pub returns-in_err-reserve-clause-visits : goal.returns-in_err-reserve-clause-visits
+returns-in_err-reserve-clause-visits g c = λ history entry stands fits.
+    let most = few-visits (state_of c.self.inside.last c.self.inside.parts) history (subst (λ (s : State). Stands s history) (sym c.self.view_is) stands) c.args.now c.args.word c.args.event
+    (subst (λ (s : State). s.last ≤ c.args.now) (sym c.self.view_is) c.requires.later) c.requires.no_boot c.self.invariant.3 entry fits c.args.steps.now c.make_plan.new.steps c.make_plan.ensures.visits in
+    omega (arith, most)
+
+pub returns-clause-visits : goal.returns-clause-visits
+returns-clause-visits g c = λ history entry stands fits.
+    let kept : state_of c.self.inside.last c.reserve.new.self ≡ state_of c.self.inside.last c.self.inside.parts = c.reserve.ensures.kept c.self.inside.last in
+    let same : length (ended_in c.args.now c.reserve.new.self.records.held) ≡ length (ended_in c.args.now c.self.inside.parts.records.held) = ap (λ (s : State). length (ended_in c.args.now s.held)) kept in
+    let most = few-visits (state_of c.self.inside.last c.self.inside.parts) history (subst (λ (s : State). Stands s history) (sym c.self.view_is) stands) c.args.now c.args.word c.args.event
+    (subst (λ (s : State). s.last ≤ c.args.now) (sym c.self.view_is) c.requires.later) c.requires.no_boot c.self.invariant.3 entry fits c.args.steps.now c.make_plan.new.steps c.make_plan.ensures.visits in
+    omega (arith, most, same, c.apply-marks.ensures.visits)
