@@ -14,7 +14,7 @@ use std::alloc::Global;
 
 /// A row of last multicasts: `send` multicasts a record in a response, `update` multicasts so many updates of a TXT record a second apart,
 /// and tells whether the most that were kept lie between two numbers. The other rows ask when a record was multicast, and whether that
-/// is long ago.
+/// is long ago, and how many are kept.
 pub fn last_row(told: &mut Told, lasts: &mut Lasts, row: &[&str]) -> Result<(), RowError> {
     match row {
         ["new"] => {
@@ -43,6 +43,7 @@ fn send(told: &mut Told, lasts: &mut Lasts, now: u32, rr: Rr) -> Result<(), RowE
 fn last_look(told: &mut Told, lasts: &Lasts, row: &[&str]) -> Result<(), RowError> {
     match row {
         ["empty"] => told.put_yes(lasts.is_empty()),
+        ["kept", count] => told.put_yes(lasts.len() as u64 == moment(*count)?),
         ["of", rr] => {
             let rr = record(told.alloc, *rr)?;
             told.put_number(lasts.last(&rr))
