@@ -1,7 +1,8 @@
 // Rows of the records that are held, and of how an event changes those of a name.
 
 use crate::error::RowError;
-use crate::read::Packet;
+use crate::numbered::of_names;
+use crate::read::{Packet, number};
 use crate::told::Told;
 use dns_name::Name;
 use mdns_base::put_decimal;
@@ -14,7 +15,8 @@ use std::sync::ledger::Ledger;
 const WORD: u32 = 7;
 
 /// A row of held records: `hear` has a moment, a random word, a name and records. It tells how many names the event touches, the ends of
-/// the name's records before and after it, and how many records are held after it.
+/// the name's records before and after it, and how many records are held after it. `fill` hears so many records of as many names, and
+/// `looks` tells how often an event looks at a record.
 pub fn held_row<L: Ledger>(
     told: &mut Told,
     held: &mut Records,
@@ -29,6 +31,17 @@ pub fn held_row<L: Ledger>(
         ["hear", now, word, name, heard] => {
             let packet = Packet::read(told.alloc, *now, *word, *heard)?;
             hear(told, held, steps, packet, Name::parse_text(*name)?)
+        }
+        ["fill", now, word, count] => {
+            let mut packet = Packet::read(told.alloc, *now, *word, "-")?;
+            packet.heard = of_names(told.alloc, number(*count)?)?;
+            told.put("done")?;
+            carry_out(told, held, steps, packet)
+        }
+        ["looks", now, word, heard] => {
+            let packet = Packet::read(told.alloc, *now, *word, *heard)?;
+            tell_looks(told, held, steps, &packet)?;
+            carry_out(told, held, steps, packet)
         }
         ["next"] => told.put_number(held.next_end()),
         _ => Err(RowError::NotUnderstood),
@@ -68,6 +81,35 @@ fn tell_walk<L: Ledger>(
         put_ends(told, ", after", &walk.later)?;
     }
     Ok(())
+}
+
+// How often an event looks at a record, as the calls say: at each record of the names that it touches, and once more for each name; then at
+// what has ended, and once more.
+fn tell_looks<L: Ledger>(
+    told: &mut Told,
+    held: &Records,
+    steps: &mut Steps<L>,
+    packet: &Packet,
+) -> Result<(), RowError> {
+    let heard = packet.heard.as_slice();
+    let names = held.touched(packet.when.moment, heard)?;
+    let mut looks = 1usize;
+    for walk in held.walk(packet.when, heard, names, steps)? {
+        let ended = ended_in(&walk.earlier, packet.when.moment);
+        looks = looks.saturating_add(walk.earlier.len().saturating_add(ended).saturating_add(1));
+    }
+    told.put_count("looks ", looks)
+}
+
+// How many records have ended by a moment.
+fn ended_in(held: &[Held], now: u64) -> usize {
+    let mut ended = 0usize;
+    for one in held {
+        if one.end <= now {
+            ended = ended.saturating_add(1);
+        }
+    }
+    ended
 }
 
 // The ends of records, in their order; `-` is none.

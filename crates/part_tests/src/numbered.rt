@@ -25,6 +25,15 @@ pub fn packet(alloc: Global, place: u32) -> Result<Rrs, RowError> {
     Ok(rrs)
 }
 
+/// So many records of as many names, up to 2016, which live for two minutes.
+pub fn of_names(alloc: Global, count: u32) -> Result<Rrs, RowError> {
+    let mut rrs = Rrs::new(alloc);
+    for number in 0..count {
+        rrs.push(numbered(number, 120)?)?;
+    }
+    Ok(rrs)
+}
+
 // The record of a number, with an address of its own. Its name has one of 63 lengths and of 32 first letters.
 fn numbered(number: u32, ttl: u32) -> Result<Rr, RowError> {
     let size = number as usize % 63;
