@@ -184,6 +184,16 @@ def known_answers(program):
         yield f"a tick that asks one question with {count} known answers", f"{value:,.0f} instructions", wanted
 
 
+def asked_by_many(program):
+    """One query more for a name that 2,048 operations of 32 sessions ask for, with so many records of 8 KB of that name held."""
+    asked = [f"call 1 {session} {op} query TXT big.local" for session in range(1, 33) for op in range(1, 65)]
+    for count in (0, 1, 8):
+        held = [response(record(name("big", "local"), 16, (b"\xff" + bytes([number + 1]) * 255) * 31)) for number in range(count)]
+        before = ["daemon 1"] + ["open 1"] * 33 + ["at 1000"] + held + asked + ["at 2000"]
+        value = cost(program, before, ["call 1 33 1 query TXT big.local"])
+        yield f"one query more for a name that 2,048 ask for, {count} records of 8 KB of it held", f"{value:,.0f} instructions", ""
+
+
 def short(number):
     """An A record whose owner is one byte: 512 of them fit a packet."""
     return record(bytes([1, 97 + number % 26, 0]), A, struct.pack(">I", number))
@@ -216,7 +226,7 @@ def program_of():
 
 def rows(program=None):
     program = program or program_of()
-    for part in (known, many_of_one_name, hostile, collisions, ticks, known_answers, full_table, memory):
+    for part in (known, many_of_one_name, hostile, collisions, ticks, known_answers, asked_by_many, full_table, memory):
         yield from part(program)
 
 
