@@ -26,7 +26,8 @@ pub fn why(
             Some((script, line)) => note_on(alloc, script, line),
             None => String::from_str(alloc, "the script has a bad line"),
         },
-        DOOR_FAULT | LINK_FAULT => failed_part(alloc, status, trouble),
+        DOOR_FAULT => failed_door(alloc, words, trouble),
+        LINK_FAULT => failed_link(alloc, words, trouble),
         _ => String::from_str(alloc, reason(status)),
     }
 }
@@ -68,8 +69,13 @@ fn wrong_number(alloc: Global, words: &[String]) -> Result<String, AllocError> {
     }
 }
 
-// What is said where the socket of the clients or the relay failed.
-fn failed_part(alloc: Global, status: u8, trouble: Option<&Trouble>) -> Result<String, AllocError> {
+// What is said where the socket of the clients failed.
+fn failed_door(
+    alloc: Global,
+    words: &[String],
+    trouble: Option<&Trouble>,
+) -> Result<String, AllocError> {
+    let path = word_behind(words, "--socket");
     match trouble {
         Some(Trouble::Socket { error }) => {
             let why = cause(
@@ -77,17 +83,38 @@ fn failed_part(alloc: Global, status: u8, trouble: Option<&Trouble>) -> Result<S
                 error,
                 "another daemon listens there, or it is no socket",
             )?;
-            format!(in alloc; "serve: the socket of the clients: {why}")
+            format!(in alloc; "serve: the socket {path} of the clients: {why}")
         }
-        Some(Trouble::Relay { error }) => {
-            let why = cause(alloc, error, "the port is in use")?;
-            format!(in alloc; "serve: the port of the relay: {why}")
-        }
-        None if status == DOOR_FAULT => {
-            String::from_str(alloc, "serve: the socket of the clients failed")
-        }
-        None => String::from_str(alloc, "serve: the relay failed"),
+        _ => format!(in alloc; "serve: the socket {path} of the clients failed"),
     }
+}
+
+// What is said where the relay failed.
+fn failed_link(
+    alloc: Global,
+    words: &[String],
+    trouble: Option<&Trouble>,
+) -> Result<String, AllocError> {
+    let port = word_behind(words, "--relay");
+    match trouble {
+        Some(Trouble::Relay { error }) => {
+            let why = cause(alloc, error, "it is in use")?;
+            format!(in alloc; "serve: the port {port} of the relay: {why}")
+        }
+        _ => format!(in alloc; "serve: the relay at port {port} failed"),
+    }
+}
+
+// The word behind an option; empty where there is none.
+fn word_behind<'a>(words: &'a [String], option: &str) -> &'a str {
+    let mut is_wanted = false;
+    for word in words {
+        if is_wanted {
+            return word.as_str();
+        }
+        is_wanted = word.as_str() == option;
+    }
+    ""
 }
 
 // Why a socket couldn't be had.
