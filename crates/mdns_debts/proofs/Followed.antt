@@ -14,7 +14,7 @@ use Rattle.mdns_history.specs.Groups.{group_name, unique_records}
 use Rattle.mdns_history.specs.Sureness.{sure_groups, own_records, is_own}
 use Rattle.mdns_history.specs.Debts as debts
 use Rattle.mdns_history.specs.Debts.{Debt, Owed, owed_eq, is_unique, nsec_record, nsecs_of, own_or_nsec, is_nsec, is_struck, is_ours, stays_open, last_multicast}
-use Rattle.mdns_debts.specs.Queries.{Query, Placed, debt_in, query_at, placed_at, keeping, is_owed, owed_queries}
+use Rattle.mdns_debts.specs.Queries.{Query, Placed, debt_in, repeated, query_at, placed_at, keeping, is_owed, owed_queries}
 use Rattle.mdns_debts.specs.Following.{strikes, meets, owed_to, way_for, owed_by, query_from, queries_from, leaves, is_among, left_by, has_owed, queries_after, own_in, news_of, AreFollowed}
 use Rattle.mdns_asserts.proofs.Published.{same_owner, name_symm}
 use Rattle.mdns_debts.proofs.Debts.{filter_map-keeps, map-append, filter_like}
@@ -44,7 +44,7 @@ query_told heard entry past =
     ap (λ (owed : List Owed). let q : Query = record {
       from = heard.from;
       id = heard.message.id;
-      questions = heard.message.questions;
+      questions = repeated heard;
       truncated = heard.message.truncated;
       probing = nat_lt 0 (length heard.message.authority);
       due = entry.moment + debts.debt_wait heard entry.word (list_all (λ o. is_unique o.0) owed);

@@ -17,7 +17,7 @@ use Rattle.mdns_history.specs.Hearings.{Heard, heard_in, query_of}
 use Rattle.mdns_history.specs.Debts.{Debt, Owed, is_ours, stays_open, standing_debts}
 use Rattle.mdns_history.specs.Multicasts.{due_unicasts}
 use Rattle.mdns_history.specs.Sending.{to_one, entry_at, reply_to, reply_to_heard, reply_at}
-use Rattle.mdns_debts.specs.Queries.{Query, Placed, debt_in, debts_at, placed_at, keeping, is_owed, owed_queries, is_to_all, reply_for, records_for, reply_unless, replies_at}
+use Rattle.mdns_debts.specs.Queries.{Query, Placed, debt_in, debts_at, repeated, placed_at, keeping, is_owed, owed_queries, is_to_all, reply_for, records_for, reply_unless, replies_at}
 use Rattle.mdns_debts.specs.Laws.{AreRepliedTo}
 use Rattle.mdns_asserts.proofs.Elements.{In, of_append, of_map, of_flat_map, of_filter, of_each_once, both_no}
 use Rattle.mdns_debts.proofs.Debts.{filter_map-keeps, map_map, filter-append, map-append, filter_like, filter_never, some_length, are_of_queries}
@@ -29,7 +29,7 @@ pub record IsHeardAt (history : List Entry) (placed : Placed) : Type 0 where
   pub stands : option_and_then heard_in (entry_at placed.0 history) ≡ Some heard
   pub from : heard.from ≡ (placed.1).from
   pub id : heard.message.id ≡ (placed.1).id
-  pub questions : heard.message.questions ≡ (placed.1).questions
+  pub questions : repeated heard ≡ (placed.1).questions
 
 -- places rise
 abbrev pub AreRising : List Placed → Type 0
@@ -263,11 +263,19 @@ places_once moment (p ∷ ps) h =
 abbrev replied : ℕ → List Entry → Placed → List Sent
 replied moment history p = reply_to_heard (option_and_then heard_in (entry_at p.0 history)) (ordered record_cmp (map (λ (debt : Debt). debt.rr) (due_at_one moment p)))
 
-reply_is : (query : Query) (heard : Heard) (rrs : List Rr) → heard.from ≡ query.from → heard.message.id ≡ query.id → heard.message.questions ≡ query.questions → reply_to heard rrs ≡ reply_for query rrs
+reply_is : (query : Query) (heard : Heard) (rrs : List Rr) → heard.from ≡ query.from → heard.message.id ≡ query.id → repeated heard ≡ query.questions → reply_to heard rrs ≡ reply_for query rrs
 reply_is query heard rrs from id questions =
-    ap (λ (h : Host). cond (h.port == mdns_port) (map (to_one h) (pack_plain rrs)) (to_one h (pack_legacy heard.message.id heard.message.questions rrs) ∷ [])) from
-    ∙ ap (λ i. cond (query.from.port == mdns_port) (map (to_one query.from) (pack_plain rrs)) (to_one query.from (pack_legacy i heard.message.questions rrs) ∷ [])) id
+    of (heard.from.port == mdns_port)
+    ∙ ap (λ (h : Host). cond (h.port == mdns_port) (map (to_one h) (pack_plain rrs)) (to_one h (pack_legacy heard.message.id (repeated heard) rrs) ∷ [])) from
+    ∙ ap (λ i. cond (query.from.port == mdns_port) (map (to_one query.from) (pack_plain rrs)) (to_one query.from (pack_legacy i (repeated heard) rrs) ∷ [])) id
     ∙ ap (λ qs. cond (query.from.port == mdns_port) (map (to_one query.from) (pack_plain rrs)) (to_one query.from (pack_legacy query.id qs rrs) ∷ [])) questions
+  where
+    -- a reply to port 5353 repeats none
+    of : (b : Bool) →
+        cond b (map (to_one heard.from) (pack_plain rrs)) (to_one heard.from (pack_legacy heard.message.id heard.message.questions rrs) ∷ [])
+        ≡ cond b (map (to_one heard.from) (pack_plain rrs)) (to_one heard.from (pack_legacy heard.message.id (cond b [] heard.message.questions) rrs) ∷ [])
+    of true = refl
+    of false = refl
 
 module _ (moment : ℕ) (history : List Entry) where
   -- a query with something due is replied to with its records

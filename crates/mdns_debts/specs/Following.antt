@@ -15,7 +15,7 @@ use Rattle.mdns_history.specs.Hearings.{Heard, heard_in, query_of, counted_recor
 use Rattle.mdns_history.specs.Groups.{group_name, unique_records}
 use Rattle.mdns_history.specs.Sureness.{sure_groups, own_records}
 use Rattle.mdns_history.specs.Debts.{Owed, owed_eq, is_unique, debt_wait, is_struck, is_recent, own_or_nsec, nsec_record, is_nsec, multicasts_in, is_multicast, last_multicast}
-use Rattle.mdns_debts.specs.Queries.{Query, owed_queries, is_to_all}
+use Rattle.mdns_debts.specs.Queries.{Query, repeated, owed_queries, is_to_all}
 use Rattle.mdns_debts.specs.Releasing.{ready_at}
 
 -- what is the daemon's to send: its own records, and the NSEC records of its sure names (6.1)
@@ -53,7 +53,7 @@ query_from own lasts news heard = let owed = owed_by own lasts heard news.moment
     record {
       from = heard.from;
       id = heard.message.id;
-      questions = heard.message.questions;
+      questions = repeated heard;
       truncated = heard.message.truncated;
       probing = nat_lt 0 (length heard.message.authority);
       due = news.moment + debt_wait heard news.word (list_all (λ o. is_unique o.0) owed);

@@ -40,13 +40,17 @@ debt_in place query owed =
 abbrev pub debts_at : Placed → List Debt
 debts_at placed = map (debt_in placed.0 placed.1) (placed.1).owed
 
+-- the questions of a query that its reply repeats: those of one from another port (6.7)
+abbrev pub repeated : Heard → List Question
+repeated heard = if heard.from.port == mdns_port then [] else heard.message.questions
+
 -- the query that an entry hears, with what it is owed by the history before
 abbrev pub query_at : Heard → Entry → List Entry → Query
 query_at heard entry past = let owed = owed_by heard entry past in
     record {
       from = heard.from;
       id = heard.message.id;
-      questions = heard.message.questions;
+      questions = repeated heard;
       truncated = heard.message.truncated;
       probing = nat_lt 0 (length heard.message.authority);
       due = entry.moment + debt_wait heard entry.word (list_all (λ o. is_unique o.0) owed);

@@ -9,6 +9,7 @@ ghost use Rattle.mdns_asked.specs.Asked.{any_for, key_of};
 ghost use Rattle.mdns_claims.specs.Owned.{of_name, own_in, nsecs_in};
 ghost use Rattle.mdns_history.specs.Debts.{owed_eq, is_unique, debt_wait};
 ghost use Rattle.mdns_happened.specs.Told.{told_by};
+ghost use Rattle.mdns_debts.specs.Queries.{repeated};
 ghost use Rattle.mdns_debts.specs.Following.{has_owed, owed_to, owed_by, query_from, way_for};
 ghost use Rattle.mdns_owing.specs.Owing.{heard_in, last_in, news_told, ours_in, owed_for, unstruck_for, query_told};
 ghost use Rattle.mdns_owing.specs.Asked.{asked_as, own_found};
@@ -68,7 +69,7 @@ impl Ours<'_> {
             return Ok(None);
         }
         let terms = terms(when, heard, are_unique(&owed));
-        let questions = copied(self.alloc, heard.message.questions.as_slice())?;
+        let questions = repeated(self.alloc, heard)?;
         Ok(Some(Query::new(terms, heard.message.id, questions, owed)))
     }
 
@@ -314,6 +315,16 @@ fn are_unique(owed: &[Owed]) -> bool
     ensures { result ≡ list_all (λ one. is_unique one.0) owed.now }
 {
     owed.iter().all(|one| one.rr.flush)
+}
+
+// The questions that a reply repeats, which are those of a query from another port. Refused only for want of memory. (RFC 6762 6.7)
+fn repeated(alloc: Global, heard: &Heard<'_>) -> Result<Questions, AllocError>
+    ensures { IfOk result (λ questions. questions ≡ repeated (heard_in heard.now)) }
+{
+    if heard.from.port == MDNS_PORT {
+        return Ok(Questions::new(alloc));
+    }
+    copied(alloc, heard.message.questions.as_slice())
 }
 
 // Copies of questions. Refused only for want of memory.

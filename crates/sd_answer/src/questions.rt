@@ -1,5 +1,7 @@
 // The questions of requests.
 ghost use Rattle.std.specs.Prelude.{◌≡◌, [], ◌∷◌, ◌&&◌, IsTrue, IsSome};
+ghost use Rattle.std.specs.List.{list_any};
+ghost use Rattle.dns_name.specs.Names.{folded_eq};
 ghost use Rattle.sd_name.specs.ServiceTypes.{service_type, is_service_label};
 ghost use Rattle.sd_call.specs.Requests.{well_formed, has_subtypes_up_to};
 ghost use Rattle.mdns_history.specs.Questions.{key_of, address_keys, browsed_name, browse_keys, resolve_keys, keys_of};
@@ -36,6 +38,16 @@ pub fn questions_of(request: &Request) -> ArrayVec<Key, 2>
         Request::Address { families, name } => address_questions(*families, name),
         Request::Register { .. } | Request::Update { .. } | Request::Stop => ArrayVec::new(),
     }
+}
+
+/// Whether a well formed request asks a question of a name, case aside. It takes no memory. (RFC 6762 section 16)
+pub fn touches(request: &Request, name: &Name) -> bool
+    requires { IsTrue (well_formed request.now) }
+    ensures { result ≡ list_any (λ key. folded_eq key.name name.now) (keys_of request.now) }
+{
+    questions_of(request)
+        .iter()
+        .any(|question| question.name.folded_eq(name))
 }
 
 fn one_question(kind: u16, name: Name) -> ArrayVec<Key, 2>
