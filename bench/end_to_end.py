@@ -235,7 +235,8 @@ def killed(mdnsd, dns_sd, folder, ports, other):
     daemon = Daemon(mdnsd, folder, "c", "10.0.0.3", own, peers)
     service = tool(dns_sd, daemon, "-R", "Attic", "_http._tcp", "local", "80")
     assert service.stdout.readline() == b"Add named Attic._http._tcp.local.\n"
-    run = tool(dns_sd, daemon, "-B", "_ipp._tcp")
+    run = tool(dns_sd, daemon, "-B", "_http._tcp")
+    assert run.stdout.readline() == b"Add found Attic._http._tcp.local.\n"
     expect_printed(tool(dns_sd, other, "-count", "1", "-B", "_http._tcp"), ["-B"], "Add found Attic._http._tcp.local.\n", 0)
     daemon.process.send_signal(signal.SIGKILL)
     daemon.process.wait(LIMIT)

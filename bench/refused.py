@@ -1,0 +1,156 @@
+#!/usr/bin/env python3
+"""Refuses each allocation of a script in turn, once: `mdnsd script` has to end with 6, and with a beginning of the right output.
+
+    python3 bench/refused.py [PROGRAM] [SCRIPT ..]
+
+PROGRAM is crates/mdnsd/out/mdnsd where none is given, and the scripts are those of examples/ that have a transcript. It wants a C compiler
+(cc): a small library that is loaded before the program forks it at each allocation, and in the fork refuses that one and lets it run to its
+end. Where the first words of the command line are read, memory may be refused, too. One table is printed; it ends with 1 where something
+else came. Nothing here is part of the gate.
+"""
+import glob
+import os
+import subprocess
+import sys
+import tempfile
+from collections import Counter
+
+from tools import TOP
+
+# Each line of the log has the number of the allocation, how the fork ended, and how many bytes the program had put out before it.
+SHIM = r"""
+#define _GNU_SOURCE
+#include <dlfcn.h>
+#include <stdio.h>
+#include <stdlib.h>
+#include <string.h>
+#include <sys/wait.h>
+#include <fcntl.h>
+#include <unistd.h>
+
+static unsigned long count;
+static int log_to = -1, is_fork, is_inside;
+static char folder[512];
+
+static void begin(void) __attribute__((constructor));
+static void begin(void) {
+    const char *at = getenv("REFUSED_IN");
+    if (!at || strlen(at) > 400) return;
+    strcpy(folder, at);
+    char path[512];
+    snprintf(path, sizeof path, "%s/log", folder);
+    log_to = open(path, O_WRONLY | O_CREAT | O_APPEND, 0600);
+}
+
+/* Whether this allocation is to be refused: in the fork, once. */
+static int is_refused(void) {
+    if (log_to < 0 || is_fork || is_inside) return 0;
+    is_inside = 1;
+    unsigned long number = ++count;
+    long before = lseek(1, 0, SEEK_CUR);
+    pid_t child = fork();
+    if (child == 0) {
+        char path[512];
+        snprintf(path, sizeof path, "%s/%lu", folder, number);
+        /* Its own places in input and output, so that it moves none of the program's. */
+        int to = open(path, O_WRONLY | O_CREAT | O_TRUNC, 0600);
+        int from = open("/proc/self/fd/0", O_RDONLY);
+        if (to < 0 || from < 0 || lseek(from, lseek(0, 0, SEEK_CUR), SEEK_SET) < 0) abort();
+        dup2(to, 1);
+        dup2(from, 0);
+        is_fork = 1;
+        is_inside = 0;
+        return 1;
+    }
+    int status = -1;
+    if (child > 0) waitpid(child, &status, 0);
+    char line[96];
+    int length = snprintf(line, sizeof line, "%lu %d %ld\n", number, status, before);
+    if (write(log_to, line, length) != length) abort();
+    is_inside = 0;
+    return 0;
+}
+
+void *malloc(size_t size) {
+    static void *(*real)(size_t);
+    if (!real) real = dlsym(RTLD_NEXT, "malloc");
+    return is_refused() ? NULL : real(size);
+}
+
+void *realloc(void *old, size_t size) {
+    static void *(*real)(void *, size_t);
+    if (!real) real = dlsym(RTLD_NEXT, "realloc");
+    return is_refused() ? NULL : real(old, size);
+}
+
+void *aligned_alloc(size_t by, size_t size) {
+    static void *(*real)(size_t, size_t);
+    if (!real) real = dlsym(RTLD_NEXT, "aligned_alloc");
+    return is_refused() ? NULL : real(by, size);
+}
+
+int posix_memalign(void **to, size_t by, size_t size) {
+    static int (*real)(void **, size_t, size_t);
+    if (!real) real = dlsym(RTLD_NEXT, "posix_memalign");
+    return is_refused() ? 12 : real(to, by, size);
+}
+"""
+
+
+def built(folder):
+    """The library that refuses, built."""
+    source, made = f"{folder}/refused.c", f"{folder}/refused.so"
+    with open(source, "w", encoding="utf-8") as out:
+        out.write(SHIM)
+    subprocess.run(["cc", "-O1", "-shared", "-fPIC", "-o", made, source, "-ldl"], check=True)
+    return made
+
+
+def played(program, script, **more):
+    """The status and the output of a script."""
+    with open(script, "rb") as held, tempfile.TemporaryFile() as out:
+        ran = subprocess.run([program, "script"], stdin=held, stdout=out, stderr=subprocess.DEVNULL, check=False, **more)
+        out.seek(0)
+        return ran.returncode, out.read()
+
+
+def tried(program, library, script):
+    """Refuses each allocation of a script; how many there were, how the forks ended, and what was wrong."""
+    whole = played(program, script)
+    with tempfile.TemporaryDirectory(prefix="refused-") as folder:
+        seen = played(program, script, env={**os.environ, "LD_PRELOAD": library, "REFUSED_IN": folder})
+        wrong = [] if seen == whole else ["the run itself gave something else"]
+        ends, count = Counter(), 0
+        with open(f"{folder}/log", encoding="utf-8") as log:
+            for line in log:
+                number, status, before = map(int, line.split())
+                count += 1
+                ended = os.waitstatus_to_exitcode(status)
+                ends[ended] += 1
+                with open(f"{folder}/{number}", "rb") as put:
+                    said = put.read()
+                if not whole[1][before:].startswith(said):
+                    wrong.append(f"allocation {number}: no beginning of the output")
+                elif ended != 6:
+                    wrong.append(f"allocation {number}: ended with {ended}")
+    return count, ends, wrong
+
+
+def main(words):
+    program = words[0] if words else f"{TOP}/crates/mdnsd/out/mdnsd"
+    scripts = words[1:] or sorted(it for it in glob.glob(f"{TOP}/examples/*.script") if os.path.isfile(it.replace(".script", ".transcript")))
+    failed = False
+    print("| Script | Allocations, each refused once | Ended with 6 and a beginning of the output |\n|---|---|---|")
+    with tempfile.TemporaryDirectory(prefix="refused-") as folder:
+        library = built(folder)
+        for script in scripts:
+            count, ends, wrong = tried(program, library, script)
+            print(f"| {os.path.basename(script)} | {count} | {ends[6] - len([it for it in wrong if 'beginning' in it])} |", flush=True)
+            for it in wrong[:8]:
+                print(f"wrong: {script}: {it}", file=sys.stderr)
+            failed = failed or bool(wrong)
+    return 1 if failed else 0
+
+
+if __name__ == "__main__":
+    sys.exit(main(sys.argv[1:]))
