@@ -1,2 +1,6 @@
 pub mod Placed
 pub mod Pairs
+pub mod Paths
+pub mod Trees
+pub mod Parted
+pub mod LeastOf

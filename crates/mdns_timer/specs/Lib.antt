@@ -1,2 +1,4 @@
 pub mod Strict
 pub mod Timing
+pub mod Tree
+pub mod Parts
