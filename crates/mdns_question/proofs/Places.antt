@@ -1,74 +1,58 @@
--- The place of a question among those that are in order.
-use Rattle.std.proofs.Common.{◌≡◌, ℕ, suc, ◌+◌, ◌≤◌, Bool, true, false, cond, not, List, [], ◌∷◌, length, map, ltb, refl, ap, ◌∙◌, sym, arith, Some, None}
-use Rattle.std.specs.List.{list_any, prefix_len, position, insert}
-use Rattle.std.proofs.lemmas.Bool.{ltb-false}
-use Rattle.dns_name.specs.Lists.{insert_by}
-use Rattle.dns_record.specs.declared.record.Key.{Key}
-use Rattle.mdns_question.specs.declared.tracked.Tracked.{Tracked}
-use Rattle.mdns_question.specs.Tracking.{tracked_cmp, is_before, is_for, begun, used_more, with_user}
+-- Lists that are changed at a place.
+use Rattle.std.proofs.Common.{◌≡◌, ℕ, zero, suc, ◌<◌, ◌≤◌, Bool, true, false, cond, List, [], ◌∷◌, length, map, get_or, set, refl, ap, ◌∙◌, arith}
+use Rattle.std.specs.Prelude.{filter}
+use Rattle.std.specs.List.{insert, remove, AllByRecursion}
 
--- an insertion before the first question that isn't before
-pub inserted : (new : Tracked) (tracked : List Tracked) → insert tracked (prefix_len (is_before new.key) tracked) new ≡ insert_by tracked_cmp new tracked
-inserted new [] = refl
-inserted new (first ∷ more) = at (is_before new.key first) (inserted new more)
-  where
-    n : ℕ
-    n = prefix_len (is_before new.key) more
+-- what stands at a place
+pub element : {X : Type 0} (xs : List X) (i : ℕ) → i < length xs → (x : X) × (x ≡ get_or xs i x)
+element [] i h = absurd (omega arith)
+element (x ∷ xs) zero h = (x, refl)
+element (x ∷ xs) (suc i) h = element xs i (omega arith)
 
-    at : (b : Bool) → insert more n new ≡ insert_by tracked_cmp new more →
-        insert (first ∷ more) (cond b (1 + n) 0) new ≡ cond b (first ∷ insert_by tracked_cmp new more) (new ∷ first ∷ more)
-    at true ih = rw one_more (ap (λ (l : List Tracked). first ∷ l) ih)
-      where
-        one_more : 1 + n ≡ suc n
-        one_more = omega arith
-    at false ih = refl
+module _ {X : Type 0} (P : X → Type 0) where
+  pub each_at : (xs : List X) (i : ℕ) (d : X) → i < length xs → AllByRecursion P xs → P (get_or xs i d)
+  each_at [] i d h all = absurd (omega arith)
+  each_at (x ∷ xs) zero d h all = all.0
+  each_at (x ∷ xs) (suc i) d h all = each_at xs i d (omega arith) all.1
 
-both_not : (test : Tracked → Bool) (tracked : List Tracked) → prefix_len (λ x. not (not (test x))) tracked ≡ prefix_len test tracked
-both_not test [] = refl
-both_not test (first ∷ more) = at (test first) (both_not test more)
-  where
-    at : (b : Bool) → prefix_len (λ x. not (not (test x))) more ≡ prefix_len test more →
-        cond (not (not b)) (1 + prefix_len (λ x. not (not (test x))) more) 0 ≡ cond b (1 + prefix_len test more) 0
-    at true ih = ap (λ n. 1 + n) ih
-    at false ih = refl
+  pub each_set : (xs : List X) (i : ℕ) (v : X) → P v → AllByRecursion P xs → AllByRecursion P (set xs i v)
+  each_set [] i v h all = tt
+  each_set (x ∷ xs) zero v h all = (h, all.1)
+  each_set (x ∷ xs) (suc i) v h all = (all.0, each_set xs i v h all.1)
 
-pub prefix_within : (test : Tracked → Bool) (tracked : List Tracked) → prefix_len test tracked ≤ length tracked
-prefix_within test [] = omega arith
-prefix_within test (first ∷ more) = at (test first) (prefix_within test more)
-  where
-    at : (b : Bool) → prefix_len test more ≤ length more → cond b (1 + prefix_len test more) 0 ≤ length (first ∷ more)
-    at true ih = omega arith
-    at false ih = omega arith
+  pub each_insert : (xs : List X) (i : ℕ) (v : X) → i ≤ length xs → P v → AllByRecursion P xs → AllByRecursion P (insert xs i v)
+  each_insert [] zero v h p all = (p, tt)
+  each_insert [] (suc i) v h p all = absurd (omega arith)
+  each_insert (x ∷ xs) zero v h p all = (p, all)
+  each_insert (x ∷ xs) (suc i) v h p all = (all.0, each_insert xs i v (omega arith) p all.1)
 
--- the first place at which a test fails is how many pass it from the front on
-pub place_found : (test : Tracked → Bool) (tracked : List Tracked) (place : ℕ) → Some place ≡ position (λ x. not (test x)) tracked → place ≡ prefix_len test tracked
-place_found test tracked place e = at (ltb (prefix_len (λ x. not (not (test x))) tracked) (length tracked)) e ∙ both_not test tracked
-  where
-    at : (b : Bool) → Some place ≡ cond b (Some (prefix_len (λ x. not (not (test x))) tracked)) None → place ≡ prefix_len (λ x. not (not (test x))) tracked
-    at true h = cc
-    at false h = absurd (cc)
+  pub each_remove : (xs : List X) (i : ℕ) → AllByRecursion P xs → AllByRecursion P (remove xs i)
+  each_remove [] zero all = tt
+  each_remove [] (suc i) all = tt
+  each_remove (x ∷ xs) zero all = all.1
+  each_remove (x ∷ xs) (suc i) all = (all.0, each_remove xs i all.1)
 
-pub place_end : (test : Tracked → Bool) (tracked : List Tracked) → None ≡ position (λ x. not (test x)) tracked → length tracked ≡ prefix_len test tracked
-place_end test tracked e = at (ltb (prefix_len (λ x. not (not (test x))) tracked) (length tracked)) refl e
-  where
-    n : ℕ
-    n = prefix_len (λ x. not (not (test x))) tracked
+module _ {X Y : Type 0} (f : X → Y) where
+  pub map_insert : (xs : List X) (i : ℕ) (v : X) → i ≤ length xs → map f (insert xs i v) ≡ insert (map f xs) i (f v)
+  map_insert [] zero v h = refl
+  map_insert [] (suc i) v h = absurd (omega arith)
+  map_insert (x ∷ xs) zero v h = refl
+  map_insert (x ∷ xs) (suc i) v h = ap (λ l. f x ∷ l) (map_insert xs i v (omega arith))
 
-    at : (b : Bool) → ltb n (length tracked) ≡ b → None ≡ cond b (Some n) None → length tracked ≡ prefix_len test tracked
-    at true t h = absurd (cc)
-    at false t h =
-        let same : n ≡ prefix_len test tracked = both_not test tracked in
-        let within : prefix_len test tracked ≤ length tracked = prefix_within test tracked in
-        let past : length tracked ≤ n = ltb-false n (length tracked) t in
-        omega arith
+  pub map_remove : (xs : List X) (i : ℕ) → map f (remove xs i) ≡ remove (map f xs) i
+  map_remove [] zero = refl
+  map_remove [] (suc i) = refl
+  map_remove (x ∷ xs) zero = refl
+  map_remove (x ∷ xs) (suc i) = ap (λ l. f x ∷ l) (map_remove xs i)
 
--- a question that isn't there begins in its place
-pub begun_in_place : (moment word : ℕ) (question : Key) (tracked first second after : List Tracked) (had : Bool) (place : ℕ) (new : Tracked) → after ≡ insert tracked place new →
-    new ≡ begun moment word question → first ≡ tracked → second ≡ tracked → had ≡ list_any (is_for question) first → had ≡ false → place ≡ prefix_len (is_before question) second →
-    after ≡ with_user moment word question tracked
-begun_in_place moment word question tracked first second after had place new is began one two has none at =
-    is
-    ∙ ap (insert tracked place) began
-    ∙ ap (λ n. insert tracked n (begun moment word question)) (at ∙ ap (prefix_len (is_before question)) two)
-    ∙ inserted (begun moment word question) tracked
-    ∙ ap (λ b. cond b (map (used_more question) tracked) (insert_by tracked_cmp (begun moment word question) tracked)) (sym none ∙ has ∙ ap (list_any (is_for question)) one)
+-- those that pass a test, where all pass it, and where all but one at a place do
+module _ {X : Type 0} (p : X → Bool) where
+  pub all_pass : (xs : List X) → AllByRecursion (λ x. p x ≡ true) xs → filter p xs ≡ xs
+  all_pass [] h = refl
+  all_pass (x ∷ xs) h = ap (λ (b : Bool). cond b (x ∷ filter p xs) (filter p xs)) h.0 ∙ ap (λ (l : List X). x ∷ l) (all_pass xs h.1)
+
+  pub all_but_one : (xs : List X) (i : ℕ) (v : X) → i < length xs → p v ≡ false → AllByRecursion (λ x. p x ≡ true) xs → filter p (set xs i v) ≡ remove xs i
+  all_but_one [] i v h fails all = absurd (omega arith)
+  all_but_one (x ∷ xs) zero v h fails all = ap (λ (b : Bool). cond b (v ∷ filter p xs) (filter p xs)) fails ∙ all_pass xs all.1
+  all_but_one (x ∷ xs) (suc i) v h fails all =
+      ap (λ (b : Bool). cond b (x ∷ filter p (set xs i v)) (filter p (set xs i v))) all.0 ∙ ap (λ (l : List X). x ∷ l) (all_but_one xs i v (omega arith) fails all.1)

@@ -4,3 +4,4 @@ pub mod Next
 pub mod Standing
 pub mod Refreshing
 pub mod Kept
+pub mod Arranged

@@ -1,15 +1,18 @@
 // The questions that have users, and which of them are due.
-ghost use Rattle.std.specs.Prelude.{◌≡◌, ◌+◌, ◌<◌, ◌≤◌, ◌^◌, [], map, length, IsOk, OnOk, OnErr, IfOk};
+ghost use Rattle.std.specs.Prelude.{◌≡◌, ◌+◌, ◌<◌, ◌≤◌, ◌^◌, [], map, length, IsOk, OnOk, OnErr, IfOk, IfNone, IfSome};
 ghost use Rattle.std.specs.List.{list_any};
 ghost use Rattle.dns_name.specs.Lists.{least};
+ghost use Rattle.mdns_timer.specs.Parts.{NoneDue, IsFirstDue};
 ghost use Rattle.mdns_question.specs.Tracking.{is_for, with_user, without_user, with_asking};
 ghost use Rattle.mdns_question.specs.Refreshing.{with_refresh, IsToldAt, moment_of, due_by_kept};
 
 use crate::Tracked;
-use crate::kept::{due_by_kept, first_due, put_refresh, put_refresh_at};
-use crate::users::{add_user, has, note, take_user};
+use crate::changes::{note, put_refresh, put_refresh_at};
+use crate::kept::due_by_kept;
+use crate::users::{add_user, take_user};
 use dns_record::Key;
 use mdns_history::Cause;
+use mdns_timer::Deadlines;
 use std::alloc::{AllocError, Global};
 use std::marker::Model;
 
@@ -18,15 +21,20 @@ use std::marker::Model;
 #[derive(Drop)]
 pub struct Asker {
     questions: Vec<Tracked>,
+    // When each question is due.
+    deadlines: Deadlines,
 }
 
 impl Model for Asker {
-    ghost use Rattle.std.specs.Prelude.{◌-◌, vec_len, vec_capacity};
+    ghost use Rattle.std.specs.Prelude.{◌-◌, min, vec_len, vec_capacity};
     ghost use Rattle.mdns_question.specs.Kept.{Kept};
+    ghost use Rattle.mdns_question.specs.Arranged.{IsArranged};
 
     ghost Value = { Kept };
 
-    ghost view = { λ a. record { questions = a.questions.items; spare = vec_capacity a.questions - vec_len a.questions } };
+    ghost view = { λ a. record { questions = a.questions.items; spare = min (vec_capacity a.questions - vec_len a.questions) a.deadlines.spare } };
+
+    ghost invariant = { λ a. IsArranged a.questions.items a.deadlines.moments };
 }
 
 impl Asker {
@@ -36,6 +44,7 @@ impl Asker {
     {
         Asker {
             questions: Vec::new(alloc),
+            deadlines: Deadlines::new(alloc),
         }
     }
 
@@ -46,7 +55,7 @@ impl Asker {
         ensures kept { self.old.spare ≤ self.new.spare }
     {
         self.questions.reserve(more)?;
-        Ok(())
+        self.deadlines.reserve(more)
     }
 
     /// Gives a question one user more: a count of 2^64 - 1 stays. The first gives moment, random word and spelling, and the
@@ -59,7 +68,13 @@ impl Asker {
         ensures reserved { 1 ≤ self.old.spare → IsOk result }
         ensures spare { self.old.spare ≤ self.new.spare + 1 }
     {
-        add_user(&mut self.questions, now, word, question)
+        add_user(
+            &mut self.questions,
+            &mut self.deadlines,
+            now,
+            word,
+            question,
+        )
     }
 
     /// Takes one user from a question, which ends with its last; whether it had a user.
@@ -68,9 +83,7 @@ impl Asker {
         ensures questions { self.new.questions ≡ without_user question.now self.old.questions }
         ensures spare { self.old.spare ≤ self.new.spare }
     {
-        let had = has(&self.questions, question);
-        take_user(&mut self.questions, question);
-        had
+        take_user(&mut self.questions, &mut self.deadlines, question)
     }
 
     /// Notes that a question was asked. An asking of cause series or heard puts the next one of the series a gap later:
@@ -80,7 +93,13 @@ impl Asker {
         ensures questions { self.new.questions ≡ with_asking now question.now cause self.old.questions }
         ensures spare { self.new.spare ≡ self.old.spare }
     {
-        note(&mut self.questions, now, question, cause);
+        note(
+            &mut self.questions,
+            &mut self.deadlines,
+            now,
+            question,
+            cause,
+        );
     }
 
     /// Tells of a question the first refresh point, in ms, that calls for an asking of it (`first_refresh`), in place of what was
@@ -90,7 +109,7 @@ impl Asker {
         ensures questions { self.new.questions ≡ with_refresh question.now point self.old.questions }
         ensures spare { self.new.spare ≡ self.old.spare }
     {
-        put_refresh(&mut self.questions, question, point);
+        put_refresh(&mut self.questions, &mut self.deadlines, question, point);
     }
 
     /// Tells the same of the question at a place, counted from 0.
@@ -99,7 +118,7 @@ impl Asker {
         ensures questions { IsToldAt place point self.old.questions self.new.questions }
         ensures spare { self.new.spare ≡ self.old.spare }
     {
-        put_refresh_at(&mut self.questions, place, point);
+        put_refresh_at(&mut self.questions, &mut self.deadlines, place, point);
     }
 
     /// The questions that are due at `now`, in ms, by what is kept of them, refresh points too: by folded name and then by
@@ -107,7 +126,7 @@ impl Asker {
     pub fn due_by_kept(&self, alloc: Global, now: u64) -> Result<Vec<(Key, Cause)>, AllocError>
         ensures { IfOk result (λ due. due.items ≡ due_by_kept now self.now.questions) }
     {
-        due_by_kept(alloc, &self.questions, now)
+        due_by_kept(alloc, &self.questions, &self.deadlines, now)
     }
 
     /// The first moment, in ms, at which a question is due by what is kept of them; `None` exactly where there is no
@@ -115,7 +134,17 @@ impl Asker {
     pub fn first_due(&self) -> Option<u64>
         ensures { result ≡ least (map moment_of self.now.questions) }
     {
-        first_due(&self.questions)
+        self.deadlines.least()
+    }
+
+    /// The place of the first question, from the place `from` on, that is due at `now`, in ms, by what is kept of it; `None` exactly
+    /// where there is none. No record is looked at, and no question that isn't due.
+    pub fn next_due(&self, from: usize, now: u64) -> Option<usize>
+        ensures none { IfNone result (NoneDue (map moment_of self.now.questions) now from (length self.now.questions)) }
+        ensures within { IfSome result (λ place. place < length self.now.questions) }
+        ensures some { IfSome result (IsFirstDue (map moment_of self.now.questions) now from) }
+    {
+        self.deadlines.next_due(from, now)
     }
 
     /// The questions that have users, by folded name and then by type.

@@ -1,15 +1,15 @@
 // Which questions are due by what is kept of them, refresh points too: no record is looked at. (RFC 6762 5.2)
-ghost use Rattle.std.specs.Prelude.{◌≡◌, ◌++◌, ◌<◌, map, length, IfOk};
+ghost use Rattle.std.specs.Prelude.{◌≡◌, ◌++◌, map, IfOk, OnOk};
 ghost use Rattle.std.specs.Option.{option_to_list};
 ghost use Rattle.dns_name.specs.Lists.{least, least_of};
 ghost use Rattle.mdns_question.specs.Next.{open_in};
-ghost use Rattle.mdns_question.specs.Refreshing.{first_refresh, told, with_refresh, IsToldAt, moment_of, cause_of, due_by_kept};
+ghost use Rattle.mdns_question.specs.Refreshing.{first_refresh, moment_of, cause_of, with_cause, due_by_kept};
 
 use crate::Tracked;
-use crate::keys::key_eq;
 use crate::next::next_with;
 use dns_record::Key;
 use mdns_history::{Cause, Held};
+use mdns_timer::Deadlines;
 use std::alloc::{AllocError, Global};
 
 /// The first refresh point, in ms, that calls for an asking of a question once it has come, of records that are held: `None`
@@ -43,47 +43,34 @@ fn first_of(one: &Tracked, told: &Held) -> Option<u64>
     if first < told.end { Some(first) } else { None }
 }
 
-/// Puts the refresh point that was told of a question in place of the one told before.
-pub fn put_refresh(questions: &mut [Tracked], question: &Key, point: Option<u64>)
-    ensures { questions.new ≡ with_refresh question.now point questions.old }
-{
-    for one in questions.iter_mut() {
-        put_one_refresh(one, question, point);
-    }
-}
-
-fn put_one_refresh(one: &mut Tracked, question: &Key, point: Option<u64>)
-    ensures { one.new ≡ told question.now point one.old }
-{
-    if key_eq(question, &one.key) {
-        one.refresh = point;
-    }
-}
-
-/// Puts the refresh point that was told of the question at a place, counted from 0, in place of the one told before.
-pub fn put_refresh_at(questions: &mut [Tracked], place: usize, point: Option<u64>)
-    requires { place < length questions.old }
-    ensures { IsToldAt place point questions.old questions.new }
-{
-    questions[place].refresh = point;
-}
-
-/// The questions that are due at `now`, in ms, by what is kept of them, in their order, each with its cause. Refused only for
-/// want of memory.
+/// The questions that are due at `now`, in ms, by what is kept of them, in their order, each with its cause. The moments are those at which
+/// they are due. Refused only for want of memory.
 pub fn due_by_kept(
     alloc: Global,
     questions: &[Tracked],
+    deadlines: &Deadlines,
     now: u64,
 ) -> Result<Vec<(Key, Cause)>, AllocError>
+    requires { deadlines.now.moments ≡ map moment_of questions.now }
     ensures { IfOk result (λ due. due.items ≡ due_by_kept now questions.now) }
 {
     let mut due = Vec::new(alloc);
-    for one in questions {
-        if let Some(cause) = cause_of(one, now) {
-            due.push((one.key.copy(), cause))?;
-        }
+    let mut from = 0;
+    while let Some(place) = deadlines.next_due(from, now) {
+        put_due(&mut due, &questions[place], now)?;
+        from = place + 1;
     }
     Ok(due)
+}
+
+// Puts a question with its cause, if it is due.
+fn put_due(due: &mut Vec<(Key, Cause)>, one: &Tracked, now: u64) -> Result<(), AllocError>
+    ensures { OnOk result (due.new.items ≡ due.old.items ++ option_to_list (with_cause now one.now)) }
+{
+    if let Some(cause) = cause_of(one, now) {
+        due.push((one.key.copy(), cause))?;
+    }
+    Ok(())
 }
 
 // Why the question is due at `now`, if it is: its turn in the series goes before a refresh.
@@ -99,21 +86,8 @@ fn cause_of(one: &Tracked, now: u64) -> Option<Cause>
     }
 }
 
-/// The first moment, in ms, at which one of the questions is due by what is kept of them; `None` exactly where there is no
-/// question.
-pub fn first_due(questions: &[Tracked]) -> Option<u64>
-    ensures { result ≡ least (map moment_of questions.now) }
-{
-    let (first, rest) = questions.split_first()?;
-    let mut due = moment_of(first);
-    for one in rest {
-        due = due.min(moment_of(one));
-    }
-    Some(due)
-}
-
-// The first moment at which a question is due.
-fn moment_of(one: &Tracked) -> u64
+/// The first moment at which a question is due.
+pub fn moment_of(one: &Tracked) -> u64
     ensures { result ≡ moment_of one.now }
 {
     match one.refresh {

@@ -2,6 +2,7 @@
 #![tactic(auto)]
 
 mod asker;
+mod changes;
 mod kept;
 mod keys;
 mod law;

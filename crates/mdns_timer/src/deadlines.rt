@@ -1,5 +1,5 @@
 // Moments by place, with the least of them.
-ghost use Rattle.std.specs.Prelude.{◌≡◌, ◌+◌, ◌<◌, ◌≤◌, [], length, slice_set, OnOk, IfNone, IfSome};
+ghost use Rattle.std.specs.Prelude.{◌≡◌, ◌+◌, ◌<◌, ◌≤◌, [], length, slice_set, IsOk, OnOk, IfNone, IfSome};
 ghost use Rattle.std.specs.List.{insert, remove};
 ghost use Rattle.dns_name.specs.Lists.{least};
 ghost use Rattle.mdns_timer.specs.Parts.{NoneDue, IsFirstDue};
@@ -45,13 +45,17 @@ impl Deadlines {
         }
     }
 
-    /// Makes room for `more` moments. Nothing else changes. Refused only for want of memory.
+    /// Makes room for `more` moments. Nothing else changes. Refused only for want of memory, never where there is room.
     pub fn reserve(&mut self, more: usize) -> Result<(), AllocError>
         ensures moments { self.new.moments ≡ self.old.moments }
         ensures room { OnOk result (more ≤ self.new.spare) }
         ensures kept { self.old.spare ≤ self.new.spare }
+        ensures enough { more ≤ self.old.spare → IsOk result }
     {
         let len = self.moments.len();
+        if more <= self.moments.capacity().min(self.nodes.len()) - len {
+            return Ok(());
+        }
         if len > MOST || more > MOST {
             return Err(AllocError);
         }

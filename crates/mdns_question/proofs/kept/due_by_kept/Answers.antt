@@ -1,24 +1,17 @@
-use Rattle.std.proofs.Common.{◌≡◌, ◌∙◌, ◌+◌, ◌++◌, ◌∷◌, [], List, Option, Some, None, ap, sym, take, append-nil}
-use Rattle.std.specs.List.{filter_map, cons_option}
-use Rattle.std.specs.Option.{option_map}
-use Rattle.dns_record.specs.declared.record.Key.{Key}
-use Rattle.mdns_history.specs.declared.mark.Cause.{Cause}
-use Rattle.mdns_question.specs.Refreshing.{cause_of, with_cause}
-use Rattle.mdns_question.proofs.Loops.{filter_map-next}
+use Rattle.std.proofs.Common.{◌<◌, length, arith}
+use Rattle.mdns_question.proofs.Due.{next_put, none_left, within_timed}
 use Rattle.mdns_question.proofs.kept.due_by_kept.Goals as goal
-use Rattle.mdns_question.proofs.kept.due_by_kept.Goals.{in-Some+in_ok-push, in_default}
 
-pub loop-one-preserved : goal.loop-one-preserved
-loop-one-preserved c =
-    let before : List (Key × Cause) = filter_map (with_cause c.args.now) (take c.loop-one.one-index c.args.questions.now) in
-    let and_then : Option Cause → List (Key × Cause) = λ o. before ++ cons_option (option_map (λ cause. (c.one-item.result.key, cause)) o) [] in
-    let next : filter_map (with_cause c.args.now) (take (c.loop-one.one-index + 1) c.args.questions.now) ≡ and_then (cause_of c.args.now c.one-item.result) =
-    filter_map-next (with_cause c.args.now) c.args.questions.now c.loop-one.one-index c.one-item.result c.loop-one-test.true c.one-item.is in
-    elim c.match-cause_of.branch [
-      | in-Some+in_ok-push w ↦
-          let cause : cause_of c.args.now c.one-item.result ≡ Some w.in-Some.cause = sym c.cause_of.ensures ∙ w.in-Some.is in
-          ap (λ due. due.items) w.due-is ∙ w.in_ok-push.ensures.items ∙ (λ i. c.loop-one.invariant i ++ (w.copy.ensures i, w.in-Some.cause) ∷ []) ∙ sym (next ∙ ap and_then cause)
-      | in_default w ↦
-          let cause : cause_of c.args.now c.one-item.result ≡ None = sym c.cause_of.ensures ∙ w.in_default.is in
-          ap (λ due. due.items) w.due-is ∙ c.loop-one.invariant ∙ sym (next ∙ ap and_then cause ∙ append-nil before)
-    ]
+pub loop-place-preserved : goal.loop-place-preserved
+loop-place-preserved c =
+    let there : c.in-Some.place < length c.args.questions.now = within_timed c.args.questions.now c.args.deadlines.now.moments c.in-Some.place c.requires c.in-Some.ensures.within in
+    let found = c.in-Some.ensures.some in
+    record {
+      within = omega (arith, there);
+      due = next_put c.args.now c.args.questions.now c.args.deadlines.now.moments c.loop-place.from c.in-Some.place c.index-questions-place.result c.loop-place.due.items c.put_due.new.due.items
+          c.requires found.behind there found.first c.index-questions-place.is c.loop-place.invariant.due c.in_ok-put_due.ensures;
+    }
+
+pub returns : goal.returns
+returns c =
+    none_left c.args.now c.args.questions.now c.args.deadlines.now.moments c.loop-place.from c.loop-place.due.items c.requires c.loop-place.invariant.within c.in_default.ensures.none c.loop-place.invariant.due

@@ -1,7 +1,30 @@
-use Rattle.mdns_question.proofs.Places.{begun_in_place}
+use Rattle.std.proofs.Common.{List, subst}
+use Rattle.mdns_question.specs.declared.tracked.Tracked.{Tracked}
+use Rattle.mdns_question.specs.Arranged.{IsAt, IsBetween}
+use Rattle.mdns_question.proofs.Arranged.{more_user, arranged_more, begun_ok, arranged_either}
 use Rattle.mdns_question.proofs.users.add_user.Goals as goal
 
-pub returns-clause-ok : goal.returns-clause-ok
-returns-clause-ok c =
-    begun_in_place c.args.now c.args.word c.args.question.now c.args.questions.now.items c.deref.result.now c.deref-2.result.now c.insert.new.self.items c.has.result c.place_of-place.result c.begun.result
-    c.in_ok-insert.ensures.items c.begun.ensures c.deref.ensures.value c.deref-2.ensures.value c.has.ensures c.if-has.false c.place_of-place.ensures.place
+at : (c : goal.After-use_more) → IsAt c.args.questions.now.items c.args.question.now c.in-Ok.place
+at c = subst (λ (qs : List Tracked). IsAt qs c.args.question.now c.in-Ok.place) c.deref.ensures.value c.in-Ok.ensures.found
+
+between : (c : goal.After-begin) → IsBetween c.args.questions.now.items c.args.question.now c.in-Err.place
+between c = subst (λ (qs : List Tracked). IsBetween qs c.args.question.now c.in-Err.place) c.deref.ensures.value c.in-Err.ensures.apart
+
+pub returns-in-Ok-clause-ok : goal.returns-in-Ok-clause-ok
+returns-in-Ok-clause-ok c =
+    more_user c.args.questions.now.items c.args.question.now c.in-Ok.place c.requires.arranged.order (at c) c.args.now c.args.word c.use_more.new.questions.items c.use_more.ensures.items
+
+pub returns-in-Ok-clause-arranged : goal.returns-in-Ok-clause-arranged
+returns-in-Ok-clause-arranged c =
+    let place = at c in
+    arranged_more c.args.questions.now.items c.args.deadlines.now.moments c.requires.arranged c.in-Ok.place place.within c.use_more.new.questions.items c.use_more.ensures.items
+
+pub returns-in-Err-clause-ok : goal.returns-in-Err-clause-ok
+returns-in-Err-clause-ok c =
+    begun_ok c.args.questions.now.items c.args.deadlines.now.moments c.requires.arranged c.args.question.now c.in-Err.place (between c) c.begun.result c.args.now c.args.word c.begun.ensures
+    c.begin.result c.begin.new.questions.items c.begin.ensures.items
+
+pub returns-in-Err-clause-arranged : goal.returns-in-Err-clause-arranged
+returns-in-Err-clause-arranged c =
+    arranged_either c.args.questions.now.items c.args.deadlines.now.moments c.requires.arranged c.args.question.now c.in-Err.place (between c) c.begun.result c.args.now c.args.word c.begun.ensures
+    c.begin.result c.begin.new.questions.items c.begin.new.deadlines.moments c.begin.ensures.items c.begin.ensures.moments c.begin.ensures.items_err c.begin.ensures.moments_err

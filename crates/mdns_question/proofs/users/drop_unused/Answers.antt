@@ -1,7 +1,0 @@
-use Rattle.std.proofs.Common.{rules}
-use Rattle.std.proofs.lemmas.Fn.{filter_same}
-use Rattle.mdns_question.specs.Tracking.{is_used}
-use Rattle.mdns_question.proofs.users.drop_unused.Goals as goal
-
-pub returns-clause-items : goal.returns-clause-items
-returns-clause-items c = filter_same _ is_used _ (λ x b f k. search rules) _ _ c.retain.ensures.filtered
