@@ -67,6 +67,13 @@ impl Deadlines {
         Ok(())
     }
 
+    /// How many moments there are.
+    pub fn len(&self) -> usize
+        ensures { result ≡ length self.now.moments }
+    {
+        self.moments.len()
+    }
+
     /// Puts a moment at a place; what stands there and behind it moves up.
     pub fn insert(&mut self, place: usize, moment: u64)
         requires place { place ≤ length self.old.moments }
