@@ -1,0 +1,10 @@
+-- Laws of legal histories.
+use Rattle.std.specs.Prelude.{◌≡◌, true, List}
+use Rattle.mdns_history.specs.declared.entry.Entry.{Entry}
+use Rattle.mdns_history.specs.InForce.{Duties}
+use Rattle.mdns_history.specs.Fitting.{IsLegalFrom}
+use Rattle.plain_history.specs.Standing.{may_stand}
+
+-- Each entry of a legal history may stand in one.
+abbrev pub EntriesMayStand : Type 0
+EntriesMayStand = (duties : Duties) (entry : Entry) (past : List Entry) → IsLegalFrom duties entry past → may_stand entry ≡ true

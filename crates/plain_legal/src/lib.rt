@@ -1,0 +1,6 @@
+//! Which histories are legal, computed plainly from the whole list of entries.
+#![tactic(auto)]
+
+mod law;
+
+pub use law::legal_entries_may_stand;
