@@ -1,1 +1,2 @@
+pub mod MarksOf
 pub mod Standing

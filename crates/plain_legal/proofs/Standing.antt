@@ -1,5 +1,5 @@
 -- Entries of legal histories may stand in one.
-use Rattle.std.proofs.Common.{◌≡◌, ℕ, ◌+◌, ◌==◌, ◌<◌, ◌≤◌, Bool, true, false, cond, not, ◌&&◌, ◌||◌, List, [], ◌∷◌, ◌++◌, map, Option, Some, None, refl, ap, subst, ◌∙◌, sym, arith, ℤ}
+use Rattle.std.proofs.Common.{◌≡◌, ℕ, ◌+◌, ◌==◌, ◌≤◌, Bool, true, false, cond, not, ◌&&◌, ◌||◌, List, [], ◌∷◌, ◌++◌, map, Option, Some, None, refl, ap, ◌∙◌, arith}
 use Rattle.std.specs.Prelude.{filter, nat_lt, nat_le}
 use Rattle.std.specs.List.{list_all, filter_map, cons_option}
 use Rattle.std.specs.Option.{is_some, option_map_or}
@@ -15,11 +15,9 @@ use Rattle.mdns_history.specs.declared.mark.Mark.{Mark}
 use Rattle.mdns_history.specs.declared.mark.Mark.TheVariants as mark
 use Rattle.mdns_history.specs.declared.mark.Cause.{Cause}
 use Rattle.mdns_history.specs.declared.mark.Cause.TheVariants as cause
-use Rattle.mdns_history.specs.declared.entry.Outcome.{Outcome}
 use Rattle.mdns_history.specs.declared.entry.Outcome.TheVariants as outcome
 use Rattle.mdns_history.specs.declared.entry.Entry.{Entry}
 use Rattle.mdns_history.specs.InForce.{Duties, only_if}
-use Rattle.mdns_history.specs.History.{has_mark}
 use Rattle.mdns_history.specs.Hearings.{Heard, brought, counted_records}
 use Rattle.mdns_history.specs.Lifetimes.{is_too_full}
 use Rattle.mdns_history.specs.Sessions.{accepted_call, accepted_in, operation_request, is_attached, is_cut}
@@ -30,7 +28,7 @@ use Rattle.mdns_history.specs.Sureness.{is_sure}
 use Rattle.mdns_history.specs.Claims.{was_probed, greatest_number, giving_up, claim_mark, Holding, holding_of, held_by_others, holdings_after, marks_in_turn, claim_marks}
 use Rattle.mdns_history.specs.Items.{cut_marks, served_sessions, would_pass}
 use Rattle.mdns_history.specs.Outcomes.{call_code, is_bad_reference, is_unsupported, is_refused, is_name_conflict, early_outcome, late_outcome}
-use Rattle.mdns_history.specs.Fitting.{bare_entry, bad_mark, refusal_marks, admitted, disturbed_marks, asked_marks, announced_marks, event_marks, noted, next_entry, boot_entry, last_moment, IsLegalFrom}
+use Rattle.mdns_history.specs.Fitting.{bare_entry, refusal_marks, admitted, disturbed_marks, asked_marks, announced_marks, event_marks, noted, next_entry, boot_entry, last_moment, IsLegalFrom}
 use Rattle.mdns_history.specs.Announcing.{announced_groups}
 use Rattle.plain_history.specs.Standing.{is_sound_call, is_small, may_stand}
 use Rattle.mdns_asserts.proofs.Elements.{and_both, and_first, and_second}

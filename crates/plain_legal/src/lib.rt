@@ -2,5 +2,7 @@
 #![tactic(auto)]
 
 mod law;
+mod marks;
 
 pub use law::legal_entries_may_stand;
+pub use marks::event_marks;
