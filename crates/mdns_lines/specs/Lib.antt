@@ -1,0 +1,6 @@
+pub mod LineText
+pub mod Words
+pub mod ReadCalls
+pub mod ReadEvents
+pub mod ReadItems
+pub mod ReadLines
