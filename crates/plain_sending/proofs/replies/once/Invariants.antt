@@ -1,0 +1,6 @@
+use Rattle.std.proofs.Common.{◌≡◌, ◌==◌, ℕ, take}
+use Rattle.dns_name.specs.Lists.{each_once}
+use Rattle.plain_sending.proofs.replies.once.Given as goal
+
+abbrev pub invariant-loop-index : goal.invariant-loop-index
+invariant-loop-index l = l.kept.items ≡ each_once (λ (a b : ℕ). a == b) (take l.index l.places)

@@ -1,0 +1,6 @@
+use Rattle.std.proofs.Common.{◌≡◌, map}
+use Rattle.mdns_history.specs.Sending.{to_all}
+use Rattle.plain_sending.proofs.sent.each_to_all.Given as goal
+
+abbrev pub invariant-loop-message : goal.invariant-loop-message
+invariant-loop-message l = l.sent.items ≡ map to_all l.yielded
