@@ -1,2 +1,3 @@
 pub mod Lists
 pub mod Ticks
+pub mod Sends

@@ -1,5 +1,5 @@
 -- What the last entry of a history sends, told by the history with the entry and the one before it.
-use Rattle.std.specs.Prelude.{ℕ, not, List, [], ◌∷◌, ◌++◌, map, filter}
+use Rattle.std.specs.Prelude.{ℕ, Bool, true, not, List, [], ◌∷◌, ◌++◌, map, filter}
 use Rattle.std.specs.List.{flat_map}
 use Rattle.dns_name.specs.Lists.{ordered, without}
 use Rattle.dns_record.specs.declared.record.Rr.{Rr}
@@ -12,12 +12,19 @@ use Rattle.mdns_history.specs.Groups.{Group, group_records, is_group}
 use Rattle.mdns_history.specs.Sureness.{own_records, sure_groups}
 use Rattle.mdns_history.specs.Announcing.{announced_groups}
 use Rattle.mdns_history.specs.Multicasts.{released_records}
-use Rattle.mdns_history.specs.Sending.{is_free, taken_back, to_all, wanted_by}
+use Rattle.mdns_history.specs.Asking.{tick_askings}
+use Rattle.mdns_history.specs.Sending.{is_free, sent_probes, sent_queries, sent_unicasts, taken_back, to_all, wanted_by}
+use Rattle.plain_history.specs.Last.{are_by}
 
 -- what f says of the last entry and the history before it, and nothing where there is no entry
 abbrev pub of_last : {X : Type 0} → (Entry → List Entry → List X) → List Entry → List X
 of_last f [] = []
 of_last f (entry ∷ past) = f entry past
+
+-- no entry before the last one is later than it
+abbrev pub past_is_by : List Entry → Bool
+past_is_by [] = true
+past_is_by (entry ∷ past) = are_by entry.moment past
 
 -- the records of announcements of a moment
 abbrev pub announced_in : List Entry → List Entry → ℕ → List Rr
@@ -41,3 +48,10 @@ ended_in history past = filter (λ group. not (is_group group.id history)) (sure
 abbrev pub goodbyes_in : List Entry → List Entry → List Sent
 goodbyes_in history past =
     map to_all (pack_plain (map taken_back (without same (ordered record_cmp (flat_map (λ group. group_records group past) (ended_in history past))) (own_records history))))
+
+-- all that is sent at a moment
+abbrev pub sends_in : Duties → List Entry → List Entry → ℕ → List Sent
+sends_in duties history past moment =
+    only_if duties.claiming (sent_probes past moment)
+    ++ (only_if duties.asking (sent_queries (tick_askings past moment) past moment)
+    ++ (multicasts_in duties history past moment ++ only_if duties.replying (sent_unicasts past moment)))
