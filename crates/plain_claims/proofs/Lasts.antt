@@ -1,5 +1,5 @@
 -- What is said of the last entry of which something is said, looked for from the last entry on.
-use Rattle.std.proofs.Common.{◌≡◌, ℕ, List, [], ◌∷◌, length, refl, ap, sym, ◌∙◌, Option, Some, None, arith}
+use Rattle.std.proofs.Common.{◌≡◌, List, [], ◌∷◌, length, refl, ap, sym, ◌∙◌, Option, Some, None, arith}
 use Rattle.std.specs.Option.{option_or}
 use Rattle.mdns_history.specs.declared.entry.Entry.{Entry}
 use Rattle.mdns_history.specs.History.{last_at}

@@ -1,6 +1,6 @@
 -- The unique records of a group have its name, and which records clash with them.
 use Rattle.std.proofs.Common.{◌≡◌, ℕ, ◌==◌, Bool, true, false, cond, ◌&&◌, ◌||◌, List, [], ◌∷◌, ◌++◌, map, refl, Option, Some, None}
-use Rattle.std.specs.List.{list_all, list_any, flat_map}
+use Rattle.std.specs.List.{list_all, flat_map}
 use Rattle.std.specs.Option.{option_and_then, option_to_list}
 use Rattle.std.proofs.lemmas.List.Folds.{list_any-append}
 use Rattle.dns_name.specs.Names.{folded_eq}

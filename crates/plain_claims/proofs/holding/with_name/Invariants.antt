@@ -1,4 +1,4 @@
-use Rattle.std.proofs.Common.{◌≡◌, ◌==◌, ◌≤◌, length, map, vec_len}
+use Rattle.std.proofs.Common.{◌≡◌, ◌==◌, length, map, vec_len}
 use Rattle.std.specs.Prelude.{if◌then◌else◌}
 use Rattle.mdns_history.specs.Claims.{Holding}
 use Rattle.plain_claims.proofs.holding.with_name.Given as goal
