@@ -1,0 +1,12 @@
+//! Transcripts read back: from the text of up to sixteen daemons' entries to the rows that it is the print of.
+#![tactic(auto)]
+
+mod draft;
+mod message;
+mod print;
+mod read;
+mod row;
+
+pub use print::print_transcript;
+pub use read::{TranscriptError, read_transcript};
+pub use row::{Row, Transcript};
