@@ -1,12 +1,12 @@
 #!/usr/bin/env python3
-"""Refuses each allocation of a script in turn, once: `mdnsd script` has to end with 6, and with a beginning of the right output.
+"""Refuses each allocation of a script in turn, once: `mdnsd script` has to end with 6, and with a beginning of the right output, or else, where it
+can do without that memory (a buffer that is as large as the input, say), with 0 and all of it.
 
     python3 bench/refused.py [PROGRAM] [SCRIPT ..]
 
 PROGRAM is crates/mdnsd/out/mdnsd where none is given, and the scripts are those of examples/ that have a transcript. It wants a C compiler
 (cc): a small library that is loaded before the program forks it at each allocation, and in the fork refuses that one and lets it run to its
-end. Where the first words of the command line are read, memory may be refused, too. One table is printed; it ends with 1 where something
-else came. Nothing here is part of the gate.
+end. One table is printed; it ends with 1 where something else came. Nothing here is part of the gate.
 """
 import glob
 import os
@@ -129,9 +129,8 @@ def tried(program, library, script):
                 ends[ended] += 1
                 with open(f"{folder}/{number}", "rb") as put:
                     said = put.read()
-                if not whole[1][before:].startswith(said):
-                    wrong.append(f"allocation {number}: no beginning of the output")
-                elif ended != 6:
+                rest = whole[1][before:]
+                if (ended != 6 or not rest.startswith(said)) and (ended, said) != (whole[0], rest):
                     wrong.append(f"allocation {number}: ended with {ended}")
     return count, ends, wrong
 
@@ -140,12 +139,12 @@ def main(words):
     program = words[0] if words else f"{TOP}/crates/mdnsd/out/mdnsd"
     scripts = words[1:] or sorted(it for it in glob.glob(f"{TOP}/examples/*.script") if os.path.isfile(it.replace(".script", ".transcript")))
     failed = False
-    print("| Script | Allocations, each refused once | Ended with 6 and a beginning of the output |\n|---|---|---|")
+    print("| Script | Allocations, each refused once | Ended with 6 and a beginning of the output | Did without, with 0 and all of it |\n|---|---|---|---|")
     with tempfile.TemporaryDirectory(prefix="refused-") as folder:
         library = built(folder)
         for script in scripts:
             count, ends, wrong = tried(program, library, script)
-            print(f"| {os.path.basename(script)} | {count} | {ends[6] - len([it for it in wrong if 'beginning' in it])} |", flush=True)
+            print(f"| {os.path.basename(script)} | {count} | {ends[6]} | {ends[0]} |", flush=True)
             for it in wrong[:8]:
                 print(f"wrong: {script}: {it}", file=sys.stderr)
             failed = failed or bool(wrong)

@@ -1,2 +1,5 @@
+pub mod Fitted
 pub mod MarksOf
+pub mod SentBy
+pub mod Staged
 pub mod Standing

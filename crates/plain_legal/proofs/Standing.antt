@@ -28,8 +28,9 @@ use Rattle.mdns_history.specs.Sureness.{is_sure}
 use Rattle.mdns_history.specs.Claims.{was_probed, greatest_number, giving_up, claim_mark, Holding, holding_of, held_by_others, holdings_after, marks_in_turn, claim_marks}
 use Rattle.mdns_history.specs.Items.{cut_marks, served_sessions, would_pass}
 use Rattle.mdns_history.specs.Outcomes.{call_code, is_bad_reference, is_unsupported, is_refused, is_name_conflict, early_outcome, late_outcome}
-use Rattle.mdns_history.specs.Fitting.{bare_entry, refusal_marks, admitted, disturbed_marks, asked_marks, announced_marks, event_marks, noted, next_entry, boot_entry, last_moment, IsLegalFrom}
+use Rattle.mdns_history.specs.Fitting.{bare_entry, refusal_marks, admitted, disturbed_marks, asked_marks, announced_marks, event_marks, noted, with_cuts, with_items, next_entry, boot_entry, last_moment, IsLegalFrom}
 use Rattle.mdns_history.specs.Announcing.{announced_groups}
+use Rattle.plain_history.specs.Last.{are_by}
 use Rattle.plain_history.specs.Standing.{is_sound_call, is_small, may_stand}
 use Rattle.mdns_asserts.proofs.Elements.{and_both, and_first, and_second}
 use Rattle.mdns_asserts.proofs.Followed.{marks-next}
@@ -48,12 +49,12 @@ call_formed session op request past =
     formed (is_start request && is_some (operation_request session op past)) (is_bad_reference session op request past) (well_formed request) (is_unsupported request past)
     (is_refused session request past) (is_name_conflict request past)
 
-sound : (ev : Event) (past later : List Entry) → is_sound_call (accepted_call ev (late_outcome ev (early_outcome ev past) later)) ≡ true
+early_sound : (ev : Event) (past : List Entry) → is_sound_call (accepted_call ev (early_outcome ev past)) ≡ true
 unfolding early_outcome
-sound (event.Boot config) past later = refl
-sound event.Attach past later = refl
-sound (event.Detach session) past later = refl
-sound (event.Call session op request) past later = of (is_attached session past) (is_cut session past)
+early_sound (event.Boot config) past = refl
+early_sound event.Attach past = refl
+early_sound (event.Detach session) past = refl
+early_sound (event.Call session op request) past = of (is_attached session past) (is_cut session past)
   where
     coded : (b : Bool) → int_eq (call_code session op request past) no_error ≡ b →
         is_sound_call (cond b (Some (record { session = session; op = op; request = request })) None) ≡ true
@@ -64,6 +65,15 @@ sound (event.Call session op request) past later = of (is_attached session past)
     of false c = refl
     of true true = refl
     of true false = coded (int_eq (call_code session op request past) no_error) refl
+early_sound (event.Hear from bytes) past = refl
+early_sound event.Tick past = refl
+early_sound (event.Take session max) past = refl
+
+sound : (ev : Event) (past later : List Entry) → is_sound_call (accepted_call ev (late_outcome ev (early_outcome ev past) later)) ≡ true
+sound (event.Boot config) past later = refl
+sound event.Attach past later = refl
+sound (event.Detach session) past later = refl
+sound (event.Call session op request) past later = early_sound (event.Call session op request) past
 sound (event.Hear from bytes) past later = refl
 sound event.Tick past later = refl
 sound (event.Take session max) past later = refl
@@ -208,8 +218,38 @@ next_sound : (duties : Duties) (past : List Entry) (moment word : ℕ) (ev : Eve
 unfolding next_entry
 next_sound duties past moment word ev = sound ev past _
 
+-- ---- the stages in which it is made
+
 in_time : (moment most : ℕ) → moment ≤ most → nat_le moment most ≡ true
 in_time moment most h = grind arith
+
+stands_if : (entry : Entry) → entry.moment ≤ last_moment → is_sound_call (accepted_in entry) ≡ true → list_all is_small entry.marks ≡ true → may_stand entry ≡ true
+stands_if entry early call marks =
+    and_both (nat_le entry.moment last_moment && is_sound_call (accepted_in entry)) (list_all is_small entry.marks)
+    (and_both (nat_le entry.moment last_moment) (is_sound_call (accepted_in entry)) (in_time entry.moment last_moment early) call) marks
+
+module _ (duties : Duties) (past : List Entry) (moment word : ℕ) (ev : Event) (early : moment ≤ last_moment) where
+  -- the entry with its marks and what it sends
+  abbrev marked : Entry
+  marked = noted duties (bare_entry moment word ev past) past
+
+  marked_small : list_all is_small marked.marks ≡ true
+  marked_small = marks_small duties (bare_entry moment word ev past) past
+
+  cut_small : list_all is_small (with_cuts marked past).marks ≡ true
+  cut_small = small_append marked.marks (cut_marks marked past) marked_small (cuts_small marked past)
+
+  pub bare_stands : may_stand (bare_entry moment word ev past) ≡ true
+  bare_stands = stands_if (bare_entry moment word ev past) early (early_sound ev past) refl
+
+  pub noted_stands : may_stand (noted duties (bare_entry moment word ev past) past) ≡ true
+  noted_stands = stands_if marked early (early_sound ev past) marked_small
+
+  pub cutting_stands : may_stand (with_cuts (noted duties (bare_entry moment word ev past) past) past) ≡ true
+  cutting_stands = stands_if (with_cuts marked past) early (early_sound ev past) cut_small
+
+  pub giving_stands : may_stand (with_items (with_cuts (noted duties (bare_entry moment word ev past) past) past) past) ≡ true
+  giving_stands = stands_if (with_items (with_cuts marked past) past) early (early_sound ev past) cut_small
 
 -- an entry that is this one may stand
 same_stands : (entry e : Entry) → entry ≡ e → entry.moment ≤ last_moment → is_sound_call (accepted_in e) ≡ true → list_all is_small e.marks ≡ true → may_stand entry ≡ true
@@ -223,3 +263,21 @@ stands duties entry [] legal = same_stands entry (boot_entry entry.moment entry.
 stands duties entry (before ∷ past) legal =
     same_stands entry (next_entry duties (before ∷ past) entry.moment entry.word entry.event) legal.0.determined legal.0.in_time
     (next_sound duties (before ∷ past) entry.moment entry.word entry.event) (next_small duties (before ∷ past) entry.moment entry.word entry.event)
+
+-- ---- no entry of a legal history is later than its last one
+
+pub legal_by : (duties : Duties) (entry : Entry) (past : List Entry) (limit : ℕ) → IsLegalFrom duties entry past → entry.moment ≤ limit → are_by limit (entry ∷ past) ≡ true
+legal_by duties entry [] limit legal early = and_both (nat_le entry.moment limit) true (in_time entry.moment limit early) refl
+legal_by duties entry (before ∷ past) limit legal early =
+    and_both (nat_le entry.moment limit) (are_by limit (before ∷ past)) (in_time entry.moment limit early)
+    (legal_by duties before past limit legal.1 (let later : before.moment ≤ entry.moment = legal.0.later in omega (arith, later, early)))
+
+-- the entry that follows may stand
+next_moment : (duties : Duties) (past : List Entry) (moment word : ℕ) (ev : Event) → moment ≤ last_moment → (next_entry duties past moment word ev).moment ≤ last_moment
+unfolding next_entry
+next_moment duties past moment word ev early = early
+
+pub next_stands : (duties : Duties) (past : List Entry) (moment word : ℕ) (ev : Event) (next : Entry) → moment ≤ last_moment → next ≡ next_entry duties past moment word ev → may_stand next ≡ true
+next_stands duties past moment word ev next early is =
+    ap may_stand is
+    ∙ stands_if (next_entry duties past moment word ev) (next_moment duties past moment word ev early) (next_sound duties past moment word ev) (next_small duties past moment word ev)
