@@ -1,5 +1,5 @@
 -- What entries multicast, told message by message and section by section.
-use Rattle.std.proofs.Common.{◌≡◌, ltb, eqb, Bool, true, false, ◌&&◌, ◌||◌, List, [], ◌∷◌, ◌++◌, refl, ap, ◌∙◌}
+use Rattle.std.proofs.Common.{◌≡◌, ltb, eqb, Bool, ◌&&◌, ◌||◌, List, [], ◌∷◌, ◌++◌, refl, ap, ◌∙◌}
 use Rattle.std.specs.List.{list_any, flat_map}
 use Rattle.std.proofs.lemmas.List.Folds.{list_any-append}
 use Rattle.dns_record.specs.declared.record.Rr.{Rr}

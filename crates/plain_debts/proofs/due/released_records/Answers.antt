@@ -1,4 +1,4 @@
-use Rattle.std.proofs.Common.{◌≡◌, ◌∙◌, List, map, ap}
+use Rattle.std.proofs.Common.{◌∙◌, List, map, ap}
 use Rattle.std.specs.Prelude.{filter}
 use Rattle.dns_name.specs.Lists.{ordered}
 use Rattle.dns_record.specs.Records.{record_cmp}

@@ -1,4 +1,4 @@
-use Rattle.std.proofs.Common.{◌≡◌, ◌∙◌, List, map, ap}
+use Rattle.std.proofs.Common.{◌∙◌, List, map, ap}
 use Rattle.std.specs.List.{list_all}
 use Rattle.mdns_history.specs.Debts.{Owed, debt_of, is_unique}
 use Rattle.plain_debts.proofs.query.debts_from.Goals as goal

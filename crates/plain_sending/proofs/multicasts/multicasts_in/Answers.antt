@@ -1,8 +1,7 @@
 use Rattle.std.proofs.Common.{◌≡◌, ◌∙◌, List, map, ap}
-use Rattle.std.specs.Prelude.{filter}
 use Rattle.dns_record.specs.declared.record.Rr.{Rr}
 use Rattle.mdns_history.specs.Sureness.{own_records}
-use Rattle.mdns_history.specs.Sending.{is_free, to_all, wanted_by}
+use Rattle.mdns_history.specs.Sending.{to_all}
 use Rattle.plain_sending.specs.Ticked.{answers_in}
 use Rattle.plain_sending.proofs.Ticks.{packed_wantings, wantings_for}
 use Rattle.plain_sending.proofs.multicasts.multicasts_in.Goals as goal
