@@ -4,3 +4,4 @@ pub mod ReadCalls
 pub mod ReadEvents
 pub mod ReadItems
 pub mod ReadLines
+pub mod Printable

@@ -7,6 +7,7 @@
 mod answers;
 mod events;
 mod items;
+mod laws;
 mod line;
 mod marks;
 mod print;
@@ -17,6 +18,7 @@ mod requests;
 mod sent;
 mod tokens;
 
+pub use laws::printed_lines_are_read;
 pub use line::{Ending, Line, Section};
 pub use print::print_line;
 pub use read::read_line;
