@@ -1,5 +1,5 @@
 -- What is written leaves the names that were written before.
-use Rattle.std.proofs.Common.{◌≡◌, ℕ, ◌+◌, ◌++◌, List, [], ◌∷◌, ◌∙◌, length, take, refl, ap, sym, arith, min, cond, length-append, append-nil, append_assoc, Option, Some, None}
+use Rattle.std.proofs.Common.{◌≡◌, ℕ, ◌+◌, ◌++◌, List, [], ◌∷◌, ◌∙◌, length, take, refl, ap, sym, arith, min, cond, append-nil, append_assoc, Option, Some, None}
 use Rattle.std.specs.Prelude.{nat_le}
 use Rattle.std.proofs.Math.Seq.{take-append_seam}
 use Rattle.dns_record.specs.declared.record.Rr.{Rr}

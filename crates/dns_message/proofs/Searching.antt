@@ -1,7 +1,7 @@
 -- The search for a name begins at the first place of its slot.
-use Rattle.std.proofs.Common.{◌≡◌, ℕ, zero, suc, ◌+◌, ◌*◌, ◌%◌, ◌<◌, ◌≤◌, ◌⊎◌, inl, inr, ◌++◌, List, [], ◌∷◌, ◌∙◌, Bool, true, false, cond, length, take, drop, set, get_or, refl, arith, ap, sym, subst, append-nil, Option, Some, None}
-use Rattle.std.proofs.Math.Seq.{take-nil, take-length, drop-cons, drop-length}
-use Rattle.std.proofs.lemmas.List.{take-append-le, nil_from_length, take-append-drop}
+use Rattle.std.proofs.Common.{◌≡◌, ℕ, zero, suc, ◌+◌, ◌*◌, ◌%◌, ◌<◌, ◌≤◌, ◌⊎◌, inl, inr, ◌++◌, List, [], ◌∷◌, ◌∙◌, Bool, true, false, cond, length, take, drop, set, get_or, refl, arith, ap, sym, Some, None}
+use Rattle.std.proofs.Math.Seq.{take-nil, take-length, drop-cons}
+use Rattle.std.proofs.lemmas.List.{take-append-le, take-append-drop}
 use Rattle.std.proofs.lemmas.List.{get_or-set_same, get_or-set_other}
 use Rattle.std.proofs.lemmas.Bool.Decides.{leb_tells, eqb_tells}
 use Rattle.std.specs.Prelude.{IsTrue, eqb, leb}

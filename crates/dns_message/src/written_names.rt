@@ -81,11 +81,9 @@ impl<'a> WrittenNames<'a> {
     pub(crate) fn new(alloc: Global) -> Result<Self, AllocError>
         ensures { IfOk result (λ names. names ≡ []) }
     {
-        let mut firsts = Vec::new(alloc);
-        firsts.resize(SLOTS, u16::MAX)?;
         Ok(WrittenNames {
             suffixes: Vec::new(alloc),
-            firsts,
+            firsts: Vec::from_array(alloc, [u16::MAX; SLOTS])?,
         })
     }
 

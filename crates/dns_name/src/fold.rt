@@ -45,6 +45,10 @@ pub(crate) fn is_same_folded(left: &[u8], right: &[u8]) -> bool
     if left.len() != right.len() {
         return false;
     }
+    // Most names that are the same are spelled the same, too.
+    if left == right {
+        return true;
+    }
     for (i, byte) in left.iter().enumerate() {
         if !is_same_letter(*byte, right[i]) {
             return false;

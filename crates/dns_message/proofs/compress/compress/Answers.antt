@@ -1,4 +1,4 @@
-use Rattle.std.proofs.Common.{◌≡◌, ◌-◌, ◌++◌, ℕ, List, [], ◌∷◌, length, arith, ap, ◌∙◌, append-nil, length-append}
+use Rattle.std.proofs.Common.{◌≡◌, ◌-◌, length, arith, ap, ◌∙◌, append-nil, length-append}
 use Rattle.dns_message.specs.Writing.{Piece}
 use Rattle.dns_message.proofs.NameParts.{begins, found, pushed_on, ended}
 use Rattle.dns_message.proofs.compress.compress.Goals as goal

@@ -1,5 +1,4 @@
-use Rattle.std.proofs.Common.{◌≡◌, ◌+◌, ◌∙◌, ◌<◌, ◌*◌, ◌%◌, ℕ, ap, sym, arith, take, length, get_or}
-use Rattle.dns_message.specs.Compressing.{mixed}
+use Rattle.std.proofs.Common.{◌∙◌, sym, arith}
 use Rattle.dns_message.proofs.NameParts.{cut_in}
 use Rattle.dns_message.proofs.Searching.{mixed_step, mixed_end}
 use Rattle.dns_message.proofs.written_names.slot_of.Goals as goal

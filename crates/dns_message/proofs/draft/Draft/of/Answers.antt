@@ -1,5 +1,4 @@
-use Rattle.std.proofs.Common.{◌≡◌, ◌++◌, refl}
-use Rattle.dns_record.specs.declared.record.Rr.{Rr}
+use Rattle.std.proofs.Common.{refl}
 use Rattle.dns_message.proofs.Drafts.{nothing_drafted}
 use Rattle.dns_message.proofs.draft.Draft.of.Goals as goal
 

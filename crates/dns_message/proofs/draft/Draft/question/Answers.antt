@@ -1,4 +1,4 @@
-use Rattle.std.proofs.Common.{◌≡◌, ◌<◌, ◌∙◌, ℕ, true, false, true≢false, ap, sym, subst, length}
+use Rattle.std.proofs.Common.{◌<◌, ◌∙◌, ℕ, true≢false, ap, sym, subst, length}
 use Rattle.std.specs.Prelude.{Option, IfSome}
 use Rattle.dns_message.specs.declared.message.Message.{Message}
 use Rattle.dns_message.specs.Writing.{Offsets, written, written_question}

@@ -1,4 +1,4 @@
-use Rattle.std.proofs.Common.{◌≡◌, ◌+◌, ◌∙◌, ◌++◌, ℕ, List, cond, arith, ap, sym, subst, length, length-append}
+use Rattle.std.proofs.Common.{◌≡◌, ◌+◌, ◌∙◌, ℕ, cond, arith, ap, subst, length, length-append}
 use Rattle.std.specs.Prelude.{nat_le}
 use Rattle.dns_message.specs.Writing.{Offsets, written_record}
 use Rattle.dns_message.proofs.Kept.{record_cut, all_or_nothing}

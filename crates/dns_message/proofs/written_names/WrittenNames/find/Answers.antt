@@ -1,4 +1,4 @@
-use Rattle.std.proofs.Common.{◌≡◌, ℕ, List, ◌∙◌, ap, sym, arith, length, get_or, drop}
+use Rattle.std.proofs.Common.{◌≡◌, ℕ, ◌∙◌, ap, sym, arith, get_or, drop}
 use Rattle.std.proofs.lemmas.List.{get_or_read}
 use Rattle.dns_name.specs.Names.{wire_of, labels_of}
 use Rattle.dns_message.specs.Writing.{Offsets, offset_of}

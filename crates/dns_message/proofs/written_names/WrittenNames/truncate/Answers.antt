@@ -1,4 +1,4 @@
-use Rattle.std.proofs.Common.{◌≡◌, List, ℕ, sym, subst}
+use Rattle.std.proofs.Common.{sym, subst}
 use Rattle.dns_message.specs.Writing.{Offsets}
 use Rattle.dns_message.specs.Compressing.{AreFirsts}
 use Rattle.dns_message.proofs.Searching.{fewer_names}
