@@ -1,5 +1,5 @@
 -- The tree of least moments, told anew from a place up, and from the last node down.
-use Rattle.std.proofs.Common.{◌≡◌, ◌≢◌, ℕ, ◌+◌, ◌-◌, ◌*◌, ◌/◌, ◌<◌, ◌≤◌, ◌^◌, nat_lt, min, cond, Bool, true, false, ⊎_elim, inl, inr, ◌⊎◌, List, length, get_or, set, refl, sym, ap, subst, ◌∙◌, arith}
+use Rattle.std.proofs.Common.{◌≡◌, ◌≢◌, ℕ, zero, suc, ◌+◌, ◌-◌, ◌*◌, ◌/◌, ◌<◌, ◌≤◌, ◌^◌, nat_lt, min, cond, Bool, true, false, ⊎_elim, inl, inr, ◌⊎◌, List, [], ◌∷◌, ◌++◌, length, get_or, set, refl, sym, ap, subst, ◌∙◌, arith}
 use Rattle.std.proofs.lemmas.Bool.{cases_eq, ltb-false}
 use Rattle.std.proofs.lemmas.List.{get_or-set_same, get_or-set_other, length-set}
 use Rattle.mdns_timer.specs.Tree.{moment_at, least_at, IsOn, HasLeast, IsTree, IsTreeBut}
@@ -79,30 +79,44 @@ tree_down moments nodes node v some within is tree = record { at = λ j low from
     other : (j : ℕ) → 1 ≤ j → node ≤ j → j < length nodes → (j ≡ node → ⊥) → HasLeast moments (set nodes node v) j
     other j low from below apart = least_still moments nodes node v within j apart (λ q. absurd (omega arith)) (λ q. absurd (omega arith)) (tree.at j low (omega (arith, apart)) below)
 
--- a list that was changed at a place
-pub tree_changed : (moments nodes : List ℕ) (place v : ℕ) → IsTree moments nodes → IsTreeBut place (set moments place v) nodes
-tree_changed moments nodes place v tree = record { at = λ j some below. at j some below }
+-- lists that are different at a place
+tree_differs : (moments others nodes : List ℕ) (place : ℕ) → ((k : ℕ) → k ≢ place → moment_at others k ≡ moment_at moments k) → IsTree moments nodes → IsTreeBut place others nodes
+tree_differs moments others nodes place same tree = record { at = λ j some below. at j some below }
   where
     n : ℕ
     n = length nodes
 
-    least_kept : (k : ℕ) → k ≢ n + place → least_at nodes (set moments place v) k ≡ least_at nodes moments k
+    least_kept : (k : ℕ) → k ≢ n + place → least_at nodes others k ≡ least_at nodes moments k
     least_kept k apart = of (nat_lt k n) refl
       where
-        of : (b : Bool) → nat_lt k n ≡ b → cond b (get_or nodes k 0) (moment_at (set moments place v) (k - n)) ≡ cond b (get_or nodes k 0) (moment_at moments (k - n))
+        of : (b : Bool) → nat_lt k n ≡ b → cond b (get_or nodes k 0) (moment_at others (k - n)) ≡ cond b (get_or nodes k 0) (moment_at moments (k - n))
         of true e = refl
         of false e =
             let past : n ≤ k = ltb-false k n e in
-            get_or-set_other moments place (k - n) v (2 ^ 64 - 1) (λ q. apart (omega arith))
+            same (k - n) (λ q. apart (omega arith))
 
-    at : (j : ℕ) → 1 ≤ j → j < n → HasLeast (set moments place v) nodes j ⊎ IsOn (n + place) j
+    at : (j : ℕ) → 1 ≤ j → j < n → HasLeast others nodes j ⊎ IsOn (n + place) j
     at j some below = ⊎_elim left (λ p. ⊎_elim right (λ q. inl (tree.at j some below ∙ (λ i. min (sym (least_kept (2 * j) p) i) (sym (least_kept (2 * j + 1) q) i)))) (cases_eq (2 * j + 1) (n + place))) (cases_eq (2 * j) (n + place))
       where
         up : (k : ℕ) → k / 2 ≡ j → k ≡ n + place → IsOn (n + place) j
         up k half e = subst (λ (m : ℕ). IsOn m j) e (on_up k j (subst (λ (m : ℕ). IsOn m j) (sym half) (on_itself j)))
 
-        left : 2 * j ≡ n + place → HasLeast (set moments place v) nodes j ⊎ IsOn (n + place) j
+        left : 2 * j ≡ n + place → HasLeast others nodes j ⊎ IsOn (n + place) j
         left e = inr (up (2 * j) (half_even j) e)
 
-        right : 2 * j + 1 ≡ n + place → HasLeast (set moments place v) nodes j ⊎ IsOn (n + place) j
+        right : 2 * j + 1 ≡ n + place → HasLeast others nodes j ⊎ IsOn (n + place) j
         right e = inr (up (2 * j + 1) (half_odd j) e)
+
+-- a list that was changed at a place
+pub tree_changed : (moments nodes : List ℕ) (place v : ℕ) → IsTree moments nodes → IsTreeBut place (set moments place v) nodes
+tree_changed moments nodes place v tree = tree_differs moments (set moments place v) nodes place (λ k apart. get_or-set_other moments place k v (2 ^ 64 - 1) apart) tree
+
+-- a list with one more
+others_stand : (moments : List ℕ) (v k : ℕ) → k ≢ length moments → moment_at (moments ++ v ∷ []) k ≡ moment_at moments k
+others_stand [] v zero apart = absurd (apart refl)
+others_stand [] v (suc k) apart = refl
+others_stand (m ∷ moments) v zero apart = refl
+others_stand (m ∷ moments) v (suc k) apart = others_stand moments v k (λ e. apart (ap suc e))
+
+pub tree_pushed : (moments nodes : List ℕ) (v : ℕ) → IsTree moments nodes → IsTreeBut (length moments) (moments ++ v ∷ []) nodes
+tree_pushed moments nodes v tree = tree_differs moments (moments ++ v ∷ []) nodes (length moments) (others_stand moments v) tree

@@ -1,5 +1,5 @@
 // Moments by place, with the least of them.
-ghost use Rattle.std.specs.Prelude.{◌≡◌, ◌+◌, ◌<◌, ◌≤◌, [], length, slice_set, IsOk, OnOk, IfNone, IfSome};
+ghost use Rattle.std.specs.Prelude.{◌≡◌, ◌+◌, ◌<◌, ◌≤◌, [], ◌∷◌, ◌++◌, length, slice_set, IsOk, OnOk, IfNone, IfSome};
 ghost use Rattle.std.specs.List.{insert, remove};
 ghost use Rattle.dns_name.specs.Lists.{least};
 ghost use Rattle.mdns_timer.specs.Parts.{NoneDue, IsFirstDue};
@@ -72,6 +72,17 @@ impl Deadlines {
         ensures { result ≡ length self.now.moments }
     {
         self.moments.len()
+    }
+
+    /// Puts a moment behind the others.
+    pub fn push(&mut self, moment: u64)
+        requires { 1 ≤ self.old.spare }
+        ensures moments { self.new.moments ≡ self.old.moments ++ moment ∷ [] }
+        ensures spare { self.old.spare ≤ self.new.spare + 1 }
+    {
+        let last = self.moments.len();
+        let _ = self.moments.push(moment);
+        mend(&mut self.nodes, &self.moments, last);
     }
 
     /// Puts a moment at a place; what stands there and behind it moves up.
