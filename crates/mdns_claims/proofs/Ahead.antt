@@ -1,5 +1,5 @@
 -- Loops over groups that say what is behind a deed: one group more.
-use Rattle.std.proofs.Common.{◌≡◌, ℕ, ◌+◌, ◌<◌, ◌≤◌, ◌==◌, ◌&&◌, true, List, [], ◌∷◌, ◌++◌, length, get_or, drop, ap, sym, ◌∙◌, append-nil, append_assoc, Option, Some}
+use Rattle.std.proofs.Common.{◌≡◌, ℕ, ◌+◌, ◌<◌, ◌≤◌, ◌==◌, ◌&&◌, true, false, List, [], ◌∷◌, ◌++◌, length, get_or, drop, refl, ap, sym, ◌∙◌, append-nil, append_assoc, Option, Some, None}
 use Rattle.std.specs.List.{cons_option}
 use Rattle.std.specs.Option.{option_map, option_map_or}
 use Rattle.std.proofs.lemmas.List.{drop_more, drop_all}
@@ -7,13 +7,17 @@ use Rattle.dns_record.specs.declared.record.Rr.{Rr}
 use Rattle.mdns_probe.specs.Kept.{Kept}
 use Rattle.mdns_claims.specs.declared.plan.Deed.{Deed}
 use Rattle.mdns_claims.specs.Later.{Shown, shown_of, shown_own, shown_answer, later_of, later_from, begun_by}
-use Rattle.mdns_claims.specs.Owned.{of_name, own_in, registered_answers}
+use Rattle.mdns_claimants.specs.Owned.{of_name, own_in, registered_answers}
 use Rattle.mdns_claims.specs.Planned.{Means, kept_by}
 use Rattle.mdns_claims.proofs.Made.{later_all}
-use Rattle.mdns_claims.proofs.Changed.{own_later, own_same, own_begun, later_found, answers_same, cons_append}
+use Rattle.mdns_claims.proofs.Changed.{own_later, own_same, own_begun, later_skipped, later_found, answers_same, cons_append}
 
 next_first : {X : Type 0} (xs : List X) (place : ℕ) (one : X) → place < length xs → one ≡ get_or xs place one → drop place xs ≡ one ∷ drop (place + 1) xs
 next_first xs place one within is = drop_more xs place one within ∙ ap (λ x. x ∷ drop (place + 1) xs) (sym is)
+
+none_seen : (o : Option Kept) → None ≡ option_map shown_of o → o ≡ None
+none_seen None e = refl
+none_seen (Some one) e = absurd (cc)
 
 module _ (means : Means) (deed : Deed) (kept : List Kept) where
   -- the own records of all groups
@@ -66,6 +70,18 @@ module _ (means : Means) (deed : Deed) (kept : List Kept) where
       answer_here shown e seen =
           sym (later_found session op means deed place one shown (later_from means deed (place + 1) (drop (place + 1) kept) ++ new) e (sym seen))
           ∙ ap (registered_answers session op) (sym split_new)
+
+      -- a group of another operation, or one that doesn't go on, has no part in it
+      pub answers_skipped : ((one.group.session == session) && (one.group.op == op)) ≡ false →
+          registered_answers session op (later_from means deed (place + 1) (drop (place + 1) kept) ++ new) ≡ registered_answers session op (later_from means deed place (drop place kept) ++ new)
+      answers_skipped e =
+          sym (ap (registered_answers session op) split_new ∙ later_skipped session op means deed place one (later_from means deed (place + 1) (drop (place + 1) kept) ++ new) e)
+
+      pub answers_gone : None ≡ option_map shown_of (later_of means deed place one) →
+          registered_answers session op (later_from means deed (place + 1) (drop (place + 1) kept) ++ new) ≡ registered_answers session op (later_from means deed place (drop place kept) ++ new)
+      answers_gone e =
+          sym (ap (registered_answers session op) split_new
+          ∙ ap (λ (o : Option Kept). registered_answers session op (cons_option o (later_from means deed (place + 1) (drop (place + 1) kept) ++ new))) (none_seen (later_of means deed place one) e))
 
       pub answers_more : (((one.group.session == session) && (one.group.op == op)) ≡ true → option_map shown_of (later_of means deed place one) ≡ Some (shown_of one)) →
           registered_answers session op (later_from means deed (place + 1) (drop (place + 1) kept) ++ new) ≡ registered_answers session op (drop (place + 1) kept) →

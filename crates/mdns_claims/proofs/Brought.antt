@@ -5,17 +5,13 @@ use Rattle.std.proofs.lemmas.Bool.{and_parts, and_from}
 use Rattle.std.proofs.lemmas.List.Folds.{list_all-append}
 use Rattle.dns_record.specs.declared.record.Rr.{Rr}
 use Rattle.mdns_probe.specs.Kept.{Kept}
-use Rattle.mdns_claims.specs.declared.renewal.Renewal.{Renewal}
-use Rattle.mdns_claims.specs.Behind.{ends_by, ticked_at}
+use Rattle.mdns_claimants.specs.declared.renewal.Renewal.{Renewal}
+use Rattle.mdns_renewals.specs.Occasions.{ends_by}
+use Rattle.mdns_claimants.specs.Due.{ticked_at}
 use Rattle.mdns_claims.specs.Later.{Shown}
-use Rattle.mdns_claims.specs.Named.{with_renewal, with_renewals}
+use Rattle.mdns_claimants.specs.Named.{with_renewal, with_renewals}
 use Rattle.mdns_claims.specs.Planned.{Means, going_on}
 use Rattle.mdns_claims.proofs.Ticked.{shown_ticked}
-
--- one renewal more
-pub push_passes : (r : Option Renewal → Bool) (renewals after : List (Option Renewal)) (renewal : Option Renewal) → after ≡ renewals ++ renewal ∷ [] → list_all r renewals ≡ true → r renewal ≡ true → list_all r after ≡ true
-push_passes r renewals after renewal put h k =
-    ap (list_all r) put ∙ list_all-append r renewals (renewal ∷ []) ∙ and_from (list_all r renewals) (r renewal && true) h (and_from (r renewal) true k refl)
 
 kept_filter : {X : Type 0} (p q : X → Bool) (xs : List X) → list_all p xs ≡ true → list_all p (filter q xs) ≡ true
 kept_filter p q [] h = refl

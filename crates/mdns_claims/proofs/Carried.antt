@@ -1,7 +1,8 @@
 -- What is kept behind an event is what a plan of it makes of what is kept.
 use Rattle.std.proofs.Common.{◌≡◌, ◌∙◌, ℕ, List, ap, subst}
 use Rattle.mdns_claims.specs.State.{Contents}
-use Rattle.mdns_claims.specs.Behind.{Occasion, contents_told}
+use Rattle.mdns_renewals.specs.Occasions.{Occasion}
+use Rattle.mdns_claims.specs.Behind.{contents_told}
 use Rattle.mdns_probe.specs.Kept.{Kept}
 use Rattle.mdns_claims.specs.declared.plan.Plan.{Plan}
 use Rattle.mdns_claims.specs.declared.plan.Deed.{Deed}

@@ -16,10 +16,12 @@ use Rattle.mdns_happened.specs.Told.{Told, told_by}
 use Rattle.mdns_probe.specs.Kept.{Kept, disturbed_for}
 use Rattle.mdns_claims.specs.declared.plan.Deed.{Deed}
 use Rattle.mdns_claims.specs.declared.plan.Deed.TheVariants.{Nothing, Ticks, Begins, Ends}
-use Rattle.mdns_claims.specs.declared.renewal.Renewal.{Renewal}
-use Rattle.mdns_claims.specs.Behind.{Occasion, renaming_in, ends, updated_txt, txt_given, is_touched, renewed, renewed_if, ticked_on, behind, registration_told, begun_kept, groups_told, registered_told}
-use Rattle.mdns_claims.specs.Named.{with_renewal, with_renewals}
-use Rattle.mdns_claims.specs.Planned.{renewal_told, going_on, means_of, kept_by, is_update, is_stopping, ends_some, counted_by, IsDone}
+use Rattle.mdns_claimants.specs.declared.renewal.Renewal.{Renewal}
+use Rattle.mdns_renewals.specs.Occasions.{Occasion, renaming_in, ends, updated_txt, txt_given, is_touched, renewed, renewed_if, registration_told, begun_kept}
+use Rattle.mdns_claims.specs.Behind.{ticked_on, behind, groups_told, registered_told}
+use Rattle.mdns_claimants.specs.Named.{with_renewal, with_renewals}
+use Rattle.mdns_renewals.specs.Occasions.{renewal_told}
+use Rattle.mdns_claims.specs.Planned.{going_on, means_of, kept_by, is_update, is_stopping, ends_some, counted_by, IsDone}
 
 either_false : (a b : Bool) → (a || b) ≡ false → (a ≡ false) × (b ≡ false)
 either_false false false h = (refl, refl)

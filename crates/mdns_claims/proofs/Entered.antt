@@ -16,7 +16,7 @@ use Rattle.mdns_history.specs.Fitting.{disturbed_marks, next_entry, is_boot}
 use Rattle.mdns_history.proofs.Steps.{groups-cons}
 use Rattle.mdns_asserts.proofs.Registered.{accepted-next}
 use Rattle.mdns_probe.proofs.Legal.{entry_after, bare, not_booted}
-use Rattle.mdns_claims.specs.Behind.{renaming_in, number_after, registration_told}
+use Rattle.mdns_renewals.specs.Occasions.{renaming_in, number_after, registration_told}
 use Rattle.mdns_claims.proofs.Marks.{failures, any_claimed, numbers_claimed}
 use Rattle.mdns_claims.proofs.Told.{detached-next}
 

@@ -26,7 +26,8 @@ use Rattle.mdns_probe.proofs.Legal.{entry_after}
 use Rattle.mdns_probe.proofs.Ticking.{claims_follow_ticks}
 use Rattle.mdns_probe.proofs.Others.{claims_follow_others}
 use Rattle.mdns_claims.specs.State.{Contents, Stands}
-use Rattle.mdns_claims.specs.Behind.{Occasion, probes_told, number_after, renewed_if, ticked_on, behind, registration_told, begun_kept, kept_told, contents_told}
+use Rattle.mdns_renewals.specs.Occasions.{Occasion, number_after, renewed_if, registration_told, begun_kept}
+use Rattle.mdns_claims.specs.Behind.{probes_told, ticked_on, behind, kept_told, contents_told}
 use Rattle.mdns_claims.specs.Laws.{Follows, ClaimsFollow}
 use Rattle.mdns_claims.proofs.Entered.{registration_next, begun_next, groups_next}
 use Rattle.mdns_claims.proofs.Live.{IsOperated, are_operated}

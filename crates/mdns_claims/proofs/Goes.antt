@@ -28,7 +28,8 @@ use Rattle.mdns_probe.specs.Standing.{claim_in, after_other}
 use Rattle.mdns_probe.specs.Kept.{Kept, kept_in, name_of, disturbed_for}
 use Rattle.mdns_probe.proofs.Legal.{entry_after, bare, not_booted}
 use Rattle.mdns_claims.specs.State.{Contents, Stands}
-use Rattle.mdns_claims.specs.Behind.{Occasion, occasion_of, renaming_in, number_after, host_named, noted_times, storm_told, wait_told, ends, txt_given, txt_in, txt_behind, is_touched, renewed, renewed_if, registration_told, txt_asked, begun_kept}
+use Rattle.mdns_renewals.specs.Occasions.{Occasion, renaming_in, number_after, wait_told, ends, txt_given, txt_in, txt_behind, is_touched, renewed, renewed_if, registration_told, txt_asked, begun_kept}
+use Rattle.mdns_claims.specs.Behind.{occasion_of, host_named, noted_times, storm_told}
 use Rattle.mdns_claims.specs.Laws.{told_in}
 use Rattle.mdns_claims.proofs.Marks.{setbacks, lost_ties, any_claimed, conflicts_claimed}
 use Rattle.mdns_claims.proofs.Told.{disturbed_told}

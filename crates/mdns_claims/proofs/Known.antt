@@ -26,7 +26,7 @@ use Rattle.mdns_probe.specs.declared.claim.Claim.{Claim}
 use Rattle.mdns_probe.specs.Standing.{claim_in}
 use Rattle.mdns_probe.specs.Kept.{Kept, kept_in, own_of}
 use Rattle.mdns_probe.proofs.Reading.{own_records_are}
-use Rattle.mdns_claims.specs.Owned.{own_in, nsec_for, nsecs_in}
+use Rattle.mdns_claimants.specs.Owned.{own_in, nsec_for, nsecs_in}
 use Rattle.mdns_claims.specs.Laws.{HaveOwnTtls, OwnIsKnown, NsecsAreKnown, OursIsKnown, OwnTtlsAreKnown}
 
 pub own_known : OwnIsKnown

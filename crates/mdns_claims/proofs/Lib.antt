@@ -6,16 +6,9 @@ pub mod Live
 pub mod Records
 pub mod Goes
 pub mod Following
-pub mod Loops
-pub mod Named
 pub mod Typed
-pub mod Clashing
-pub mod Numbers
-pub mod Turned
 pub mod Deeds
 pub mod Booted
-pub mod Renewed
-pub mod Wished
 pub mod Carried
 pub mod Ticked
 pub mod Made
@@ -27,3 +20,5 @@ pub mod Mapped
 pub mod Sure
 pub mod Asked
 pub mod Moving
+pub mod Touched
+pub mod Taking

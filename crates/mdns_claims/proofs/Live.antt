@@ -22,7 +22,7 @@ use Rattle.mdns_history.specs.Outcomes.{early_outcome, call_code}
 use Rattle.mdns_history.specs.Fitting.{is_boot, boot_entry, IsLegal, IsLegalFrom}
 use Rattle.mdns_probe.proofs.Legal.{entry_after, boot_groups}
 use Rattle.mdns_probe.proofs.Places.{all-append}
-use Rattle.mdns_claims.specs.Behind.{registration_told, txt_given}
+use Rattle.mdns_renewals.specs.Occasions.{registration_told, txt_given}
 use Rattle.mdns_claims.proofs.Operated.{IsCall, accepted_is, GoesOn, by_call, given, txt_found, found_inserted, starts_with, started_new}
 use Rattle.mdns_claims.proofs.Told.{detached-next}
 use Rattle.mdns_claims.proofs.Entered.{call, gone, operations_next, begun_next, groups_next}

@@ -8,10 +8,11 @@ use Rattle.mdns_history.specs.Groups.{Group}
 use Rattle.mdns_probe.specs.Kept.{Kept}
 use Rattle.mdns_claims.specs.declared.plan.Deed.{Deed}
 use Rattle.mdns_claims.specs.declared.plan.Deed.TheVariants.{Nothing, Ticks, Begins, Ends, Changes}
-use Rattle.mdns_claims.specs.declared.renewal.Renewal.{Renewal}
-use Rattle.mdns_claims.specs.Behind.{ends_by, ticked_at}
+use Rattle.mdns_claimants.specs.declared.renewal.Renewal.{Renewal}
+use Rattle.mdns_renewals.specs.Occasions.{ends_by}
+use Rattle.mdns_claimants.specs.Due.{ticked_at}
 use Rattle.mdns_claims.specs.Later.{shown_of, later_of, later_from, begun_by, is_still, touches}
-use Rattle.mdns_claims.specs.Named.{with_renewal, with_renewals}
+use Rattle.mdns_claimants.specs.Named.{with_renewal, with_renewals}
 use Rattle.mdns_claims.specs.Planned.{Means, going_on, kept_by}
 use Rattle.mdns_claims.proofs.Ticked.{shown_ticked}
 

@@ -8,7 +8,7 @@ use Rattle.dns_record.specs.declared.record.Rr.{Rr}
 use Rattle.mdns_history.specs.Announcing.{same_records}
 use Rattle.mdns_probe.proofs.Sames.{same_itself}
 use Rattle.mdns_claims.specs.Moved.{is_moved}
-use Rattle.mdns_claims.specs.Owned.{of_name, is_among}
+use Rattle.mdns_claimants.specs.Owned.{of_name, is_among}
 
 owner_alike : (one other owner : List (List ℕ)) → folded_eq one other ≡ true → folded_eq owner one ≡ folded_eq owner other
 owner_alike one other owner alike = folded_eq-equivalence.symm owner one ∙ folded_eq-equivalence.congr one other owner alike ∙ folded_eq-equivalence.symm other owner

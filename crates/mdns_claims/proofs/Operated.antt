@@ -16,7 +16,7 @@ use Rattle.mdns_history.specs.declared.entry.Entry.{Entry}
 use Rattle.mdns_history.specs.declared.entry.Outcome.TheVariants as outcome
 use Rattle.mdns_history.specs.Sessions.{Accepted, accepted_call, is_attached, is_cut, has_op, by_op, updated, after_request, after_call, operations_of, operation_request, txt_of, is_stop, stops}
 use Rattle.mdns_history.specs.Outcomes.{may_update, is_bad_reference, is_unsupported, is_refused, is_name_conflict, call_code, early_outcome}
-use Rattle.mdns_claims.specs.Behind.{updated_txt}
+use Rattle.mdns_renewals.specs.Occasions.{updated_txt}
 
 -- a call that is accepted is the event, and has the code 0
 pub record IsCall (ev : Event) (past : List Entry) (call : Accepted) : Type 0 where

@@ -17,7 +17,8 @@ use Rattle.mdns_probe.specs.Claiming.{replaced}
 use Rattle.mdns_probe.specs.Naming.{unique_named, shared_named}
 use Rattle.mdns_probe.proofs.Paced.{not_renamed}
 use Rattle.mdns_probe.proofs.Sames.{same_itself}
-use Rattle.mdns_claims.specs.Behind.{number_after, host_named, txt_in}
+use Rattle.mdns_renewals.specs.Occasions.{number_after, txt_in}
+use Rattle.mdns_claims.specs.Behind.{host_named}
 
 published_again : (txt : List ℕ) → published_txt (published_txt txt) ≡ published_txt txt
 published_again [] = refl

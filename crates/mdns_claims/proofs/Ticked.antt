@@ -5,7 +5,7 @@ use Rattle.dns_record.specs.declared.record.Rr.{Rr}
 use Rattle.mdns_probe.specs.declared.claim.Claim.{Claim}
 use Rattle.mdns_probe.specs.Claiming.{probed_at, settled_at, announced_at, announced_if, ticked, after_tick, is_probe_due, is_settle_due, is_announce_due}
 use Rattle.mdns_probe.specs.Kept.{Kept}
-use Rattle.mdns_claims.specs.Behind.{ticked_at}
+use Rattle.mdns_claimants.specs.Due.{ticked_at}
 use Rattle.mdns_claims.specs.Later.{shown_of}
 
 both_true : (a b : Bool) → (a && b) ≡ true → (a ≡ true) × (b ≡ true)

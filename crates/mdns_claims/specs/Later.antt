@@ -1,5 +1,5 @@
 -- What a plan makes of the groups that are kept, one by one, and what is seen of it: names, records, and whether these are sure.
-use Rattle.std.specs.Prelude.{ℕ, ◌+◌, Bool, true, false, ◌||◌, List, [], ◌∷◌, ◌++◌, Option, Some, None, is_some, slice_index_or, if◌then◌else◌}
+use Rattle.std.specs.Prelude.{◌≡◌, ℕ, ◌+◌, ◌<◌, ◌≤◌, length, Bool, true, false, ◌||◌, List, [], ◌∷◌, ◌++◌, Option, Some, None, is_some, slice_index_or, if◌then◌else◌}
 use Rattle.std.specs.List.{cons_option}
 use Rattle.dns_record.specs.declared.record.Rr.{Rr}
 use Rattle.sd_call.specs.declared.answer.Answer.{Answer}
@@ -11,9 +11,10 @@ use Rattle.mdns_claims.specs.declared.behind.Behind.{Behind}
 use Rattle.mdns_claims.specs.declared.later.Later.{Later}
 use Rattle.mdns_claims.specs.declared.plan.Deed.{Deed}
 use Rattle.mdns_claims.specs.declared.plan.Deed.TheVariants.{Nothing, Ticks, Begins, Ends, Changes}
-use Rattle.mdns_claims.specs.Behind.{ends_by, ticked_at}
-use Rattle.mdns_claims.specs.Named.{with_renewal}
-use Rattle.mdns_claims.specs.Owned.{of_name}
+use Rattle.mdns_renewals.specs.Occasions.{ends_by}
+use Rattle.mdns_claimants.specs.Due.{ticked_at}
+use Rattle.mdns_claimants.specs.Named.{with_renewal}
+use Rattle.mdns_claimants.specs.Owned.{of_name}
 use Rattle.mdns_claims.specs.Planned.{Means, kept_by}
 use Rattle.mdns_claims.specs.Seen.{means_in}
 
@@ -82,3 +83,13 @@ touches means Ticks place one = is_settle_due means.moment one.claim
 touches means (Begins new) place one = false
 touches means Ends place one = ends_by means.told means.marks one.group
 touches means (Changes renewals) place one = ends_by means.told means.marks one.group || is_some (slice_index_or renewals.items place None)
+
+-- a deed touches none of the groups from a place on up to another
+abbrev pub TouchesNone : Means → Deed → List Kept → ℕ → ℕ → Type 0
+TouchesNone means deed kept from end = (k : ℕ) (one : Kept) → from ≤ k → k < end → one ≡ slice_index_or kept k one → touches means deed k one ≡ false
+
+-- a place from one on; the deed touches none of the groups between
+pub record IsNextTouched (means : Means) (deed : Deed) (kept : List Kept) (from place : ℕ) : Type 0 where
+  pub behind : from ≤ place
+  pub within : place < length kept
+  pub passed : TouchesNone means deed kept from place

@@ -17,7 +17,7 @@ use Rattle.mdns_history.specs.Fitting.{bare_entry, refusal_marks, disturbed_mark
 use Rattle.mdns_happened.specs.Told.{Told, told_of, is_tick}
 use Rattle.mdns_claims.specs.State.{Contents, Stands}
 use Rattle.mdns_claims.specs.Behind.{occasion_of, probes_told, contents_told}
-use Rattle.mdns_claims.specs.Owned.{own_in, nsecs_in, is_ours}
+use Rattle.mdns_claimants.specs.Owned.{own_in, nsecs_in, is_ours}
 
 -- the event as it is told, with the mark of its packet where that is refused
 abbrev pub told_in : List Entry → ℕ → ℕ → Event → Told

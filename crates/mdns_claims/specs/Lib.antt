@@ -1,10 +1,8 @@
+pub use Rattle.mdns_claimants.specs.Owned
+pub use Rattle.mdns_claimants.specs.Named
+pub use Rattle.mdns_claimants.specs.Typed
 pub mod State
 pub mod Behind
-pub mod Turning
-pub mod Owned
-pub mod Named
-pub mod Typed
-pub mod Wishes
 pub mod Planned
 pub mod Seen
 pub mod Later

@@ -2,7 +2,7 @@
 use Rattle.std.specs.Prelude.{ℕ, Bool, not, List}
 use Rattle.dns_record.specs.declared.record.Rr.{Rr}
 use Rattle.mdns_history.specs.Announcing.{same_records}
-use Rattle.mdns_claims.specs.Owned.{of_name}
+use Rattle.mdns_claimants.specs.Owned.{of_name}
 
 -- some record of a name is among these records and not among the others, or among the others alone
 abbrev pub is_moved : List (List ℕ) → List Rr → List Rr → Bool

@@ -10,17 +10,15 @@ use Rattle.mdns_probe.specs.Kept.{Kept}
 use Rattle.mdns_claims.specs.declared.plan.Plan.{Plan}
 use Rattle.mdns_claims.specs.declared.plan.Deed.{Deed}
 use Rattle.mdns_claims.specs.declared.plan.Deed.TheVariants.{Nothing, Ticks, Begins, Ends, Changes}
-use Rattle.mdns_claims.specs.declared.renewal.Renewal.{Renewal}
-use Rattle.mdns_claims.specs.Named.{with_renewals, AreNamed}
-use Rattle.mdns_claims.specs.Typed.{have_data, records_of, is_typed, is_mapped}
+use Rattle.mdns_claimants.specs.declared.renewal.Renewal.{Renewal}
+use Rattle.mdns_claimants.specs.Named.{with_renewals, AreNamed}
+use Rattle.mdns_claimants.specs.Typed.{have_data, records_of, is_typed, is_mapped}
 use Rattle.mdns_claims.specs.State.{Contents}
-use Rattle.mdns_claims.specs.Behind.{Occasion, updated_txt, number_after, storm_told, ends, ends_by, is_touched, renewed, ticked_at, groups_told, registered_told}
-
--- what an event that is no tick makes of a group, where it touches it and doesn't end it
-abbrev pub renewal_told : Occasion → Kept → Option Renewal
-renewal_told at one =
-    let after = renewed at one in
-    if ends at one.group then None else if is_touched at one then Some (record { number = after.number; claim = after.claim }) else None
+pub use Rattle.mdns_renewals.specs.Wishes.{IsAcceptable}
+pub use Rattle.mdns_renewals.specs.Occasions.{renewal_told}
+use Rattle.mdns_renewals.specs.Occasions.{Occasion, updated_txt, number_after, ends, ends_by, is_touched, renewed}
+use Rattle.mdns_claims.specs.Behind.{storm_told, groups_told, registered_told}
+use Rattle.mdns_claimants.specs.Due.{ticked_at}
 
 -- the groups that go on
 abbrev pub going_on : Told → List Mark → List Kept → List Kept
@@ -104,8 +102,3 @@ pub record IsPlan (contents : Contents) (at : Occasion) (plan : Plan) : Type 0 w
   pub number : plan.number ≡ number_after 0 at.marks contents.number
   pub storm : plan.storm ≡ storm_told contents.storm at.moment at.marks
   pub deed : IsDone at contents.registered contents.kept plan.deed
-
--- An accepted call is well formed, and a registration finds room for another.
-abbrev pub IsAcceptable : ℕ → Option Accepted → Type 0
-IsAcceptable registered None = Unit {0}
-IsAcceptable registered (Some call) = IsTrue (well_formed call.request) × (is_register call.request ≡ true → registered < 2 ^ 63)

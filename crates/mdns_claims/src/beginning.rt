@@ -1,7 +1,7 @@
 // A group that begins.
 ghost use Rattle.std.specs.Prelude.{IfOk, ◌≡◌};
 
-use crate::claimant::Claimant;
+use mdns_claimants::Claimant;
 use std::alloc::{AllocError, Global};
 use std::marker::Model;
 

@@ -1,38 +1,45 @@
 // What a plan of claims leads to, read before it is carried out.
-ghost use Rattle.std.specs.Prelude.{IfOk, IsTrue, List, OnOk, [], false, ℕ, ◌++◌, ◌≡◌, Some, true};
+ghost use Rattle.std.specs.Prelude.{IfNone, IfOk, IfSome, IsTrue, List, OnOk, [], false, length, map, ℕ, ◌++◌, ◌<◌, ◌≡◌, Some, true};
 ghost use Rattle.std.specs.Option.{option_map, option_map_or, option_to_list};
 ghost use Rattle.dns_record.specs.declared.record.Rr.{Rr};
 ghost use Rattle.mdns_asked.specs.Asked.{IsPut};
-ghost use Rattle.mdns_claims.specs.Later.{begun_by, groups_behind, later_from, later_of, shown_of, shown_own, takes_none};
-ghost use Rattle.mdns_claims.specs.Owned.{AreWithin, is_among, is_ours, of_name, own_in, registered_answers};
+ghost use Rattle.mdns_timer.specs.Parts.{IsFirstDue, NoneDue};
+ghost use Rattle.mdns_claimants.specs.Due.{moment_of};
+ghost use Rattle.mdns_claimants.specs.Owned.{AreWithin, is_among, is_ours, of_name, own_in, registered_answers};
 ghost use Rattle.mdns_claims.specs.Seen.{means_in};
 ghost use Rattle.mdns_probe.specs.Kept.{Kept};
 ghost use Rattle.mdns_happened.specs.Registrations.{AreRegistered, IsRegistered, is_told};
 
-use crate::answers::{is_of, named_if, registered_answer};
-use crate::claimant::Claimant;
 use crate::doing::Means;
-use crate::later::{begun, is_still, takes_none};
-use crate::names::put_claim_names;
-use crate::own::{put_claim, put_claimed};
+use crate::later::{begun, begun_answer, takes_none};
 use crate::plan::Deed;
 use dns_message::Rrs;
 use dns_name::Name;
 use mdns_asked::Asked;
+use mdns_claimants::Claimant;
+use mdns_claimants::answers::{is_of, registered_answer};
+use mdns_claimants::names::put_claim_names;
+use mdns_claimants::own::{put_claim, put_claimed};
 use mdns_happened::Registered;
 use mdns_probe::Naming;
+use mdns_timer::Deadlines;
 use sd_call::Answer;
 use std::alloc::{AllocError, Global};
 
-/// What a plan of claims leads to, read without changing anything. (RFC 6762 8 and 9)
+/// What a plan of claims leads to, read without changing anything: the groups before it with the moments that are kept of them, and the
+/// deed. (RFC 6762 8 and 9)
 #[derive(Drop)]
 pub struct Behind<'a> {
     pub groups: &'a [Claimant],
+    pub due: &'a Deadlines,
     pub means: Means<'a>,
     pub deed: &'a Deed,
+    ghost timed: { due.now.moments ≡ map moment_of groups.now },
 }
 
 impl Behind<'_> {
+    ghost use Rattle.mdns_claims.specs.Later.{IsNextTouched, TouchesNone, begun_by, groups_behind, later_from, later_of, shown_of, shown_own, takes_none};
+
     /// Puts the names behind others of which own records come or go, each once, case aside. Refused only for want of memory.
     pub fn put_names(&self, names: &mut Vec<Name>) -> Result<(), AllocError>
         ensures kept { OnOk result (AreWithin names.old.items names.new.items) }
@@ -91,17 +98,43 @@ impl Behind<'_> {
         takes_none(self.deed)
     }
 
+    /// The place of the first group, from the place `from` on, whose moment has come at that of the event; `None` exactly where there is none.
+    /// Of the groups that are passed over nothing is due: a tick leaves them as they are.
+    pub fn place_due(&self, from: usize) -> Option<usize>
+        ensures none { IfNone result (NoneDue (map moment_of self.now.groups.now) self.now.means.moment from (length self.now.groups.now)) }
+        ensures within { IfSome result (λ place. place < length self.now.groups.now) }
+        ensures some { IfSome result (IsFirstDue (map moment_of self.now.groups.now) self.now.means.moment from) }
+    {
+        self.due.next_due(from, self.means.moment)
+    }
+
+    // The place of the first group, from a place on, that the plan may touch; it touches none of those that are passed over.
+    fn place_touched(&self, from: usize) -> Option<usize>
+        ensures none { IfNone result (TouchesNone (means_in self.now.means) self.now.deed.now self.now.groups.now from (length self.now.groups.now)) }
+        ensures some { IfSome result (IsNextTouched (means_in self.now.means) self.now.deed.now self.now.groups.now from) }
+    {
+        match self.deed {
+            Deed::Nothing | Deed::Begins(_) => None,
+            Deed::Ticks => self.place_due(from),
+            Deed::Ends | Deed::Changes(_) => {
+                if from < self.groups.len() {
+                    Some(from)
+                } else {
+                    None
+                }
+            }
+        }
+    }
+
     // Puts the names of own records that come or go with groups that are there.
     fn put_touched_names(&self, names: &mut Vec<Name>) -> Result<(), AllocError>
         ensures kept { OnOk result (AreWithin names.old.items names.new.items) }
         ensures changed { OnOk result ((name : List (List ℕ)) → is_among names.new.items name ≡ false → of_name name (own_in (later_from (means_in self.now.means) self.now.deed.now 0 self.now.groups.now)) ≡ of_name name (own_in self.now.groups.now)) }
     {
-        if is_still(self.deed) {
-            return Ok(());
-        }
-        let groups = self.groups;
-        for (place, one) in groups.iter().enumerate() {
-            self.put_group_names(names, place, one)?;
+        let mut from = 0;
+        while let Some(place) = self.place_touched(from) {
+            self.put_group_names(names, place, &self.groups[place])?;
+            from = place + 1;
         }
         Ok(())
     }
@@ -157,14 +190,13 @@ impl Behind<'_> {
         ensures rest { IfOk result (λ lines. (session op : ℕ) → is_told lines.items session op ≡ false → (new : List Kept) → registered_answers session op new ≡ registered_answers session op [] → registered_answers session op (later_from (means_in self.now.means) self.now.deed.now 0 self.now.groups.now ++ new) ≡ registered_answers session op self.now.groups.now) }
     {
         let mut lines = Vec::new(alloc);
-        if is_still(self.deed) {
-            return Ok(lines);
-        }
-        let groups = self.groups;
-        for (place, one) in groups.iter().enumerate() {
+        let mut from = 0;
+        while let Some(place) = self.place_touched(from) {
+            let one = &self.groups[place];
             if self.means.touches(self.deed, place, one) {
                 lines.push(self.line(one.naming()))?;
             }
+            from = place + 1;
         }
         Ok(lines)
     }
@@ -198,15 +230,5 @@ impl Behind<'_> {
             }
         }
         begun_answer(self.deed, session, op)
-    }
-}
-
-// The answer of a registration among the group that a deed begins.
-fn begun_answer(deed: &Deed, session: u64, op: u32) -> Option<Answer>
-    ensures { option_to_list result ≡ registered_answers session op (option_to_list (begun_by deed.now)) }
-{
-    match begun(deed) {
-        Some(one) if is_of(one, session, op) => named_if(one),
-        _ => Some(Answer::Conflict),
     }
 }

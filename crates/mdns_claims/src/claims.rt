@@ -1,16 +1,18 @@
 // The claims of a daemon.
-ghost use Rattle.std.specs.Prelude.{IfOk, IsTrue, List, OnOk, [], filter, is_some, nat_le, true, ℕ, ◌++◌, ◌<◌, ◌^◌, ◌∷◌, ◌≡◌, ◌≤◌};
+ghost use Rattle.std.specs.Prelude.{IfOk, IsTrue, OnOk, [], filter, is_some, nat_le, true, ℕ, ◌++◌, ◌<◌, ◌^◌, ◌∷◌, ◌≡◌, ◌≤◌};
 ghost use Rattle.std.specs.List.{flat_map};
 ghost use Rattle.std.specs.Option.{option_map, option_to_list};
 ghost use Rattle.dns_name.specs.Lists.{least};
 ghost use Rattle.dns_name.specs.Names.{folded_eq};
 ghost use Rattle.mdns_asked.specs.Asked.{IsPut};
-ghost use Rattle.mdns_claims.specs.Behind.{contents_told, host_kept, host_named, kept_told, next_in, occasion_of, probes_told, storm_told};
+ghost use Rattle.mdns_claims.specs.Behind.{contents_told, host_kept, host_named, kept_told, occasion_of, probes_told, storm_told};
+ghost use Rattle.mdns_claimants.specs.Due.{next_in};
 ghost use Rattle.mdns_claims.specs.Later.{groups_behind};
-ghost use Rattle.mdns_claims.specs.Owned.{is_ours, nsecs_in, of_name, own_in, registered_answers};
-ghost use Rattle.mdns_claims.specs.Planned.{IsAcceptable, IsFor, IsPlan, counted_by, kept_by, room_of};
+ghost use Rattle.mdns_claimants.specs.Owned.{is_ours, nsecs_in, of_name, own_in, registered_answers};
+ghost use Rattle.mdns_renewals.specs.Wishes.{IsAcceptable};
+ghost use Rattle.mdns_claims.specs.Planned.{IsFor, IsPlan, counted_by, kept_by, room_of};
 ghost use Rattle.mdns_claims.specs.State.{Stands};
-ghost use Rattle.mdns_claims.specs.Typed.{HaveBitmaps, HaveData, have_data, records_of};
+ghost use Rattle.mdns_claimants.specs.Typed.{HaveBitmaps, HaveData, have_data, records_of};
 ghost use Rattle.mdns_happened.specs.Told.{told_by};
 ghost use Rattle.mdns_history.specs.Fitting.{boot_entry};
 ghost use Rattle.mdns_history.specs.Probing.{is_conflict};
@@ -19,29 +21,28 @@ ghost use Rattle.mdns_probe.specs.Answering.{is_held_name, registered_by};
 ghost use Rattle.sd_call.specs.Requests.{well_formed};
 ghost use Rattle.sd_service.specs.Bitmaps.{have_bitmap};
 
-use crate::answers::{group_of, registered_answer};
-use crate::begin::begun_claimant;
 use crate::behind::Behind;
-use crate::claimant::Claimant;
 use crate::copies::{copy_config, copy_label};
 use crate::deciding::deed;
 use crate::doing::Means;
-use crate::held::is_held_name;
-use crate::ours::{is_ours, put_asked_nsecs, put_nsecs};
-use crate::own::{put_asked, put_own};
 use crate::plan::{Deed, Plan};
-use crate::probes::probes;
-use crate::renew::{Seen, number_after};
-use crate::turns::claim_marks;
 use bytes::Bytes;
 use dns_message::Rrs;
 use dns_name::Name;
 use dns_record::Rr;
 use mdns_asked::Asked;
+use mdns_claimants::answers::{group_of, registered_answer};
+use mdns_claimants::held::is_held_name;
+use mdns_claimants::ours::{is_ours, put_asked_nsecs, put_nsecs};
+use mdns_claimants::own::{put_asked, put_own};
+use mdns_claimants::probes::due_probes;
+use mdns_claimants::{Claimant, Claimants};
 use mdns_conflict::Storm;
+use mdns_contest::claim_marks;
 use mdns_happened::{Happened, When};
 use mdns_history::{Config, HostConfig, Mark, Sends};
 use mdns_probe::{Naming, Published};
+use mdns_renewals::{Seen, begun_claimant, number_after};
 use sd_call::{Answer, Request};
 use sd_service::host_name;
 use std::alloc::{AllocError, Global};
@@ -59,23 +60,22 @@ pub struct Claims {
     announces: bool,
     number: u32,
     registered: u64,
-    groups: Vec<Claimant>,
+    groups: Claimants,
     storm: Storm,
 }
 
 impl Model for Claims {
-    ghost use Rattle.std.specs.Prelude.{◌-◌, vec_len, vec_capacity};
     ghost use Rattle.mdns_claims.specs.State.{State};
-    ghost use Rattle.mdns_claims.specs.Typed.{HaveBitmaps, HaveData};
+    ghost use Rattle.mdns_claimants.specs.Typed.{HaveBitmaps, HaveData};
 
     ghost Value = { State };
 
     ghost view = { λ a. record {
-      contents = record { config = a.config; announces = a.announces; number = a.number; registered = a.registered; kept = a.groups.items; storm = a.storm };
-      spare = vec_capacity a.groups - vec_len a.groups;
+      contents = record { config = a.config; announces = a.announces; number = a.number; registered = a.registered; kept = a.groups.kept; storm = a.storm };
+      spare = a.groups.spare;
     } };
 
-    ghost invariant = { λ a. HaveData a.groups.items × HaveBitmaps a.groups.items };
+    ghost invariant = { λ a. HaveData a.groups.kept × HaveBitmaps a.groups.kept };
 }
 
 impl Claims {
@@ -107,21 +107,21 @@ impl Claims {
     pub fn next_due(&self) -> Option<u64>
         ensures { result ≡ least (flat_map (next_in self.now.contents.announces) self.now.contents.kept) }
     {
-        first_due(&self.groups, self.announces)
+        self.groups.next_due(self.announces)
     }
 
     /// The answer of a registration: its name once that is sure, and a conflict where its group failed.
     pub fn answer(&self, session: u64, op: u32) -> Option<Answer>
         ensures { option_to_list result ≡ registered_answers session op self.now.contents.kept }
     {
-        registered_answer(&self.groups, session, op)
+        registered_answer(self.groups.as_slice(), session, op)
     }
 
     /// Puts the own records of a name behind others. Refused only for want of memory.
     pub fn put_own(&self, rrs: &mut Rrs, name: &Name) -> Result<(), AllocError>
         ensures { OnOk result (rrs.new ≡ rrs.old ++ of_name name.now (own_in self.now.contents.kept)) }
     {
-        put_own(rrs, &self.groups, name)
+        put_own(rrs, self.groups.as_slice(), name)
     }
 
     /// Puts the NSEC records of a name behind others: those of the groups that have it and are sure. Refused only for want of
@@ -129,7 +129,7 @@ impl Claims {
     pub fn put_nsecs(&self, rrs: &mut Rrs, name: &Name) -> Result<(), AllocError>
         ensures { OnOk result (rrs.new ≡ rrs.old ++ filter (λ rr. folded_eq rr.owner name.now) (nsecs_in self.now.contents.kept)) }
     {
-        put_nsecs(self.alloc, rrs, &self.groups, name)
+        put_nsecs(self.alloc, rrs, self.groups.as_slice(), name)
     }
 
     /// Puts the own records that questions ask for behind those that they have, in one pass over all groups. Refused only for want of
@@ -137,21 +137,21 @@ impl Claims {
     pub fn put_asked(&self, asked: &mut Asked) -> Result<(), AllocError>
         ensures { OnOk result (IsPut (own_in self.now.contents.kept) asked.old asked.new) }
     {
-        put_asked(asked, &self.groups)
+        put_asked(asked, self.groups.as_slice())
     }
 
     /// The same of the NSEC records of sure names. Refused only for want of memory. (RFC 6762 6.1)
     pub fn put_asked_nsecs(&self, asked: &mut Asked) -> Result<(), AllocError>
         ensures { OnOk result (IsPut (nsecs_in self.now.contents.kept) asked.old asked.new) }
     {
-        put_asked_nsecs(self.alloc, asked, &self.groups)
+        put_asked_nsecs(self.alloc, asked, self.groups.as_slice())
     }
 
     /// Whether a record is the daemon's to send: it is own, or the NSEC record of a sure name. It takes no memory. (RFC 6762 6)
     pub fn is_ours(&self, rr: &Rr) -> bool
         ensures { result ≡ is_ours self.now.contents.kept rr.now }
     {
-        is_ours(&self.groups, rr)
+        is_ours(self.groups.as_slice(), rr)
     }
 
     /// The probes that are sent by an event: once time has passed those of the groups that are due. Refused only for want of
@@ -159,7 +159,10 @@ impl Claims {
     pub fn probes(&self, when: When, happened: &Happened<'_>) -> Result<Sends, AllocError>
         ensures { IfOk result (λ sent. sent ≡ probes_told (told_by happened.now).ticks self.now.contents.kept when.moment) }
     {
-        probes(self.alloc, &self.groups, when, happened)
+        match happened {
+            Happened::Ticked => due_probes(self.alloc, &self.groups, when.moment),
+            _ => Ok(Sends::new(self.alloc)),
+        }
     }
 
     /// Whether there is a host.
@@ -180,7 +183,7 @@ impl Claims {
     pub fn is_live(&self, session: u64, op: u32) -> bool
         ensures { result ≡ is_some (registered_by session op self.now.contents.kept) }
     {
-        group_of(&self.groups, session, op).is_some()
+        group_of(self.groups.as_slice(), session, op).is_some()
     }
 
     /// Whether a registration is asked for that is to keep its name, and a group has that name. (RFC 6763 D)
@@ -188,7 +191,7 @@ impl Claims {
         requires { IsTrue (well_formed request.now) }
         ensures { result ≡ is_held_name request.now self.now.contents.kept }
     {
-        is_held_name(&self.groups, request)
+        is_held_name(self.groups.as_slice(), request)
     }
 
     /// What an event makes of claims. Nothing is changed. Refused only for want of memory.
@@ -198,7 +201,7 @@ impl Claims {
         ensures fits { IfOk result (λ plan. IsFor self.now.contents.registered self.now.contents.kept plan.deed) }
         ensures data { HaveData self.now.contents.kept }
     {
-        let marks = claim_marks(self.alloc, &self.groups, happened)?;
+        let marks = claim_marks(self.alloc, self.groups.as_slice(), happened)?;
         let number = number_after(0, marks.as_slice(), self.number);
         let storm = storm_after(&self.storm, when.moment, marks.as_slice());
         let seen = Seen {
@@ -210,7 +213,7 @@ impl Claims {
             stormy: storm.stormy(),
             announces: self.announces,
         };
-        let deed = deed(self.alloc, &seen, self.registered, &self.groups)?;
+        let deed = deed(self.alloc, &seen, self.registered, self.groups.as_slice())?;
         Ok(Plan {
             marks,
             number,
@@ -235,7 +238,8 @@ impl Claims {
         ensures told { (word : ℕ) → let at = occasion_of self.now.contents (told_by happened.now) when.moment word in IsPlan self.now.contents at plan.now → groups_behind result ≡ kept_told self.now.contents at }
     {
         Behind {
-            groups: &self.groups,
+            groups: self.groups.as_slice(),
+            due: self.groups.deadlines(),
             means: Means {
                 moment: when.moment,
                 announces: self.announces,
@@ -295,14 +299,15 @@ fn count_after(registered: u64, deed: &Deed) -> u64
 }
 
 // The groups at the boot: that of the host, if there is one. Refused only for want of memory.
-fn first_groups(alloc: Global, config: &Config, when: When) -> Result<Vec<Claimant>, AllocError>
-    ensures typed { IfOk result (λ groups. HaveData groups.items) }
-    ensures mapped { IfOk result (λ groups. HaveBitmaps groups.items) }
-    ensures value { IfOk result (λ groups. groups.items ≡ option_to_list (option_map (host_kept when.moment when.word config.now) config.now.host)) }
+fn first_groups(alloc: Global, config: &Config, when: When) -> Result<Claimants, AllocError>
+    ensures typed { IfOk result (λ groups. HaveData groups.kept) }
+    ensures mapped { IfOk result (λ groups. HaveBitmaps groups.kept) }
+    ensures value { IfOk result (λ groups. groups.kept ≡ option_to_list (option_map (host_kept when.moment when.word config.now) config.now.host)) }
 {
-    let mut groups = Vec::new(alloc);
+    let mut groups = Claimants::new(alloc);
     if let Some(host) = &config.host {
-        groups.push(host_claimant(alloc, config, host, when)?)?;
+        groups.reserve(1)?;
+        groups.push(host_claimant(alloc, config, host, when)?);
     }
     Ok(groups)
 }
@@ -359,25 +364,4 @@ fn is_conflict(mark: &Mark) -> bool
         mark,
         Mark::Renamed { .. } | Mark::Contested { .. } | Mark::Failed { .. }
     )
-}
-
-fn first_due(groups: &[Claimant], announces: bool) -> Option<u64>
-    ensures { result ≡ least (flat_map (next_in announces) groups.now) }
-{
-    let mut first = None;
-    for one in groups {
-        first = earlier(first, one.claim().next_due(announces));
-    }
-    first
-}
-
-// The earlier of two moments that may be there.
-fn earlier(one: Option<u64>, other: Option<u64>) -> Option<u64>
-    ensures { (ones others : List ℕ) → one ≡ least ones → other ≡ least others → result ≡ least (ones ++ others) }
-{
-    match (one, other) {
-        (Some(one), Some(other)) => Some(one.min(other)),
-        (Some(one), None) => Some(one),
-        (None, other) => other,
-    }
 }

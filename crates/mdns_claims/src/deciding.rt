@@ -1,19 +1,20 @@
 // What is done to the groups by an event.
 ghost use Rattle.std.specs.Prelude.{IfOk, map, ℕ, ◌≡◌};
 ghost use Rattle.std.specs.Option.{option_map_or};
-ghost use Rattle.mdns_claims.specs.Named.{with_renewals};
-ghost use Rattle.mdns_claims.specs.Planned.{IsAcceptable, IsDone, IsFor, counted_by, ends_some, going_on, is_update, kept_by, means_of, renewal_told};
-ghost use Rattle.mdns_claims.specs.Seen.{occasion_in};
+ghost use Rattle.mdns_claimants.specs.Named.{with_renewals};
+ghost use Rattle.mdns_renewals.specs.Wishes.{IsAcceptable};
+ghost use Rattle.mdns_claims.specs.Planned.{IsDone, IsFor, counted_by, ends_some, going_on, is_update, kept_by, means_of};
+ghost use Rattle.mdns_renewals.specs.Occasions.{renewal_told};
+ghost use Rattle.mdns_renewals.specs.Seen.{occasion_in};
 ghost use Rattle.mdns_happened.specs.Told.{told_by};
 ghost use Rattle.mdns_probe.specs.Claiming.{begun};
 ghost use Rattle.mdns_probe.specs.Kept.{disturbed_for};
 
-use crate::begin::begun;
 use crate::beginning::Beginning;
-use crate::claimant::Claimant;
 use crate::plan::Deed;
-use crate::renew::Seen;
+use mdns_claimants::Claimant;
 use mdns_happened::Happened;
+use mdns_renewals::{Seen, begun};
 use sd_call::Request;
 use std::alloc::{AllocError, Global};
 

@@ -1,21 +1,22 @@
 // What a deed makes of a group, read before it is done.
 ghost use Rattle.std.specs.Prelude.{None, slice_index_or, ◌||◌, ◌≡◌};
 ghost use Rattle.std.specs.Option.{option_copied, option_map, option_to_list};
-ghost use Rattle.mdns_claims.specs.Behind.{ends_by};
-ghost use Rattle.mdns_claims.specs.Later.{begun_by, is_still, later_of, shown_by, shown_of, takes_none, touches};
-ghost use Rattle.mdns_claims.specs.Named.{with_renewal};
+ghost use Rattle.mdns_renewals.specs.Occasions.{ends_by};
+ghost use Rattle.mdns_claimants.specs.Owned.{registered_answers};
+ghost use Rattle.mdns_claims.specs.Later.{begun_by, later_of, shown_by, shown_of, takes_none, touches};
+ghost use Rattle.mdns_claimants.specs.Named.{with_renewal};
 ghost use Rattle.mdns_claims.specs.Seen.{means_in};
 ghost use Rattle.mdns_happened.specs.Told.{told_by};
 ghost use Rattle.mdns_history.specs.Answers.{named_if};
 ghost use Rattle.mdns_history.specs.Groups.{numbered_name};
 ghost use Rattle.mdns_probe.specs.Claiming.{is_settle_due};
 
-use crate::claimant::Claimant;
 use crate::doing::Means;
 use crate::plan::Deed;
-use crate::renew::ends;
-use crate::renewal::Renewal;
+use mdns_claimants::answers::{is_of, named_if};
+use mdns_claimants::{Claimant, Renewal};
 use mdns_probe::{Claim, Naming};
+use mdns_renewals::ends;
 use sd_call::Answer;
 
 /// A group behind a deed: what it is called, the number of its name, whether it is sure, and the claim that has its records.
@@ -73,13 +74,6 @@ impl Means<'_> {
     }
 }
 
-/// Whether a deed leaves all groups as they are. It may begin one.
-pub fn is_still(deed: &Deed) -> bool
-    ensures { result ≡ is_still deed.now }
-{
-    matches!(deed, Deed::Nothing | Deed::Begins(_))
-}
-
 /// Whether a deed surely takes no record from those that are the daemon's to send. A tick only makes groups sure.
 pub fn takes_none(deed: &Deed) -> bool
     ensures { result ≡ takes_none deed.now }
@@ -94,6 +88,16 @@ pub fn begun(deed: &Deed) -> Option<&Claimant>
     match deed {
         Deed::Begins(one) => Some(one.claimant()),
         _ => None,
+    }
+}
+
+/// The answer of a registration among the group that a deed begins.
+pub fn begun_answer(deed: &Deed, session: u64, op: u32) -> Option<Answer>
+    ensures { option_to_list result ≡ registered_answers session op (option_to_list (begun_by deed.now)) }
+{
+    match begun(deed) {
+        Some(one) if is_of(one, session, op) => named_if(one),
+        _ => Some(Answer::Conflict),
     }
 }
 

@@ -5,16 +5,16 @@ ghost use Rattle.dns_name.specs.Names.{folded_eq};
 ghost use Rattle.dns_record.specs.Records.{same};
 ghost use Rattle.mdns_claims.specs.Later.{groups_behind};
 ghost use Rattle.mdns_claims.specs.Moved.{is_moved};
-ghost use Rattle.mdns_claims.specs.Owned.{AreWithin, is_among, own_in};
+ghost use Rattle.mdns_claimants.specs.Owned.{AreWithin, is_among, own_in};
 ghost use Rattle.mdns_history.specs.Announcing.{same_records};
 
 use crate::behind::Behind;
-use crate::names::put_once;
-use crate::ours::is_among;
-use crate::own::put_own;
 use dns_message::Rrs;
 use dns_name::Name;
 use dns_record::Rr;
+use mdns_claimants::names::put_once;
+use mdns_claimants::ours::is_among;
+use mdns_claimants::own::put_own;
 use std::alloc::{AllocError, Global};
 
 impl Behind<'_> {

@@ -2,7 +2,7 @@
 ghost use Rattle.std.specs.Prelude.{◌≡◌, ◌++◌, OnOk};
 
 use crate::beginning::Beginning;
-use crate::renewal::Renewal;
+use mdns_claimants::Renewal;
 use mdns_conflict::Storm;
 use mdns_history::{Mark, Marks};
 use std::alloc::AllocError;

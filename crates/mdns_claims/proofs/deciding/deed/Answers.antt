@@ -1,5 +1,5 @@
 use Rattle.std.proofs.Common.{◌∙◌, refl, sym, inl, inr}
-use Rattle.mdns_claims.specs.Seen.{occasion_in}
+use Rattle.mdns_renewals.specs.Seen.{occasion_in}
 use Rattle.mdns_claims.proofs.Deeds.{ticks_done, changes_done, ends_done, begins_done}
 use Rattle.mdns_claims.proofs.deciding.deed.Goals as goal
 

@@ -1,7 +1,7 @@
 use Rattle.std.proofs.Common.{List, ◌++◌, ap, ◌∙◌}
 use Rattle.dns_record.specs.declared.record.Rr.{Rr}
 use Rattle.mdns_claims.specs.Later.{groups_behind}
-use Rattle.mdns_claims.specs.Owned.{of_name, own_in}
+use Rattle.mdns_claimants.specs.Owned.{of_name, own_in}
 use Rattle.mdns_claims.proofs.Moving.{moved_alike}
 use Rattle.mdns_claims.proofs.behind.Behind.is_moved.Goals as goal
 

@@ -1,7 +1,7 @@
 use Rattle.std.proofs.Common.{◌≡◌, ◌++◌, drop}
 use Rattle.std.specs.Option.{option_to_list}
 use Rattle.mdns_claims.specs.Later.{begun_by, later_from}
-use Rattle.mdns_claims.specs.Owned.{registered_answers}
+use Rattle.mdns_claimants.specs.Owned.{registered_answers}
 use Rattle.mdns_claims.specs.Seen.{means_in}
 use Rattle.mdns_claims.proofs.behind.Behind.later_answer.Given as goal
 

@@ -1,7 +1,7 @@
 use Rattle.std.proofs.Common.{Some, None, subst}
 use Rattle.mdns_asked.specs.Asked.{IsPut}
 use Rattle.mdns_asked.proofs.Asking.{none_put}
-use Rattle.mdns_claims.specs.Owned.{claimed}
+use Rattle.mdns_claimants.specs.Owned.{claimed}
 use Rattle.mdns_claims.specs.Seen.{means_in}
 use Rattle.mdns_claims.proofs.Asked.{all_asked}
 use Rattle.mdns_claims.proofs.behind.Behind.put_asked.Goals as goal

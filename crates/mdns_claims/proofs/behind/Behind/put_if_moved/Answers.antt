@@ -1,5 +1,5 @@
 use Rattle.std.proofs.Common.{◌∙◌}
-use Rattle.mdns_claims.proofs.Changed.{same_among}
+use Rattle.mdns_claimants.proofs.Naming.{same_among}
 use Rattle.mdns_claims.proofs.behind.Behind.put_if_moved.Goals as goal
 
 pub returns-in_ok-put_once-clause-moved : goal.returns-in_ok-put_once-clause-moved

@@ -1,7 +1,7 @@
 use Rattle.std.proofs.Common.{◌∙◌, [], ap, sym, append-nil}
 use Rattle.std.specs.Option.{option_map_or}
 use Rattle.mdns_claims.specs.Later.{shown_own}
-use Rattle.mdns_claims.specs.Owned.{claimed_of}
+use Rattle.mdns_claimants.specs.Owned.{claimed_of}
 use Rattle.mdns_claims.specs.Seen.{means_in}
 use Rattle.mdns_claims.proofs.Ahead.{own_more}
 use Rattle.mdns_claims.proofs.behind.Behind.put_later.Goals as goal

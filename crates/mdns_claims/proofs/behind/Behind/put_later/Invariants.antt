@@ -1,6 +1,6 @@
 use Rattle.std.proofs.Common.{◌≡◌, ◌++◌, drop}
 use Rattle.mdns_claims.specs.Later.{later_from}
-use Rattle.mdns_claims.specs.Owned.{of_name, own_in}
+use Rattle.mdns_claimants.specs.Owned.{of_name, own_in}
 use Rattle.mdns_claims.specs.Seen.{means_in}
 use Rattle.mdns_claims.proofs.behind.Behind.put_later.Given as goal
 

@@ -1,6 +1,6 @@
 use Rattle.std.proofs.Common.{ap, ◌∙◌}
 use Rattle.mdns_claims.specs.Later.{groups_behind}
-use Rattle.mdns_claims.specs.Owned.{is_among, own_in}
+use Rattle.mdns_claimants.specs.Owned.{is_among, own_in}
 use Rattle.mdns_claims.proofs.Moving.{moved_among}
 use Rattle.mdns_claims.proofs.behind.Behind.put_moved_names.Goals as goal
 

@@ -1,6 +1,6 @@
 use Rattle.std.proofs.Common.{◌≡◌, ℕ, Bool, true, false, List, ⊎_elim, ap, ◌∙◌, refl}
 use Rattle.std.proofs.lemmas.List.{take_all}
-use Rattle.mdns_claims.specs.Owned.{is_among}
+use Rattle.mdns_claimants.specs.Owned.{is_among}
 use Rattle.mdns_claims.proofs.Moving.{among_next}
 use Rattle.mdns_claims.proofs.behind.Behind.put_moved_of.Goals as goal
 

@@ -1,7 +1,7 @@
 use Rattle.std.proofs.Common.{◌≡◌, ℕ, true, false, List, take}
 use Rattle.mdns_claims.specs.Later.{groups_behind}
 use Rattle.mdns_claims.specs.Moved.{is_moved}
-use Rattle.mdns_claims.specs.Owned.{AreWithin, is_among, own_in}
+use Rattle.mdns_claimants.specs.Owned.{AreWithin, is_among, own_in}
 use Rattle.mdns_claims.proofs.behind.Behind.put_moved_of.Given as goal
 
 abbrev pub invariant-loop-name : goal.invariant-loop-name

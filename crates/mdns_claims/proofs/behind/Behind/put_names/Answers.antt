@@ -1,8 +1,8 @@
 use Rattle.std.proofs.Common.{◌≡◌, ◌∙◌, [], sym, refl, Some, None}
-use Rattle.mdns_claims.specs.Owned.{claimed_of}
+use Rattle.mdns_claimants.specs.Owned.{claimed_of}
 use Rattle.mdns_claims.specs.Seen.{means_in}
 use Rattle.mdns_claims.proofs.Ahead.{all_same}
-use Rattle.mdns_claims.proofs.Changed.{not_within}
+use Rattle.mdns_claimants.proofs.Naming.{not_within}
 use Rattle.mdns_claims.proofs.behind.Behind.put_names.Goals as goal
 
 pub returns-in_default-clause-changed : goal.returns-in_default-clause-changed

@@ -1,5 +1,5 @@
 use Rattle.std.proofs.Common.{◌∙◌, ◌++◌, sym, append-nil, Some, None}
-use Rattle.mdns_claims.specs.Owned.{claimed_of}
+use Rattle.mdns_claimants.specs.Owned.{claimed_of}
 use Rattle.mdns_claims.specs.Seen.{means_in}
 use Rattle.mdns_claims.proofs.Ahead.{all_own}
 use Rattle.mdns_claims.proofs.behind.Behind.put_own.Goals as goal

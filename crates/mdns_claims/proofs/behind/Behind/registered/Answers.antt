@@ -4,7 +4,7 @@ use Rattle.mdns_happened.specs.declared.around.Registered.{Registered}
 use Rattle.mdns_happened.specs.Registrations.{is_told}
 use Rattle.mdns_probe.specs.Kept.{Kept}
 use Rattle.mdns_claims.specs.Later.{later_from}
-use Rattle.mdns_claims.specs.Owned.{registered_answers}
+use Rattle.mdns_claimants.specs.Owned.{registered_answers}
 use Rattle.mdns_claims.specs.Seen.{means_in}
 use Rattle.mdns_claims.proofs.Changed.{line_of, skipped, told_more}
 use Rattle.mdns_claims.proofs.Made.{later_all}

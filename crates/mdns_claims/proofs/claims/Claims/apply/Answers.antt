@@ -3,7 +3,7 @@ use Rattle.mdns_happened.specs.Told.{told_by}
 use Rattle.mdns_claims.specs.State.{State}
 use Rattle.mdns_claims.specs.Behind.{occasion_of}
 use Rattle.mdns_claims.specs.Planned.{Means, kept_by, counted_by}
-use Rattle.mdns_claims.specs.Typed.{HaveData, HaveBitmaps}
+use Rattle.mdns_claimants.specs.Typed.{HaveData, HaveBitmaps}
 use Rattle.mdns_claims.proofs.Typed.{behind_data}
 use Rattle.mdns_claims.proofs.Mapped.{behind_bitmaps}
 use Rattle.mdns_claims.proofs.Carried.{carried}
@@ -19,7 +19,7 @@ returns-clause-contents c = λ word is.
       announces = c.self.inside.announces;
       number = c.args.plan.number;
       registered = c.count_after-self-inside.result;
-      kept = c.carry_out.new.groups.items;
+      kept = c.carry_out.new.groups.kept;
       storm = c.args.plan.storm;
     })
     (ap (λ (s : State). s.contents.config) c.self.view_is) announces refl
@@ -31,11 +31,11 @@ returns-clause-contents c = λ word is.
 pub invariant_of-self : goal.invariant_of-self
 invariant_of-self c =
     let means : Means = record { moment = c.args.when.moment; announces = c.self.inside.announces; told = told_by c.args.happened.now; marks = c.as_slice.result.now } in (
-      subst HaveData (sym c.carry_out.ensures) (behind_data means c.self.inside.groups.items c.args.plan.deed c.requires.fits.brought c.self.invariant.0),
-      subst HaveBitmaps (sym c.carry_out.ensures) (behind_bitmaps means c.self.inside.groups.items c.args.plan.deed c.requires.fits.mapped c.self.invariant.1),
+      subst HaveData (sym c.carry_out.ensures) (behind_data means c.self.inside.groups.kept c.args.plan.deed c.requires.fits.brought c.self.invariant.0),
+      subst HaveBitmaps (sym c.carry_out.ensures) (behind_bitmaps means c.self.inside.groups.kept c.args.plan.deed c.requires.fits.mapped c.self.invariant.1),
     )
 
 pub returns-clause-data : goal.returns-clause-data
 returns-clause-data c =
     let means : Means = record { moment = c.args.when.moment; announces = c.self.inside.announces; told = told_by c.args.happened.now; marks = c.as_slice.result.now } in
-    subst HaveData (sym c.carry_out.ensures) (behind_data means c.self.inside.groups.items c.args.plan.deed c.requires.fits.brought c.self.invariant.0)
+    subst HaveData (sym c.carry_out.ensures) (behind_data means c.self.inside.groups.kept c.args.plan.deed c.requires.fits.brought c.self.invariant.0)

@@ -1,0 +1,11 @@
+pub mod Loops
+pub mod Asked
+pub mod Sure
+pub mod Naming
+pub mod Typed
+pub mod Still
+pub mod Told
+pub mod Ticking
+pub mod Places
+pub mod Passing
+pub mod Probing

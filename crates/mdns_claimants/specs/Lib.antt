@@ -1,0 +1,5 @@
+pub mod Named
+pub mod Typed
+pub mod Owned
+pub mod Due
+pub mod Live

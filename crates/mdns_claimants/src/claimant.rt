@@ -1,0 +1,98 @@
+// A group that claims a name.
+ghost use Rattle.std.specs.Prelude.{◌^◌, ◌≡◌, ◌≤◌};
+ghost use Rattle.mdns_claimants.specs.Due.{ticked_at};
+ghost use Rattle.mdns_claimants.specs.Named.{IsNamed, with_renewal};
+ghost use Rattle.mdns_probe.specs.Kept.{name_of};
+
+use crate::renewal::Renewal;
+use dns_name::Name;
+use mdns_probe::{Claim, Naming};
+use std::marker::Model;
+
+/// A live group: what it is called, the number of its name, and its claim of it.
+#[derive(Drop)]
+pub struct Claimant {
+    naming: Naming,
+    number: u32,
+    name: Name,
+    claim: Claim,
+}
+
+impl Model for Claimant {
+    ghost use Rattle.std.specs.Prelude.{◌≡◌};
+    ghost use Rattle.mdns_history.specs.Groups.{numbered_name};
+    ghost use Rattle.mdns_probe.specs.Kept.{Kept};
+    ghost use Rattle.mdns_claimants.specs.Named.{IsNamed};
+
+    ghost Value = { Kept };
+
+    ghost view = { λ a. record { group = a.naming; number = a.number; claim = a.claim } };
+
+    ghost invariant = { λ a. (a.name ≡ numbered_name a.naming a.number) × IsNamed (record { group = a.naming; number = a.number; claim = a.claim }) };
+}
+
+impl Claimant {
+    /// The group under a number, with its claim of that name.
+    pub fn new(naming: Naming, number: u32, claim: Claim) -> Claimant
+        requires { IsNamed (record { group = naming; number = number; claim = claim }) }
+        ensures { result ≡ record { group = naming; number = number; claim = claim } }
+    {
+        let name = naming.name_under(number);
+        Claimant {
+            naming,
+            number,
+            name,
+            claim,
+        }
+    }
+
+    /// What the group is called. The unique records of its claim have its name.
+    pub fn naming(&self) -> &Naming
+        ensures naming { result.now ≡ self.now.group }
+        ensures named { IsNamed self.now }
+    {
+        &self.naming
+    }
+
+    /// The number of its name.
+    pub fn number(&self) -> u32
+        ensures { result ≡ self.now.number }
+    {
+        self.number
+    }
+
+    /// Its name.
+    pub fn name(&self) -> &Name
+        ensures { result.now ≡ name_of self.now }
+    {
+        &self.name
+    }
+
+    /// Its claim, whose unique records have its name.
+    pub fn claim(&self) -> &Claim
+        ensures claim { result.now ≡ self.now.claim }
+        ensures named { IsNamed self.now }
+    {
+        &self.claim
+    }
+
+    /// Notes a tick, with announcements where there are any.
+    pub fn tick(&mut self, now: u64, announces: bool)
+        requires { now ≤ 2 ^ 53 }
+        ensures { self.new ≡ ticked_at now announces self.old }
+    {
+        self.claim.note_tick(now, announces);
+    }
+
+    /// Gives the group another number and other records, if there are any.
+    pub fn renew(&mut self, renewal: Option<Renewal>)
+        requires { IsNamed (with_renewal renewal self.old) }
+        ensures { self.new ≡ with_renewal renewal self.old }
+    {
+        if let Some(renewal) = renewal {
+            self.number = renewal.number;
+            self.name = self.naming.name_under(renewal.number);
+            self.claim = renewal.claim;
+        }
+    }
+}

@@ -1,6 +1,0 @@
-use Rattle.std.proofs.Common.{arith}
-use Rattle.mdns_claims.proofs.Typed.{bytes_each}
-use Rattle.mdns_claims.proofs.looks.look_at_bytes.Goals as goal
-
-pub returns : goal.returns
-returns c = bytes_each c.args.bytes.now (λ i h. omega (arith, c.type_inv.bytes i))

@@ -1,7 +1,0 @@
-use Rattle.std.proofs.Common.{take}
-use Rattle.mdns_asked.specs.Asked.{IsPut}
-use Rattle.mdns_claims.specs.Owned.{nsecs_in}
-use Rattle.mdns_claims.proofs.ours.put_asked_nsecs.Given as goal
-
-abbrev pub invariant-loop-one : goal.invariant-loop-one
-invariant-loop-one l = IsPut (nsecs_in (take l.one-index l.groups)) l.initial.asked l.asked

@@ -1,6 +1,0 @@
-use Rattle.std.proofs.Common.{◌≡◌, map, take}
-use Rattle.mdns_history.specs.Sending.{unflushed}
-use Rattle.mdns_claims.proofs.probes.unflushed.Given as goal
-
-abbrev pub invariant-loop-rr : goal.invariant-loop-rr
-invariant-loop-rr l = l.copies ≡ map unflushed (take l.rr-index l.rrs)

@@ -1,6 +1,0 @@
-use Rattle.std.proofs.Common.{◌≡◌, drop}
-use Rattle.mdns_claims.specs.Behind.{renaming_in}
-use Rattle.mdns_claims.proofs.renew.renaming_in.Given as goal
-
-abbrev pub invariant-loop-mark : goal.invariant-loop-mark
-invariant-loop-mark l = renaming_in l.id (drop l.mark-index l.marks) ≡ renaming_in l.id l.marks

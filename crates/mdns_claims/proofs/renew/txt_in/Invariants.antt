@@ -1,6 +1,0 @@
-use Rattle.std.proofs.Common.{◌≡◌, drop}
-use Rattle.mdns_claims.specs.Behind.{txt_in}
-use Rattle.mdns_claims.proofs.renew.txt_in.Given as goal
-
-abbrev pub invariant-loop-rr : goal.invariant-loop-rr
-invariant-loop-rr l = txt_in (drop l.rr-index l.rrs) ≡ txt_in l.rrs

@@ -1,0 +1,3 @@
+pub mod Occasions
+pub mod Seen
+pub mod Wishes
