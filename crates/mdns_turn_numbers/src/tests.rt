@@ -3,7 +3,7 @@ ghost use Rattle.std.specs.Prelude.{◌<◌, ◌+◌, ◌^◌, ◌≡◌, [], If
 use crate::lent::count_both;
 use crate::modeled::{Dial, set_by_turn};
 use crate::spawned::turn_in_thread;
-use crate::threads::{append_all, by_three};
+use crate::threads::{Shares, append_all, by_three};
 use crate::{Append, Numbers};
 use mdns_turn::Turn;
 use std::alloc::{AllocError, Global};
@@ -51,7 +51,12 @@ fn three_threads_append(rt: HostRuntime) -> Result<(), Fail> {
         let one = numbers(alloc, 1_000_000, count)?;
         let two = numbers(alloc, 2_000_000, count)?;
         let three = numbers(alloc, 3_000_000, count)?;
-        let all = by_three(&rt, alloc, &turn, &mut seat, &one, &two, &three).ok_or(AllocError)?;
+        let shares = Shares {
+            first: &one,
+            second: &two,
+            third: &three,
+        };
+        let all = by_three(&rt, alloc, &turn, &mut seat, shares).ok_or(AllocError)?;
         assert_eq!(rt; all.len() as u64, 3 * count);
         for from in [1_000_000, 2_000_000, 3_000_000] {
             assert!(rt;

@@ -1,5 +1,5 @@
 //! What each thread does with its seat.
-ghost use Rattle.std.specs.Prelude.{◌≡◌, true, false, [], ◌∷◌, ◌++◌, map, take, IfSome};
+ghost use Rattle.std.specs.Prelude.{◌≡◌, ℕ, List, true, false, [], ◌∷◌, ◌++◌, map, take, IfSome};
 ghost use Rattle.mdns_turn.specs.History.{StartsWith, turns};
 ghost use Rattle.mdns_turn.specs.Models.{IsSeatOf, IsSameSeat, HasItsTurns};
 ghost use Rattle.mdns_turn_numbers.specs.declared.Change.TheVariants.{Added, Missed, Taken};
@@ -70,30 +70,45 @@ fn append_by<R: Wait>(
     }
 }
 
-// Joins the seats that have appended one, two and three into the first seat, and takes the list out.
+// The seats of three threads.
+#[derive(Drop)]
+struct Seats {
+    first: Seat<Numbers>,
+    second: Seat<Numbers>,
+    third: Seat<Numbers>,
+}
+
+// Joins the seats of three threads into the first seat, and takes the list out.
 fn gather<R: Wait>(
     rt: &R,
     alloc: Global,
     turn: &Turn<Numbers>,
     seat: &mut Seat<Numbers>,
-    a: Seat<Numbers>,
-    b: Seat<Numbers>,
-    c: Seat<Numbers>,
-    _one: &[u64],
-    _two: &[u64],
-    _three: &[u64],
+    seats: Seats,
 ) -> Vec<u64>
-    requires turn { IsSeatOf turn.now seat.old × IsSeatOf turn.now a × IsSeatOf turn.now b × IsSeatOf turn.now c }
+    requires turn { IsSeatOf turn.now seat.old × IsSeatOf turn.now seats.first × IsSeatOf turn.now seats.second × IsSeatOf turn.now seats.third }
     requires empty { turn.now.opening.items.items ≡ [] }
-    requires joined { (seat.old.joined ≡ []) × (a.joined ≡ []) × (b.joined ≡ []) × (c.joined ≡ []) }
-    requires made { (a.mine ≡ map Added _one.now) × (b.mine ≡ map Added _two.now) × (c.mine ≡ map Added _three.now) }
+    requires joined { (seat.old.joined ≡ []) × (seats.first.joined ≡ []) × (seats.second.joined ≡ []) × (seats.third.joined ≡ []) }
     ensures same { IsSameSeat seat.old seat.new }
-    ensures made { IsMadeByThree result.items seat.new _one.now _two.now _three.now }
+    ensures made { (one two three : List ℕ) → seats.first.mine ≡ map Added one → seats.second.mine ≡ map Added two → seats.third.mine ≡ map Added three → IsMadeByThree result.items seat.new one two three }
 {
-    turn.join(seat, a);
-    turn.join(seat, b);
-    turn.join(seat, c);
+    let Seats {
+        first,
+        second,
+        third,
+    } = seats;
+    turn.join(seat, first);
+    turn.join(seat, second);
+    turn.join(seat, third);
     take_out(rt, alloc, turn, seat)
+}
+
+/// What each of three threads appends.
+#[derive(Clone, Copy)]
+pub struct Shares<'a> {
+    pub first: &'a [u64],
+    pub second: &'a [u64],
+    pub third: &'a [u64],
 }
 
 /// Three threads append their numbers, and then the seat takes the list out. It is the list of all turns that the seat
@@ -103,15 +118,18 @@ pub fn by_three<R: Threads + Wait + Sync>(
     alloc: Global,
     turn: &Turn<Numbers>,
     seat: &mut Seat<Numbers>,
-    one: &[u64],
-    two: &[u64],
-    three: &[u64],
+    shares: Shares<'_>,
 ) -> Option<Vec<u64>>
     requires turn { IsSeatOf turn.now seat.old × (seat.old.joined ≡ []) }
     requires empty { turn.now.opening.items.items ≡ [] }
     ensures same { IsSameSeat seat.old seat.new }
-    ensures made { IfSome result (λ v. IsMadeByThree v.items seat.new one.now two.now three.now) }
+    ensures made { IfSome result (λ v. IsMadeByThree v.items seat.new shares.entry.first.now shares.entry.second.now shares.entry.third.now) }
 {
+    let Shares {
+        first: one,
+        second: two,
+        third: three,
+    } = shares;
     let first = turn.split(rt, seat).ok()?;
     let second = turn.split(rt, seat).ok()?;
     let third = turn.split(rt, seat).ok()?;
@@ -139,5 +157,10 @@ pub fn by_three<R: Threads + Wait + Sync>(
             )
         },
     );
-    Some(gather(rt, alloc, turn, seat, a?, b?, c?, one, two, three))
+    let seats = Seats {
+        first: a?,
+        second: b?,
+        third: c?,
+    };
+    Some(gather(rt, alloc, turn, seat, seats))
 }
