@@ -5,15 +5,14 @@ ghost use Rattle.std.specs.Cmp.Rules.{comparing, hashing};
 ghost use Rattle.std.proofs.Common.{rules};
 ghost use Rattle.by_name.specs.At.{At, at_eq, at, owner_of};
 
-use arrayvec::ArrayVec;
-use dns_name::Name;
+use dns_name::{FoldedName, Name};
 use std::hash::{Hash, Hasher};
 use std::marker::Model;
 
 /// A name in lower case, in wire form, and a number among its values.
 #[derive(Drop)]
 pub struct Place {
-    owner: ArrayVec<u8, 255>,
+    owner: FoldedName,
     number: usize,
 }
 
@@ -22,7 +21,7 @@ impl Model for Place {
 
     ghost Value = { At };
 
-    ghost view = { λ a. record { owner = a.owner.items; number = a.number } };
+    ghost view = { λ a. record { owner = a.owner; number = a.number } };
 }
 
 impl PartialEq for Place {
@@ -55,11 +54,10 @@ impl Place {
     pub fn new(name: &Name, number: usize) -> Place
         ensures { result ≡ at (owner_of name.now) number }
     {
-        let mut owner = ArrayVec::new();
-        for byte in name.as_wire() {
-            owner.push(byte.to_ascii_lowercase());
+        Place {
+            owner: FoldedName::of(name),
+            number,
         }
-        Place { owner, number }
     }
 
     /// The name in lower case, in wire form.
@@ -80,9 +78,10 @@ impl Place {
     pub fn other(&self, number: usize) -> Place
         ensures { result ≡ at self.now.owner number }
     {
-        let mut owner = ArrayVec::new();
-        let _ = owner.try_extend_from_slice(self.owner.as_slice());
-        Place { owner, number }
+        Place {
+            owner: self.owner.copy(),
+            number,
+        }
     }
 
     /// Goes to another number of the same name.

@@ -1,10 +1,9 @@
 -- The wire form of a name, and its labels.
-use Rattle.std.proofs.Common.{◌≡◌, ℕ, ◌+◌, ◌-◌, ◌≤◌, ◌++◌, List, [], ◌∷◌, ◌∙◌, true, Result, Ok, Err, length, take, drop, refl, arith, ap, sym, subst, length-append, append_assoc, append-nil}
+use Rattle.std.proofs.Common.{◌≡◌, ℕ, ◌+◌, ◌-◌, ◌≤◌, ◌++◌, List, [], ◌∷◌, ◌∙◌, true, length, take, drop, refl, arith, ap, sym, subst, length-append, append_assoc, append-nil}
 use Rattle.std.proofs.Math.Seq.{take-append_seam, drop-append_seam}
-use Rattle.std.proofs.lemmas.Bool.{false≢true, leb-true, le-leb, ne_eqb, and_from, and_parts}
+use Rattle.std.proofs.lemmas.Bool.{leb-true, le-leb, ne_eqb, and_from, and_parts}
 use Rattle.std.specs.Prelude.{IsTrue}
 use Rattle.std.specs.List.{list_all}
-use Rattle.std.specs.Result.{IsOk, OnOk}
 use Rattle.dns_name.specs.Names.{wire_of, labels_from, labels_of, is_label, is_name, IsNameInWire}
 
 -- a label has 1 to 63 bytes
@@ -98,11 +97,6 @@ pushed wire label popped sized extended after name kept is l room e f g k =
     let cut : popped ≡ front_of name = e ∙ rw whole (take_front (front_of name) 0) in
     in_wire (name ++ label ∷ []) after (push_is_name name label h l room)
     (rw (k, g, f, cut) (ap (λ (l : List ℕ). l ++ 0 ∷ []) (append_assoc (front_of name) (length label ∷ []) label)) ∙ sym (wire_of-push name label))
-
--- at a result that is Ok
-pub at_ok : {T E P : Type 0} (r : Result T E) → IsOk r → OnOk r P → P
-at_ok (Ok x) h p = p
-at_ok (Err e) h p = absurd (false≢true h)
 
 pub list_head : (x y : ℕ) (xs ys : List ℕ) → x ∷ xs ≡ y ∷ ys → x ≡ y
 list_head x y xs ys e = cc

@@ -3,3 +3,4 @@ pub mod Names
 pub mod NameText
 pub mod TextItems
 pub mod ReadName
+pub mod InPlace

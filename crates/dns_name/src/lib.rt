@@ -3,14 +3,17 @@
 
 mod error;
 mod fold;
+mod folded;
 mod items;
 mod label;
 mod laws;
 mod name;
 mod reading;
 mod text;
+mod wire_bytes;
 
 pub use error::NameError;
+pub use folded::FoldedName;
 pub use items::{TextItem, TextItems, read_label};
 pub use label::Label;
 pub use laws::names_are_lawful;

@@ -1,10 +1,11 @@
 ghost use Rattle.std.specs.Prelude.{◌≡◌, ◌↔◌, ℕ, ◌+◌, ◌≤◌, List, [], ◌∷◌, ◌++◌, length, slice_get, IsTrue, MatchOption, IsOk, IfOk, IfErr};
 ghost use Rattle.std.specs.Option.{option_copied};
+ghost use Rattle.dns_name.specs.InPlace.{bytes_in};
 ghost use Rattle.dns_name.specs.Names.{is_label, is_name, wire_of, folded, folded_eq, exact_eq, name_cmp, is_under};
 
 use crate::fold::{folded_order, is_same_folded};
+use crate::wire_bytes::WireBytes;
 use crate::{Label, NameError};
-use arrayvec::ArrayVec;
 use std::cmp::Ordering;
 use std::marker::Model;
 
@@ -12,18 +13,19 @@ use std::marker::Model;
 #[derive(Drop)]
 pub struct Name {
     // Each label behind its length, and a zero byte at the end.
-    wire: ArrayVec<u8, 255>,
+    wire: WireBytes,
 }
 
 impl Model for Name {
     ghost use Rattle.std.specs.Prelude.{List, ℕ};
     ghost use Rattle.dns_name.specs.Names.{labels_of, IsNameInWire};
+    ghost use Rattle.dns_name.specs.InPlace.{bytes_in};
 
     ghost Value = { List (List ℕ) };
 
-    ghost view = { λ a. labels_of a.wire.items };
+    ghost view = { λ a. labels_of (bytes_in a.wire) };
 
-    ghost invariant = { λ a. IsNameInWire a.wire.items };
+    ghost invariant = { λ a. IsNameInWire (bytes_in a.wire) };
 }
 
 impl Name {
@@ -31,7 +33,7 @@ impl Name {
     pub fn root() -> Name
         ensures { result ≡ [] }
     {
-        let mut wire = ArrayVec::new();
+        let mut wire = WireBytes::new();
         wire.push(0);
         Name { wire }
     }
@@ -42,6 +44,14 @@ impl Name {
         ensures name { IsTrue (is_name self.now) }
     {
         self.wire.as_slice()
+    }
+
+    // The wire form in its place.
+    pub(crate) fn bytes(&self) -> WireBytes
+        ensures value { bytes_in result ≡ wire_of self.now }
+        ensures name { IsTrue (is_name self.now) }
+    {
+        self.wire
     }
 
     /// How many bytes the wire form has, from 1 to 255.
@@ -68,7 +78,7 @@ impl Name {
     {
         self.wire.pop();
         self.wire.push(label.len() as u8);
-        let _ = self.wire.try_extend_from_slice(label);
+        self.wire.extend(label);
         self.wire.push(0);
     }
 
@@ -76,9 +86,7 @@ impl Name {
     pub fn copy(&self) -> Name
         ensures { result ≡ self.now }
     {
-        let mut wire = ArrayVec::new();
-        let _ = wire.try_extend_from_slice(self.wire.as_slice());
-        Name { wire }
+        Name { wire: self.wire }
     }
 
     /// Whether the names are one, case aside: ASCII letters alone have two cases. (RFC 6762 16)
@@ -147,10 +155,10 @@ impl Name {
         if 1 + label.len() + self.wire.len() > 255 {
             return Err(NameError::LongName);
         }
-        let mut wire = ArrayVec::new();
+        let mut wire = WireBytes::new();
         wire.push(label.len() as u8);
-        let _ = wire.try_extend_from_slice(label);
-        let _ = wire.try_extend_from_slice(self.wire.as_slice());
+        wire.extend(label);
+        wire.extend(self.wire.as_slice());
         Ok(Name { wire })
     }
 
@@ -224,8 +232,8 @@ impl<'a> Labels<'a> {
     pub fn to_name(&self) -> Name
         ensures { result ≡ self.now }
     {
-        let mut wire = ArrayVec::new();
-        let _ = wire.try_extend_from_slice(self.wire);
+        let mut wire = WireBytes::new();
+        wire.extend(self.wire);
         Name { wire }
     }
 

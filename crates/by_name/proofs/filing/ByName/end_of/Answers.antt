@@ -1,9 +1,8 @@
-use Rattle.std.proofs.Common.{◌≡◌, ◌∙◌, ◌+◌, ◌<◌, ◌^◌, ℕ, suc, List, None, length, sym, ap, subst, is_some, arith}
+use Rattle.std.proofs.Common.{◌≡◌, ◌∙◌, ◌+◌, ℕ, suc, None, sym, ap, subst, arith}
 use Rattle.std.specs.Prelude.{IsSome}
-use Rattle.std.specs.Map.{lookup}
-use Rattle.by_name.specs.At.{At, at, at_eq}
+use Rattle.by_name.specs.At.{At}
 use Rattle.by_name.specs.Filed.{Filing, found}
-use Rattle.by_name.proofs.Finding.{found_within, found_below}
+use Rattle.by_name.proofs.Finding.{found_within}
 use Rattle.by_name.proofs.filing.ByName.end_of.Goals as goal
 
 pub overflow_add-last_of : goal.overflow_add-last_of

@@ -1,0 +1,73 @@
+// The bytes of a name in wire form, in a place of their own that is copied as it stands.
+ghost use Rattle.std.specs.Prelude.{◌≡◌, ◌+◌, ◌-◌, ◌<◌, ◌≤◌, ◌++◌, ◌∷◌, [], length, take};
+ghost use Rattle.std.specs.Str.{str_to_ascii_lowercase};
+ghost use Rattle.dns_name.specs.InPlace.{bytes_in};
+
+/// At most 255 bytes.
+#[derive(Clone, Copy, Drop)]
+pub(crate) struct WireBytes {
+    bytes: [u8; 255],
+    len: u8,
+}
+
+impl WireBytes {
+    /// No bytes.
+    pub(crate) fn new() -> WireBytes
+        ensures { bytes_in result ≡ [] }
+    {
+        WireBytes {
+            bytes: [0; 255],
+            len: 0,
+        }
+    }
+
+    /// How many bytes there are.
+    pub(crate) fn len(&self) -> usize
+        ensures { result ≡ length (bytes_in self.now) }
+    {
+        usize::from(self.len)
+    }
+
+    /// The bytes.
+    pub(crate) fn as_slice(&self) -> &[u8]
+        ensures { result.now ≡ bytes_in self.now }
+    {
+        &self.bytes[..usize::from(self.len)]
+    }
+
+    /// Puts a byte at the end.
+    pub(crate) fn push(&mut self, byte: u8)
+        requires { length (bytes_in self.old) < 255 }
+        ensures { bytes_in self.new ≡ bytes_in self.old ++ byte ∷ [] }
+    {
+        self.bytes[usize::from(self.len)] = byte;
+        self.len += 1;
+    }
+
+    /// Takes the last byte away.
+    pub(crate) fn pop(&mut self)
+        requires { 0 < length (bytes_in self.old) }
+        ensures { bytes_in self.new ≡ take (length (bytes_in self.old) - 1) (bytes_in self.old) }
+    {
+        self.len -= 1;
+    }
+
+    /// Puts bytes at the end.
+    pub(crate) fn extend(&mut self, more: &[u8])
+        requires { length (bytes_in self.old) + length more.now ≤ 255 }
+        ensures { bytes_in self.new ≡ bytes_in self.old ++ more.now }
+    {
+        let from = usize::from(self.len);
+        let to = from + more.len();
+        self.bytes[from..to].copy_from_slice(more);
+        self.len = to as u8;
+    }
+
+    /// Puts ASCII letters into lower case.
+    pub(crate) fn lower(&mut self)
+        ensures { bytes_in self.new ≡ str_to_ascii_lowercase (bytes_in self.old) }
+    {
+        let len = usize::from(self.len);
+        self.bytes[..len].make_ascii_lowercase();
+    }
+}
