@@ -2,6 +2,7 @@ pub mod Order
 pub mod Places
 pub mod Arranged
 pub mod Due
+pub mod NameParts
 pub mod Ends
 pub mod Refreshes
 pub mod Loops

@@ -5,3 +5,4 @@ pub mod Standing
 pub mod Refreshing
 pub mod Kept
 pub mod Arranged
+pub mod Placed

@@ -4,12 +4,15 @@ ghost use Rattle.std.specs.List.{list_any};
 ghost use Rattle.dns_name.specs.Lists.{least};
 ghost use Rattle.mdns_timer.specs.Parts.{NoneDue, IsFirstDue};
 ghost use Rattle.mdns_question.specs.Tracking.{is_for, with_user, without_user, with_asking};
+ghost use Rattle.mdns_question.specs.Placed.{AreOfName};
 ghost use Rattle.mdns_question.specs.Refreshing.{with_refresh, IsToldAt, moment_of, due_by_kept};
 
 use crate::Tracked;
 use crate::changes::{note, put_refresh, put_refresh_at};
 use crate::kept::due_by_kept;
+use crate::named::places_of;
 use crate::users::{add_user, take_user};
+use dns_name::Name;
 use dns_record::Key;
 use mdns_history::Cause;
 use mdns_timer::Deadlines;
@@ -145,6 +148,13 @@ impl Asker {
         ensures some { IfSome result (IsFirstDue (map moment_of self.now.questions) now from) }
     {
         self.deadlines.next_due(from, now)
+    }
+
+    /// The place of the first question of a name, case aside, and the place behind the last one; they are equal where there is none.
+    pub fn places_of(&self, name: &Name) -> (usize, usize)
+        ensures { AreOfName self.now.questions name.now result.0 result.1 }
+    {
+        places_of(&self.questions, name)
     }
 
     /// The questions that have users, by folded name and then by type.

@@ -6,6 +6,7 @@ mod changes;
 mod kept;
 mod keys;
 mod law;
+mod named;
 mod next;
 mod points;
 mod tracked;

@@ -1,0 +1,111 @@
+-- The questions of a name stand side by side.
+use Rattle.std.proofs.Common.{◌≡◌, ℕ, zero, suc, ◌<◌, ◌≤◌, Bool, true, false, List, [], ◌∷◌, length, get_or, Ordering, Less, Equal, Greater, refl, ap, ◌∙◌, sym, arith, ⊎_elim}
+use Rattle.std.specs.List.Sorted.{IsPartitionedBy, IsPartitionPoint}
+use Rattle.std.specs.Ordering.{is_lt, is_le, is_eq, nat_cmp, ordering_then, ordering_reverse}
+use Rattle.std.specs.Cmp.{IsTotalOrder}
+use Rattle.std.proofs.lemmas.Bool.{cases_lt}
+use Rattle.std.proofs.lemmas.Cmp.{on_total, nat_list_cmp_total, alike_right}
+use Rattle.std.proofs.lemmas.Map.Text.{is_eq-slice_cmp}
+use Rattle.dns_name.specs.Names.{wire_of, folded, folded_eq, name_cmp}
+use Rattle.dns_record.specs.Records.{key_cmp}
+use Rattle.mdns_timer.specs.Strict.{IsStrict}
+use Rattle.mdns_question.specs.declared.tracked.Tracked.{Tracked}
+use Rattle.mdns_question.specs.Tracking.{tracked_cmp}
+use Rattle.mdns_question.specs.Placed.{AreOfName}
+use Rattle.mdns_question.proofs.Places.{each_at}
+
+name_cmp_total : IsTotalOrder name_cmp
+unfolding name_cmp
+name_cmp_total = on_total (λ (n : List (List ℕ)). wire_of (folded n)) nat_list_cmp_total
+
+-- names are one where the order says so
+name_eq_is : (a b : List (List ℕ)) → folded_eq a b ≡ is_eq (name_cmp a b)
+unfolding name_cmp folded_eq
+name_eq_is a b = sym (is_eq-slice_cmp (wire_of (folded a)) (wire_of (folded b)))
+
+turned_is : (a b : List (List ℕ)) (o : Ordering) → name_cmp b a ≡ o → folded_eq a b ≡ is_eq (ordering_reverse o)
+turned_is a b o e = name_eq_is a b ∙ ap is_eq (name_cmp_total.antisymm a b ∙ ap ordering_reverse e)
+
+-- of questions in order the names are in order
+names_rise : (a b : Tracked) → tracked_cmp a b ≡ Less → (name_cmp a.key.name b.key.name ≡ Greater → ⊥)
+unfolding key_cmp
+names_rise a b less more =
+    let no : Greater ≡ Less = ap (λ (o : Ordering). ordering_then o (nat_cmp a.key.kind b.key.kind)) (sym more) ∙ less in cc
+
+far : (questions : List Tracked) → IsStrict tracked_cmp questions → (i j : ℕ) (d : Tracked) → i < j → j < length questions → tracked_cmp (get_or questions i d) (get_or questions j d) ≡ Less
+far [] s i j d h within = absurd (omega arith)
+far (x ∷ xs) s zero zero d h within = absurd (omega arith)
+far (x ∷ xs) s zero (suc j) d h within = each_at (λ y. tracked_cmp x y ≡ Less) xs j d (omega arith) s.0
+far (x ∷ xs) s (suc i) zero d h within = absurd (omega arith)
+far (x ∷ xs) s (suc i) (suc j) d h within = far xs s.1 i j d (omega arith) (omega arith)
+
+module _ (name : List (List ℕ)) where
+  -- a question before one whose name is not above the name has a name that isn't either
+  step : (test : Ordering → Bool) → test Less ≡ true → (a b : Tracked) → tracked_cmp a b ≡ Less → test (name_cmp b.key.name name) ≡ true → test Greater ≡ false → test (name_cmp a.key.name name) ≡ true
+  step test low a b less passes high = of (name_cmp a.key.name b.key.name) refl (name_cmp b.key.name name) refl
+    where
+      of : (o : Ordering) → name_cmp a.key.name b.key.name ≡ o → (p : Ordering) → name_cmp b.key.name name ≡ p → test (name_cmp a.key.name name) ≡ true
+      of Greater e p f = absurd (names_rise a b less e)
+      of Equal e p f = ap test (name_cmp_total.congr a.key.name b.key.name name e) ∙ passes
+      of Less e Less f = ap test (name_cmp_total.trans a.key.name b.key.name name e f) ∙ low
+      of Less e Equal f = ap test (sym (alike_right name_cmp_total b.key.name name a.key.name f) ∙ e) ∙ low
+      of Less e Greater f = let no : true ≡ false = sym passes ∙ ap test f ∙ high in absurd (cc)
+
+  pub parted : (test : Ordering → Bool) → test Less ≡ true → test Greater ≡ false → (questions : List Tracked) → IsStrict tracked_cmp questions → IsPartitionedBy (λ one. test (name_cmp one.key.name name)) questions
+  parted test low high questions s = λ i j d h within passes.
+      ⊎_elim (λ less. step test low (get_or questions i d) (get_or questions j d) (far questions s i j d less within) passes high)
+      (λ more. let same : j ≡ i = omega arith in ap (λ (k : ℕ). test (name_cmp (get_or questions k d).key.name name)) (sym same) ∙ passes)
+      (cases_lt i j)
+
+  pub are_of_name : (questions : List Tracked) (first end : ℕ) → first ≤ length questions → end ≤ length questions →
+      IsPartitionPoint (λ one. is_lt (name_cmp one.key.name name) ≡ true) (λ one. is_lt (name_cmp one.key.name name) ≡ false) questions first →
+      IsPartitionPoint (λ one. is_le (name_cmp one.key.name name) ≡ true) (λ one. is_le (name_cmp one.key.name name) ≡ false) questions end → AreOfName questions name first end
+  are_of_name questions first end low high lt le = record {
+    order = order;
+    within = high;
+    before = λ k d h. less (get_or questions k d) (lt.0 k d (omega arith) h);
+    named = λ k d h g. same (get_or questions k d) (lt.1 k d h (omega (arith, g, high))) (le.0 k d (omega arith) g);
+    behind = λ k d h g. more (get_or questions k d) (le.1 k d h g);
+  }
+    where
+      less : (one : Tracked) → is_lt (name_cmp one.key.name name) ≡ true → folded_eq name one.key.name ≡ false
+      less one h = of (name_cmp one.key.name name) refl h
+        where
+          of : (o : Ordering) → name_cmp one.key.name name ≡ o → is_lt o ≡ true → folded_eq name one.key.name ≡ false
+          of Less e g = turned_is name one.key.name Less e
+          of Equal e g = absurd (cc)
+          of Greater e g = absurd (cc)
+
+      same : (one : Tracked) → is_lt (name_cmp one.key.name name) ≡ false → is_le (name_cmp one.key.name name) ≡ true → folded_eq name one.key.name ≡ true
+      same one h g = of (name_cmp one.key.name name) refl h g
+        where
+          of : (o : Ordering) → name_cmp one.key.name name ≡ o → is_lt o ≡ false → is_le o ≡ true → folded_eq name one.key.name ≡ true
+          of Less e p q = absurd (cc)
+          of Equal e p q = turned_is name one.key.name Equal e
+          of Greater e p q = absurd (cc)
+
+      more : (one : Tracked) → is_le (name_cmp one.key.name name) ≡ false → folded_eq name one.key.name ≡ false
+      more one h = of (name_cmp one.key.name name) refl h
+        where
+          of : (o : Ordering) → name_cmp one.key.name name ≡ o → is_le o ≡ false → folded_eq name one.key.name ≡ false
+          of Less e g = absurd (cc)
+          of Equal e g = absurd (cc)
+          of Greater e g = turned_is name one.key.name Greater e
+
+      order : first ≤ end
+      order = ⊎_elim (λ behind. absurd (crossed behind)) (λ h. h) (cases_lt end first)
+        where
+          crossed : end < first → ⊥
+          crossed h = no (element_at questions end (omega (arith, h, low)))
+            where
+              no : Tracked → ⊥
+              no d = both (name_cmp (get_or questions end d).key.name name) (lt.0 end d (omega arith) h) (le.1 end d (omega arith) (omega (arith, h, low)))
+                where
+                  both : (o : Ordering) → is_lt o ≡ true → is_le o ≡ false → ⊥
+                  both Less p q = cc
+                  both Equal p q = cc
+                  both Greater p q = cc
+
+              element_at : (qs : List Tracked) (i : ℕ) → i < length qs → Tracked
+              element_at [] i g = absurd (omega arith)
+              element_at (q ∷ qs) i g = q
