@@ -175,6 +175,25 @@ def ticks(program):
         yield f"a tick that asks one question, {count:,} records held", f"{value:,.0f} instructions", "at most 30,000"
 
 
+def one_of_many(program):
+    """A tick that asks one of so many active questions, each of another name; the others are asked again later. And packets meanwhile."""
+    other = response(record(name("nobody", "local"), A, b"\x0a\x00\x00\x09"))
+    query = "hear 1 10.0.0.9 5353 " + (struct.pack(">6H", 0, 0, 1, 0, 0, 0) + name("nobody", "local") + struct.pack(">HH", A, 1)).hex()
+    first = {}
+    for count in (10, 4096):
+        calls = [f"call 1 {number // 64 + 1} {number % 64 + 1} query A h{number:05}.local" for number in range(count)]
+        held = ["daemon 1"] + ["open 1"] * 64 + ["at 1000"] + calls[:-1] + ["at 9000"]
+        for what, before, more in (
+            ("a tick that asks one of", held + calls[-1:], ["at 9200"]),
+            ("a record heard that nobody asks for, with", held, [other] * 10),
+            ("a query heard that asks for nothing of ours, with", held, [query] * 10),
+        ):
+            value = cost(program, before, more)
+            wanted = f"at most {2 * first[what]:,.0f}" if what in first else ""
+            first.setdefault(what, value)
+            yield f"{what} {count:,} active questions", f"{value:,.0f} instructions", wanted
+
+
 def known_answers(program):
     """A tick that asks one question again, whose answers so far are listed in the query."""
     for count in (100, 400):
@@ -226,7 +245,7 @@ def program_of():
 
 def rows(program=None):
     program = program or program_of()
-    for part in (known, many_of_one_name, hostile, collisions, ticks, known_answers, asked_by_many, full_table, memory):
+    for part in (known, many_of_one_name, hostile, collisions, ticks, one_of_many, known_answers, asked_by_many, full_table, memory):
         yield from part(program)
 
 

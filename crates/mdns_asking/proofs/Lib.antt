@@ -3,8 +3,11 @@ pub mod EachTold
 pub mod Gaps
 pub mod Heards
 pub mod WalksTell
+pub mod PutPlaces
+pub mod Picked
 pub mod PutNames
 pub mod Timed
+pub mod TimedNames
 pub mod Waiting
 pub mod Settled
 pub mod KeyLists

@@ -2,6 +2,7 @@
 use Rattle.std.specs.Prelude.{ℕ, Bool, List, [], map, filter, Option, Some, None, if◌then◌else◌}
 use Rattle.std.specs.List.{flat_map, filter_map}
 use Rattle.std.specs.Option.{option_map}
+use Rattle.dns_name.specs.Names.{folded_eq}
 use Rattle.dns_name.specs.Lists.{ordered}
 use Rattle.dns_record.specs.declared.record.Rr.{Rr}
 use Rattle.dns_record.specs.declared.record.Key.{Key}
@@ -14,6 +15,7 @@ use Rattle.mdns_history.specs.declared.entry.Sent.{Sent}
 use Rattle.mdns_history.specs.Hearings.{Heard}
 use Rattle.mdns_history.specs.Sending.{to_all}
 use Rattle.mdns_happened.specs.declared.walk.Walk.{Walk}
+use Rattle.mdns_happened.specs.Told.{Told}
 use Rattle.mdns_happened.specs.Walks.{walk_of}
 use Rattle.mdns_known.specs.Known.{known_of}
 use Rattle.mdns_question.specs.declared.tracked.Tracked.{Tracked}
@@ -39,6 +41,10 @@ timed_in one (Some walk) = timed walk.later.items one
 abbrev pub timed_by : List Walk → Tracked → Tracked
 timed_by walks one = timed_in one (walk_of one.key.name walks)
 
+-- the same of the questions of a name
+abbrev pub timed_if : List Walk → List (List ℕ) → Tracked → Tracked
+timed_if walks name one = if folded_eq name one.key.name then timed_by walks one else one
+
 -- a question with its cause, if it is due
 abbrev pub due_by : List Walk → ℕ → Tracked → Option (Key × Cause)
 due_by walks moment one = option_map (λ cause. (one.key, cause)) (cause_of moment (timed_by walks one))
@@ -51,6 +57,15 @@ is_heard_by walks moment heard one = is_asked_by (later_of one.key.name walks) m
 abbrev pub heard_by : List Tracked → List Walk → ℕ → Option Heard → List (Key × Cause)
 heard_by questions walks moment None = []
 heard_by questions walks moment (Some heard) = map (λ one. (one.key, cause.Heard)) (filter (is_heard_by walks moment heard) questions)
+
+-- why a message asks a question, if it does
+abbrev pub cause_heard : List Walk → ℕ → Option Heard → Tracked → Option Cause
+cause_heard walks moment None one = None
+cause_heard walks moment (Some heard) one = if is_heard_by walks moment heard one then Some cause.Heard else None
+
+-- why an event asks a question, if it does
+abbrev pub cause_by : Told → ℕ → List Walk → Tracked → Option Cause
+cause_by told moment walks one = if told.ticks then cause_of moment (timed_by walks one) else cause_heard walks moment told.heard one
 
 -- the questions that are asked, each with its cause
 unfoldable pub asked_by : Bool → Option Heard → List Tracked → List Walk → ℕ → List (Key × Cause)

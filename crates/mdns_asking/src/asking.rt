@@ -17,7 +17,8 @@ ghost use Rattle.mdns_asking.specs.Walked.{is_maybe_asked, AreNamed, AreEnough, 
 ghost use Rattle.mdns_asking.specs.Planned.{IsPlan};
 
 use crate::due::asked_questions;
-use crate::names::{put_begun_names, put_question_names};
+use crate::names::{put_begun_names, put_names_at};
+use crate::places::touched_places;
 use crate::plan::Plan;
 use crate::queries::{queries, send_to_all};
 use crate::timing::tell_points;
@@ -86,7 +87,8 @@ impl Asking {
             names.old.items names.new.items) }
         ensures once { OnOk result (ArePutOnce names.old.items names.new.items) }
     {
-        put_question_names(names, self.asker.questions(), when, happened, touched)?;
+        let places = touched_places(self.alloc, &self.asker, when, happened, touched)?;
+        put_names_at(names, self.asker.questions(), places.as_slice())?;
         put_begun_names(names, happened)?;
         Ok(())
     }
@@ -111,8 +113,7 @@ impl Asking {
         ensures ended { IfOk result (λ plan. plan.ended.items ≡ ended_told (told_by happened.now).call (told_by happened.now).detached sessions.now.sessions) }
         ensures gaps { HaveGaps self.now.questions }
     {
-        let questions = self.asker.questions();
-        let asked = asked_questions(self.alloc, questions, when, happened, walks)?;
+        let asked = asked_questions(self.alloc, &self.asker, when, happened, walks)?;
         send_to_all(sent, queries(self.alloc, when, happened, walks, &asked)?)?;
         let begun = begun_keys(self.alloc, happened)?;
         let ended = ended_keys(self.alloc, sessions, happened)?;

@@ -6,6 +6,7 @@ mod asking;
 mod due;
 mod message;
 mod names;
+mod places;
 mod plan;
 mod queries;
 mod timing;

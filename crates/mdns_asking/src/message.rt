@@ -1,45 +1,26 @@
 // Which questions a message asks in the daemon's stead. (RFC 6762 7.3)
-ghost use Rattle.std.specs.Prelude.{◌≡◌, ◌==◌, ◌+◌, ◌&&◌, ◌||◌, ℕ, nat_le, not, Some, IfOk};
+ghost use Rattle.std.specs.Prelude.{◌≡◌, ◌==◌, ◌+◌, ◌&&◌, ◌||◌, ℕ, nat_le, not, IfOk};
 ghost use Rattle.std.specs.List.{list_any, list_all};
+ghost use Rattle.mdns_base.specs.Hosts.{mdns_port};
 ghost use Rattle.dns_record.specs.Records.{matches, same};
 ghost use Rattle.mdns_history.specs.Asking.{asks_openly};
 ghost use Rattle.mdns_cache.specs.Lifetimes.{AllHeard};
 ghost use Rattle.mdns_asking.specs.Asked.{is_asked_by};
 ghost use Rattle.mdns_asking.specs.Walked.{may_stand_for, AreHeard};
-ghost use Rattle.mdns_asking.specs.ByWalks.{heard_by, is_heard_by};
+ghost use Rattle.mdns_asking.specs.ByWalks.{is_heard_by};
 
 use crate::walked::later_of;
 use dns_record::{Key, Question, Rr, matches};
 use mdns_happened::{Heard, Walk, When};
-use mdns_history::{Cause, Held};
+use mdns_history::Held;
 use mdns_known::known_answers;
 use mdns_question::Tracked;
 use std::alloc::{AllocError, Global};
 
 const MDNS_PORT: u16 = 5353;
 
-/// The questions that a message asks in the daemon's stead. Refused only for want of memory.
-pub fn asked_by_message(
-    alloc: Global,
-    questions: &[Tracked],
-    when: When,
-    heard: &Heard<'_>,
-    walks: &[Walk],
-) -> Result<Vec<(Key, Cause)>, AllocError>
-    requires { AreHeard when.moment walks.now }
-    ensures { IfOk result (λ asked. asked.items ≡ heard_by questions.now walks.now when.moment (Some (record { from = heard.now.from.now; message = heard.now.message }))) }
-{
-    let mut asked = Vec::new(alloc);
-    for one in questions {
-        if is_heard_by(alloc, one, when, heard, walks)? {
-            asked.push((one.key.copy(), Cause::Heard))?;
-        }
-    }
-    Ok(asked)
-}
-
-// Whether a message asks a question in the daemon's stead, by the later records of its name.
-fn is_heard_by(
+/// Whether a message asks a question in the daemon's stead, by the later records of its name. Refused only for want of memory.
+pub fn is_heard_by(
     alloc: Global,
     one: &Tracked,
     when: When,
@@ -72,16 +53,20 @@ fn is_asked_by(
     Ok(knows_no_more(&one.key, known.as_slice(), answers))
 }
 
-/// Whether the message is a complete query from port 5353 that asks this question for a multicast answer, and ours is due
-/// within a second.
-pub fn may_stand_for(when: When, heard: &Heard<'_>, one: &Tracked) -> bool
-    ensures { result ≡ may_stand_for when.moment (record { from = heard.now.from.now; message = heard.now.message }) one.now }
+/// Whether the message is a complete query from port 5353, so that it may stand for one of ours.
+pub fn may_be_ours(heard: &Heard<'_>) -> bool
+    ensures { result ≡ (not heard.now.message.response && ((heard.now.from.now.port == mdns_port) && not heard.now.message.truncated)) }
 {
     let message = &heard.message;
-    !message.response
-        && heard.from.port == MDNS_PORT
-        && !message.truncated
-        && is_among_questions(&one.key, message.questions.as_slice())
+    !message.response && heard.from.port == MDNS_PORT && !message.truncated
+}
+
+// Whether it is one and asks this question for a multicast answer, and ours is due within a second.
+fn may_stand_for(when: When, heard: &Heard<'_>, one: &Tracked) -> bool
+    ensures { result ≡ may_stand_for when.moment (record { from = heard.now.from.now; message = heard.now.message }) one.now }
+{
+    may_be_ours(heard)
+        && is_among_questions(&one.key, heard.message.questions.as_slice())
         && one.next <= when.moment + 1000
 }
 
@@ -92,8 +77,9 @@ fn is_among_questions(key: &Key, questions: &[Question]) -> bool
     questions.iter().any(|asked| asks_openly(key, asked))
 }
 
+/// Whether a question is asked without a wish for a unicast reply.
 #[tactic(auto, unfolding(dns_record::specs::Records::key_eq))]
-fn asks_openly(key: &Key, asked: &Question) -> bool
+pub fn asks_openly(key: &Key, asked: &Question) -> bool
     ensures { result ≡ asks_openly key.now asked.now }
 {
     key.name.folded_eq(&asked.name) && key.kind == asked.kind && !asked.unicast

@@ -1,18 +1,20 @@
-use Rattle.std.proofs.Common.{◌≡◌, ◌∙◌, ◌<◌, Option, ℕ, List, ap, get_or, set, length, subst}
-use Rattle.std.proofs.lemmas.List.Edits.{map_over_more}
-use Rattle.mdns_question.specs.declared.tracked.Tracked.{Tracked}
-use Rattle.mdns_asking.specs.ByWalks.{timed_by}
-use Rattle.mdns_asking.proofs.OfNames.{told_point}
+use Rattle.std.proofs.Common.{◌≡◌, ℕ, List, length, map, take, ap, ◌∙◌, arith}
+use Rattle.std.proofs.Math.Seq.{take-length}
+use Rattle.mdns_happened.specs.declared.walk.Walk.{Walk}
+use Rattle.mdns_asking.proofs.TimedNames.{timed_so_far, none_yet, walk_more, all_walked}
 use Rattle.mdns_asking.proofs.timing.tell_points.Goals as goal
 
-pub loop-place-preserved : goal.loop-place-preserved
-loop-place-preserved c =
-    let one : Tracked = c.index-questions-place.result in
-    let questions : List Tracked = c.loop-place.asker.questions in
-    let is : one ≡ get_or questions c.loop-place.place one = c.index-questions-place.is ∙ ap (λ (them : List Tracked). get_or them c.loop-place.place one) c.questions.ensures in
-    let within : c.loop-place.place < length c.args.asker.now.questions =
-    subst (λ (them : List Tracked). c.loop-place.place < length them) c.questions-place-end.ensures c.loop-place-test.true in
-    c.tell_at.ensures.questions one is
-    ∙ ap (λ (point : Option ℕ). set questions c.loop-place.place (record one { refresh = point })) c.point_of-point.ensures
-    ∙ ap (set questions c.loop-place.place) (told_point c.args.walks.now one)
-    ∙ map_over_more (timed_by c.args.walks.now) c.args.asker.now.questions questions c.loop-place.place one within c.loop-place.invariant is
+pub loop-walk-init : goal.loop-walk-init
+loop-walk-init c = none_yet c.args.walks.now c.args.asker.now.questions
+
+pub loop-walk-preserved : goal.loop-walk-preserved
+loop-walk-preserved c =
+    walk_more c.args.walks.now c.loop-walk.walk-index c.walk-item.result c.args.asker.now.questions c.loop-walk.asker.questions c.tell_points_of.new.asker.questions
+    c.loop-walk-test.true c.walk-item.is c.loop-walk.invariant c.tell_points_of.ensures
+
+pub returns : goal.returns
+returns c =
+    let all : c.loop-walk.walk-index ≡ length c.args.walks.now = omega arith in
+    c.loop-walk.invariant
+    ∙ ap (λ (ws : List Walk). map (timed_so_far c.args.walks.now ws) c.args.asker.now.questions) (ap (λ (n : ℕ). take n c.args.walks.now) all ∙ take-length c.args.walks.now)
+    ∙ all_walked c.args.walks.now c.args.asker.now.questions

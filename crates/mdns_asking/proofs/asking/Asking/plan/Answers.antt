@@ -13,6 +13,6 @@ pub returns-clause-plan : goal.returns-clause-plan
 returns-clause-plan c = λ held later timed are live enough.
     let told : Told = told_by c.args.happened.now in
     is_plan told c.args.when.moment c.args.sessions.now.sessions c.args.self.now.questions held later c.args.walks.now c.args.sent.now c.send_to_all.new.sent _
-    (c.in_ok-asked.ensures ∙ ap (λ (questions : List Tracked). asked_by told.ticks told.heard questions c.args.walks.now c.args.when.moment) (c.questions-questions.ensures ∙ ap (λ (s : State). s.questions) c.self.view_is))
+    (c.in_ok-asked.ensures ∙ ap (λ (questions : List Tracked). asked_by told.ticks told.heard questions c.args.walks.now c.args.when.moment) (ap (λ (s : State). s.questions) c.self.view_is))
     (c.in_ok-send_to_all.ensures ∙ ap (λ (queries : List Sent). c.args.sent.now ++ queries) (c.in_ok-queries.ensures ∙ ap (λ (asked : List (Key × Cause)). sent_by told.ticks c.args.walks.now c.args.when.moment asked) c.deref.ensures.value))
     c.in_ok-begun.ensures c.in_ok-ended.ensures timed are live enough
