@@ -4,3 +4,10 @@ pub mod RequestsBack
 pub mod EventsBack
 pub mod ItemsBack
 pub mod LinesBack
+pub mod OnlyWords
+pub mod OnlyRecords
+pub mod OnlyRequests
+pub mod OnlyEvents
+pub mod OnlyItems
+pub mod OnlyLines
+pub mod OneLine

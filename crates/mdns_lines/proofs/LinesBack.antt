@@ -134,7 +134,7 @@ question_back q h =
 -- ---- outcomes
 
 -- the text of an outcome
-abbrev ending_text : Ending → List ℕ
+abbrev pub ending_text : Ending → List ℕ
 ending_text (Opened session) = codes "opened " ++ decimal session
 ending_text Full = codes "full"
 ending_text Ended = codes "ended"
@@ -167,7 +167,7 @@ count_back count h = rw (cut_of-joined 32 (codes "items") (decimal count) refl, 
 -- ---- lines
 
 -- a line without its line feed
-abbrev content : Line → List ℕ
+abbrev pub content : Line → List ℕ
 content (lines.Head daemon moment word event) = codes "@" ++ decimal moment ++ codes " d" ++ decimal daemon ++ codes " w" ++ decimal word ++ space ++ event_text event
 content (lines.Mark mark) = codes " ! " ++ mark_text mark
 content (lines.Sent to response id truncated) = codes " > " ++ dest_text to ++ way_text response ++ decimal id ++ word_if truncated (codes " tc")
@@ -178,7 +178,7 @@ content (lines.Ending ending) = codes " = " ++ ending_text ending
 content (lines.Count count) = codes " = " ++ (codes "items " ++ decimal count)
 content (lines.Item item) = codes "  " ++ item_text item
 
-shown : (l : Line) → line_text l ≡ line (content l)
+pub shown : (l : Line) → line_text l ≡ line (content l)
 shown (lines.Head daemon moment word event) = refl
 shown (lines.Mark mark) = refl
 shown (lines.Sent to response id truncated) = refl
@@ -201,21 +201,21 @@ item_line (Add op answer) h = rw h refl
 item_line (Remove op answer) h = rw h refl
 
 -- what is known of an entry's first line
-record IsHead (daemon moment word : ℕ) (h : Bool) (k : Bool) : Type 0 where
-  daemon_fits : is_daemon daemon ≡ true
-  moment_fits : is_below 64 moment ≡ true
-  word_fits : is_below 32 word ≡ true
-  event_fits : h ≡ true
-  text : k ≡ true
+pub record IsHead (daemon moment word : ℕ) (h : Bool) (k : Bool) : Type 0 where
+  pub daemon_fits : is_daemon daemon ≡ true
+  pub moment_fits : is_below 64 moment ≡ true
+  pub word_fits : is_below 32 word ≡ true
+  pub event_fits : h ≡ true
+  pub text : k ≡ true
 
-is_head : (daemon moment word : ℕ) (h k : Bool) → (is_daemon daemon && is_below 64 moment && is_below 32 word && h && k) ≡ true → IsHead daemon moment word h k
+pub is_head : (daemon moment word : ℕ) (h k : Bool) → (is_daemon daemon && is_below 64 moment && is_below 32 word && h && k) ≡ true → IsHead daemon moment word h k
 is_head daemon moment word h k e =
     let a = and_parts (is_daemon daemon && is_below 64 moment && is_below 32 word && h) k e in
     let b = and_parts (is_daemon daemon && is_below 64 moment && is_below 32 word) h a.0 in
     let c = three (is_daemon daemon) (is_below 64 moment) (is_below 32 word) b.0 in
     record { daemon_fits = c.0; moment_fits = c.1; word_fits = c.2; event_fits = b.1; text = a.1 }
 
-content_back : (l : Line) → is_printable_line l ≡ true → line_in (content l) ≡ Some l
+pub content_back : (l : Line) → is_printable_line l ≡ true → line_in (content l) ≡ Some l
 content_back (lines.Head daemon moment word event) h =
     let p = is_head daemon moment word (is_typed_event event) (event_has_text event) h in head_back daemon moment word event p.daemon_fits p.moment_fits p.word_fits p.event_fits p.text
 content_back (lines.Mark mark) h = rw (mark_read mark h) refl
@@ -233,7 +233,7 @@ no_end : (t : List ℕ) → ◌≡◌ {A = List ℕ} [] (t ++ 10 ∷ []) → ◌
 no_end [] e = e
 no_end (b ∷ t) e = absurd (cc)
 
-same_content : (t u : List ℕ) → line t ≡ line u → t ≡ u
+pub same_content : (t u : List ℕ) → line t ≡ line u → t ≡ u
 same_content [] [] e = refl
 same_content [] (b ∷ u) e = let rest : ◌≡◌ {A = List ℕ} [] (u ++ 10 ∷ []) = cc in let no : ◌≡◌ {A = List ℕ} [] (10 ∷ []) = no_end u rest in absurd (cc)
 same_content (a ∷ t) [] e = let rest : ◌≡◌ {A = List ℕ} [] (t ++ 10 ∷ []) = cc in let no : ◌≡◌ {A = List ℕ} [] (10 ∷ []) = no_end t rest in absurd (cc)

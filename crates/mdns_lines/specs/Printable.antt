@@ -1,7 +1,7 @@
 -- Which lines can be printed and read again, by the ranges of their numbers, names, texts and addresses.
 use Rattle.std.specs.Prelude.{◌≡◌, ℕ, Bool, true, ◌&&◌, List, Some}
 use Rattle.std.specs.Str.{is_utf8}
-use Rattle.dns_message.specs.Writing.{is_below, is_spellable_question, is_spellable_record}
+use Rattle.dns_message.specs.Writing.{is_below, are_bytes, is_spellable_question, is_spellable_record}
 use Rattle.sd_call.specs.declared.request.Request.{Request}
 use Rattle.sd_call.specs.declared.request.Request.TheVariants as request
 use Rattle.mdns_history.specs.declared.event.Event.{Event}
@@ -46,3 +46,7 @@ AreReadBack = (printed : Line) (text : List ℕ) → is_printable_line printed �
 -- What is read of a text is printed as it.
 abbrev pub ArePrinted : Type 0
 ArePrinted = (text : List ℕ) (read : Line) → line_read text ≡ Some read → line_text read ≡ line text
+
+-- What is read of bytes can be printed.
+abbrev pub ArePrintable : Type 0
+ArePrintable = (text : List ℕ) (read : Line) → are_bytes text ≡ true → line_read text ≡ Some read → is_printable_line read ≡ true

@@ -52,4 +52,11 @@ impl Transcript {
     {
         self.vec.as_slice()
     }
+
+    /// The rows as a `Vec`. It takes no memory.
+    pub fn into_vec(self) -> Vec<Row>
+        ensures { result.items ≡ self }
+    {
+        self.vec
+    }
 }

@@ -1,0 +1,10 @@
+pub mod RowTexts
+pub mod RowTypes
+pub mod Runs
+pub mod Fronts
+pub mod Completed
+pub mod Growing
+pub mod Drafted
+pub mod Bad
+pub mod OneList
+pub mod ReadOn
