@@ -22,7 +22,7 @@ def register(number):
 
 def registered(count):
     """A daemon whose host's name and so many services' are sure."""
-    return ["daemon 1 host nas 10.0.0.1"] + ["open 1"] * SESSIONS + ["at 1000"] + [register(number) for number in range(count)] + ["at 9000"]
+    return ["daemon 1 host nas 10.0.0.1"] + ["open 1"] * max(SESSIONS, count // 60 + 1) + ["at 1000"] + [register(number) for number in range(count)] + ["at 9000"]
 
 
 def registering(program):
@@ -35,9 +35,12 @@ def registering(program):
 
 
 def ticking(program):
-    for count in (0, 60, 239):
+    few = None
+    for count in (0, 10, 60, 239, 1000):
         held = registered(count) + [register(count)]
-        yield f"a tick that probes one service, {count} others sure", f"{cost(program, held, ['at 9001']):,.0f} instructions", ""
+        value = cost(program, held, ["at 9001"])
+        few = value if count == 10 else few
+        yield f"a tick that probes one service, {count} others sure", f"{value:,.0f} instructions", f"at most {2 * few:,.0f}" if count == 1000 else ""
     for count in (1, 60):
         held = registered(0) + [register(number) for number in range(count)]
         yield f"a tick that probes {count} services", f"{cost(program, held, ['at 9001']):,.0f} instructions", ""

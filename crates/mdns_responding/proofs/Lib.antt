@@ -1,3 +1,4 @@
 mod Wanted
 mod Ended
 pub mod Following
+mod Due

@@ -1,5 +1,5 @@
 // The responses of a tick to all. (RFC 6762 6, 8.3 and 8.4)
-ghost use Rattle.std.specs.Prelude.{IfOk, OnOk, filter, map, ◌++◌, ◌≡◌};
+ghost use Rattle.std.specs.Prelude.{IfOk, OnOk, [], filter, map, ◌++◌, ◌∷◌, ◌≡◌};
 ghost use Rattle.mdns_claims.specs.Later.{groups_behind};
 ghost use Rattle.mdns_claims.specs.Owned.{own_in};
 ghost use Rattle.mdns_history.specs.Sending.{to_all};
@@ -12,6 +12,7 @@ use crate::responder::Responder;
 use dns_message::Rrs;
 use dns_record::Rr;
 use mdns_base::Dest;
+use mdns_claims::Claimant;
 use mdns_history::{Mark, Marks, Sends, Sent};
 use mdns_pack::{Messages, in_order, pack_reply};
 use mdns_probe::Claim;
@@ -32,12 +33,12 @@ impl Responder<'_> {
     pub fn put_announced(&self, marks: &mut Marks) -> Result<(), AllocError>
         ensures { OnOk result (marks.new ≡ marks.old ++ announced_for (map (λ one. one.claim) self.now.behind.now.groups.now) self.now.behind.now.means.moment) }
     {
-        let groups = self.behind.groups;
-        for one in groups {
-            let claim = one.claim();
-            if is_announced(claim, self.behind.means.moment) {
-                marks.push(Mark::Announced { group: claim.group })?;
-            }
+        let behind = self.behind;
+        let groups = behind.groups;
+        let mut from = 0;
+        while let Some(place) = behind.place_due(from) {
+            put_mark(marks, &groups[place], behind.means.moment)?;
+            from = place + 1;
         }
         Ok(())
     }
@@ -60,13 +61,24 @@ impl Responder<'_> {
     fn put_announced_records(&self, answers: &mut Vec<Rr>) -> Result<(), AllocError>
         ensures { OnOk result (answers.new.items ≡ answers.old.items ++ filter (is_free_by self.now.lasts.now.lasts self.now.behind.now.means.moment) (records_in (announced_in self.now.behind.now.means.moment self.now.behind.now.groups.now))) }
     {
-        let groups = self.behind.groups;
-        for one in groups {
-            let claim = one.claim();
-            if is_announced(claim, self.behind.means.moment) {
-                self.put_free(answers, claim.unique.as_slice())?;
-                self.put_free(answers, claim.shared.as_slice())?;
-            }
+        let behind = self.behind;
+        let groups = behind.groups;
+        let mut from = 0;
+        while let Some(place) = behind.place_due(from) {
+            self.put_records(answers, &groups[place])?;
+            from = place + 1;
+        }
+        Ok(())
+    }
+
+    // Puts the records of a group behind others, if a tick announces it, without those that were multicast less than a second ago.
+    fn put_records(&self, answers: &mut Vec<Rr>, one: &Claimant) -> Result<(), AllocError>
+        ensures { OnOk result (answers.new.items ≡ answers.old.items ++ filter (is_free_by self.now.lasts.now.lasts self.now.behind.now.means.moment) (records_in (announced_in self.now.behind.now.means.moment (one.now ∷ [])))) }
+    {
+        let claim = one.claim();
+        if is_announced(claim, self.behind.means.moment) {
+            self.put_free(answers, claim.unique.as_slice())?;
+            self.put_free(answers, claim.shared.as_slice())?;
         }
         Ok(())
     }
@@ -82,6 +94,17 @@ impl Responder<'_> {
         }
         Ok(())
     }
+}
+
+// Puts the mark of a group behind others, if a tick at a moment announces it. Refused only for want of memory.
+fn put_mark(marks: &mut Marks, one: &Claimant, now: u64) -> Result<(), AllocError>
+    ensures { OnOk result (marks.new ≡ marks.old ++ announced_for (one.now.claim ∷ []) now) }
+{
+    let claim = one.claim();
+    if is_announced(claim, now) {
+        marks.push(Mark::Announced { group: claim.group })?;
+    }
+    Ok(())
 }
 
 // Whether a tick at a moment announces a group: it is sure by then, and an announcement is due.
