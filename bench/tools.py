@@ -12,13 +12,17 @@ import tempfile
 TOP = os.path.dirname(os.path.dirname(os.path.abspath(__file__)))
 
 
+def crate_of(line):
+    """The crate that a line of crates.txt is of, its counts aside; nothing where it is of none."""
+    return (line.partition(":")[0].split() or [""])[0]
+
+
 def needs(lines, crate, found):
     """The crates of the repository that a crate stands on, itself too."""
     for line in lines:
-        name, _, rest = line.partition(":")
-        if name.split()[:1] == [crate] and crate not in found:
+        if crate_of(line) == crate and crate not in found:
             found.append(crate)
-            for word in rest.split():
+            for word in line.partition(":")[2].split():
                 needs(lines, word, found)
     return found
 
@@ -34,7 +38,7 @@ def built(folder, files, stands_on):
     for crate in stands_on.split():
         needs(lines, crate, below)
     with open(f"{folder}/crates.txt", "w", encoding="utf-8") as out:
-        out.write("".join(line for line in lines if line.split(":")[0] in below) + f"measured: {stands_on}\n")
+        out.write("".join(line for line in lines if crate_of(line) in below) + f"measured: {stands_on}\n")
     shutil.copy(os.path.join(TOP, "HANDLES"), folder)
     for crate in below:
         shutil.copytree(os.path.join(TOP, "crates", crate), f"{folder}/crates/{crate}", symlinks=True)
