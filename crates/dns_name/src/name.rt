@@ -46,7 +46,7 @@ impl Name {
         self.wire.as_slice()
     }
 
-    // The wire form in its place.
+    /// The wire form in its place. (RFC 1035 3.1)
     pub(crate) fn bytes(&self) -> WireBytes
         ensures value { bytes_in result ≡ wire_of self.now }
         ensures name { IsTrue (is_name self.now) }
