@@ -1,10 +1,11 @@
 // Moments by place, with the least of them.
-ghost use Rattle.std.specs.Prelude.{◌≡◌, ◌+◌, ◌<◌, ◌≤◌, [], ◌∷◌, ◌++◌, length, slice_set, IsOk, OnOk, IfNone, IfSome};
+ghost use Rattle.std.specs.Prelude.{◌≡◌, ◌+◌, ◌<◌, ◌≤◌, [], ◌∷◌, ◌++◌, map, length, slice_set, IsOk, OnOk, IfNone, IfSome, vec_capacity};
 ghost use Rattle.std.specs.List.{insert, remove};
 ghost use Rattle.dns_name.specs.Lists.{least};
 ghost use Rattle.mdns_timer.specs.Parts.{NoneDue, IsFirstDue};
 
 use crate::part::Part;
+use crate::timed::Timed;
 use crate::tree::{build, built, due_in, least_in, mend, size_for};
 use std::alloc::{AllocError, Global};
 use std::marker::Model;
@@ -116,6 +117,17 @@ impl Deadlines {
         mend(&mut self.nodes, &self.moments, place);
     }
 
+    /// Tells all moments anew: those at which these items are due, for which there is room.
+    pub fn tell_all<T: Timed>(&mut self, items: &[T])
+        requires { length items.now ≤ length self.old.moments + self.old.spare }
+        ensures moments { self.new.moments ≡ map T.moment items.now }
+        ensures spare { length self.old.moments + self.old.spare ≤ length self.new.moments + self.new.spare }
+    {
+        self.moments.clear();
+        put_all(&mut self.moments, items);
+        build(&mut self.nodes, &self.moments);
+    }
+
     /// The least moment, in ms; `None` exactly where there is none.
     pub fn least(&self) -> Option<u64>
         ensures { result ≡ least self.now.moments }
@@ -143,5 +155,16 @@ impl Deadlines {
         } else {
             None
         }
+    }
+}
+
+// Puts the moments at which items are due behind others, where there is room.
+fn put_all<T: Timed>(moments: &mut Vec<u64>, items: &[T])
+    requires { length moments.old.items + length items.now ≤ vec_capacity moments.old }
+    ensures items { moments.new.items ≡ moments.old.items ++ map T.moment items.now }
+    ensures capacity { vec_capacity moments.new ≡ vec_capacity moments.old }
+{
+    for item in items {
+        moments.push_reserved(item.due_at());
     }
 }

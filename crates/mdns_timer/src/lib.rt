@@ -3,8 +3,10 @@
 
 mod deadlines;
 mod part;
+mod timed;
 mod timers;
 mod tree;
 
 pub use deadlines::Deadlines;
+pub use timed::Timed;
 pub use timers::Timers;
