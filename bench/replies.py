@@ -12,7 +12,7 @@ import resource
 import struct
 import subprocess
 
-from held import PTR, cost, label, name, program_of, text
+from held import A, PTR, cost, label, name, program_of, text
 from measure import peak_memory
 from tools import table
 
@@ -121,9 +121,29 @@ def flood(program):
     yield "memory for 1,000 at one moment, which are all owed", f"{max(0, most - bare - printed - 1000 * len(one)) / 1000:,.0f} kB", ""
 
 
+def waiting(number):
+    """A query of a host of its own, with more known answers to follow: what it is owed waits 400 ms at least."""
+    head = struct.pack(">6H", 0, 0x0200, 1, 0, 0, 0)
+    return f"hear 1 10.0.{number // 250 + 1}.{number % 250 + 1} 5353 {(head + TYPE + struct.pack('>HH', PTR, 1)).hex()}"
+
+
+def one_debt(program):
+    """A tick that answers one query of so many that are owed something, by a multicast and by a reply to its asker alone."""
+    question = struct.pack(">6H", 0, 0, 1, 0, 0, 0) + name("nas", "local") + struct.pack(">HH", A, 1)
+    first = {}
+    for count in (10, 1000):
+        before = registered(1) + [waiting(number) for number in range(count - 1)]
+        for port, how in ((5353, "by a multicast"), (40_000, "by a reply to its asker")):
+            value = cost(program, before + [f"hear 1 10.0.0.9 {port} {question.hex()}"], [f"at {FAR + 1}"])
+            wanted = f"at most {2 * first[how]:,.0f}" if how in first else ""
+            first.setdefault(how, value)
+            yield f"a tick that answers one of {count:,} debts {how}", f"{value:,.0f} instructions", wanted
+
+
 def rows(program=None, with_many=False):
     program = program or program_of()
     yield from known_answers(program)
+    yield from one_debt(program)
     yield from flood(program)
     yield from full_packets(program, (0, 60, 240))
     if with_many:

@@ -1,5 +1,6 @@
 pub mod Following
 pub mod Firsts
+pub mod Due
 pub mod Lasting
 pub mod Probed
 pub mod Once

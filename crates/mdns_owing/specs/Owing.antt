@@ -1,5 +1,5 @@
 -- What contracts see of the queries that are owed something, and what an event makes of them, told of what is kept. (RFC 6762 5.4, 6, 6.1, 6.7, 7.1 to 7.4)
-use Rattle.std.specs.Prelude.{ℕ, nat_le, Bool, not, ◌&&◌, List, [], ◌++◌, map, filter, Option}
+use Rattle.std.specs.Prelude.{◌≡◌, ℕ, ◌<◌, ◌≤◌, nat_le, Bool, true, not, ◌&&◌, List, [], ◌++◌, map, filter, Option, Some, None}
 use Rattle.std.specs.List.{list_any, flat_map}
 use Rattle.dns_record.specs.declared.record.Rr.{Rr}
 use Rattle.dns_record.specs.Records.{same}
@@ -8,6 +8,7 @@ use Rattle.mdns_happened.specs.Told.{Told, told_by}
 use Rattle.mdns_claims.specs.Owned.{own_in, nsecs_in, is_ours}
 use Rattle.mdns_probe.specs.Kept.{Kept}
 use Rattle.mdns_reply.specs.Lasts.{Last, last_of}
+use Rattle.mdns_timer.specs.Tree.{moment_at}
 use Rattle.mdns_debts.specs.Queries.{Query, is_to_all}
 use Rattle.mdns_debts.specs.Releasing.{is_let_go, wanted_of}
 use Rattle.dns_record.specs.declared.record.Question.{Question}
@@ -25,6 +26,25 @@ query_of_terms terms = record { from = terms.from; id = 0; questions = []; trunc
 pub record State : Type 0 where
   pub queries : List Query
   pub spare : ℕ
+
+-- the moments from which on what queries are owed is due
+abbrev pub moments_of : List Query → List ℕ
+moments_of queries = map (λ query. query.due) queries
+
+-- a moment isn't before the first one, if there is that
+abbrev pub IsNoSooner : Option ℕ → ℕ → Type 0
+IsNoSooner None moment = ⊥
+IsNoSooner (Some first) moment = first ≤ moment
+
+-- no moment from one place on up to another is before the first one
+abbrev pub AreNoSooner : List ℕ → Option ℕ → ℕ → ℕ → Type 0
+AreNoSooner moments first from end = (k : ℕ) → from ≤ k → k < end → IsNoSooner first (moment_at moments k)
+
+-- An event meets nothing but what is due and goes to its asker: time has passed, and nothing is heard or multicast with it.
+pub record MeetsDueAlone (news : News) : Type 0 where
+  pub tick : news.tick ≡ true
+  pub heard : news.heard ≡ None
+  pub multicast : news.multicast ≡ []
 
 -- what is the daemon's to send where these groups are kept: its own records, and the NSEC records of its sure names
 abbrev pub ours_in : List Kept → Ours

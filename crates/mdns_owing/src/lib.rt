@@ -2,6 +2,7 @@
 //! 6.7 and 7.1 to 7.4)
 #![tactic(auto)]
 
+mod first;
 mod found;
 mod hearing;
 mod law;

@@ -1,12 +1,12 @@
 // What an event tells the queries that are owed something.
-ghost use Rattle.std.specs.Prelude.{◌≡◌, nat_le, ◌&&◌};
+ghost use Rattle.std.specs.Prelude.{◌≡◌, nat_le, ◌&&◌, IsTrue};
 ghost use Rattle.std.specs.List.{list_any};
 ghost use Rattle.dns_record.specs.Records.{same};
 ghost use Rattle.mdns_base.specs.Hosts.{host_eq};
 ghost use Rattle.mdns_history.specs.Debts.{is_struck};
 ghost use Rattle.mdns_history.specs.Hearings.{counted_records, query_of};
 ghost use Rattle.mdns_debts.specs.Following.{strikes, meets, leaves};
-ghost use Rattle.mdns_owing.specs.Owing.{news_in, query_of_terms};
+ghost use Rattle.mdns_owing.specs.Owing.{news_in, query_of_terms, MeetsDueAlone};
 
 use crate::multicasts::Multicasts;
 use crate::owed::Owed;
@@ -30,6 +30,13 @@ impl News<'_> {
         ensures { result ≡ leaves (news_in self.now) (query_of_terms query.now) owed.now }
     {
         !self.strikes(query, owed) && !self.meets(query, owed)
+    }
+
+    /// Whether time has passed and nothing is multicast: then only what is due and goes to its asker is met.
+    pub fn meets_due_alone(&self) -> bool
+        ensures { IsTrue result → MeetsDueAlone (news_in self.now) }
+    {
+        self.is_tick() && self.multicasts.as_rrs().as_slice().is_empty()
     }
 
     // Whether the event is a query of the same host that takes back what is owed: more was to follow the earlier query, and this one lists

@@ -1,15 +1,17 @@
 // The heard queries that are owed something.
-ghost use Rattle.std.specs.Prelude.{◌≡◌, ◌↔◌, ℕ, ◌+◌, ◌≤◌, ◌++◌, List, [], map, length, filter, IsTrue, OnOk, if◌then◌else◌};
+ghost use Rattle.std.specs.Prelude.{◌≡◌, ◌↔◌, ◌-◌, ◌≤◌, ◌++◌, [], map, length, filter, IsTrue, OnOk, if◌then◌else◌, vec_len, vec_capacity};
+ghost use Rattle.std.specs.List.{list_all};
 ghost use Rattle.std.specs.Option.{option_to_list};
-ghost use Rattle.dns_name.specs.Lists.{least};
 ghost use Rattle.mdns_debts.specs.Following.{has_owed, leaves, left_by, next_reply};
 ghost use Rattle.mdns_claims.specs.Owned.{is_ours};
-ghost use Rattle.mdns_owing.specs.Owing.{followed_by, kept_ours, last_in, news_in};
+ghost use Rattle.mdns_owing.specs.Owing.{followed_by, kept_ours, last_in, news_in, moments_of, MeetsDueAlone};
 
+use crate::first::first_due;
 use crate::news::News;
 use crate::query::Query;
 use mdns_claims::Claims;
 use mdns_reply::Lasts;
+use mdns_timer::Deadlines;
 use std::alloc::{AllocError, Global};
 use std::marker::Model;
 
@@ -19,15 +21,19 @@ use std::marker::Model;
 pub struct Owing {
     pub(crate) alloc: Global,
     pub(crate) queries: Vec<Query>,
+    // When what each is owed is due.
+    pub(crate) deadlines: Deadlines,
 }
 
 impl Model for Owing {
-    ghost use Rattle.std.specs.Prelude.{◌-◌, vec_len, vec_capacity};
-    ghost use Rattle.mdns_owing.specs.Owing.{State};
+    ghost use Rattle.std.specs.Prelude.{◌≡◌, ◌-◌, min, vec_len, vec_capacity};
+    ghost use Rattle.mdns_owing.specs.Owing.{State, moments_of};
 
     ghost Value = { State };
 
-    ghost view = { λ o. record { queries = o.queries.items; spare = vec_capacity o.queries - vec_len o.queries } };
+    ghost view = { λ o. record { queries = o.queries.items; spare = min (vec_capacity o.queries - vec_len o.queries) o.deadlines.spare } };
+
+    ghost invariant = { λ o. o.deadlines.moments ≡ moments_of o.queries.items };
 }
 
 impl Owing {
@@ -38,6 +44,7 @@ impl Owing {
         Owing {
             alloc,
             queries: Vec::new(alloc),
+            deadlines: Deadlines::new(alloc),
         }
     }
 
@@ -53,7 +60,7 @@ impl Owing {
     pub fn next_due(&self, lasts: &Lasts) -> Option<u64>
         ensures { result ≡ next_reply (last_in lasts.now.lasts) self.now.queries }
     {
-        first_due(&self.queries, lasts)
+        first_due(&self.queries, &self.deadlines, lasts)
     }
 
     /// Takes the room for a query that is heard, if one is. Nothing else changes. Refused only for want of memory.
@@ -63,6 +70,7 @@ impl Owing {
     {
         if come.is_some() {
             self.queries.reserve(1)?;
+            self.deadlines.reserve(1)?;
         }
         Ok(())
     }
@@ -73,11 +81,9 @@ impl Owing {
         requires room { length (option_to_list come) ≤ self.old.spare }
         ensures { self.new.queries ≡ followed_by (news_in news.now) (option_to_list come) self.old.queries }
     {
-        follow_all(&mut self.queries, news);
-        if let Some(query) = come {
-            self.queries.push_reserved(query);
-        }
-        drop_satisfied(&mut self.queries);
+        follow_all(&mut self.queries, &self.deadlines, news);
+        put(&mut self.queries, &mut self.deadlines, come);
+        drop_satisfied(&mut self.queries, &mut self.deadlines);
     }
 
     /// Drops what is no more the daemon's to send, by what it claims now, unless all is known to be. It takes no memory.
@@ -88,16 +94,48 @@ impl Owing {
             return;
         }
         keep_all_ours(&mut self.queries, claims);
-        drop_satisfied(&mut self.queries);
+        drop_satisfied(&mut self.queries, &mut self.deadlines);
+    }
+}
+
+// Puts the query that comes behind the others, if there is one and there is room.
+fn put(queries: &mut Vec<Query>, deadlines: &mut Deadlines, come: Option<Query>)
+    requires room { length (option_to_list come) ≤ vec_capacity queries.old - vec_len queries.old }
+    requires moments_room { length (option_to_list come) ≤ deadlines.old.spare }
+    requires timed { deadlines.old.moments ≡ moments_of queries.old.items }
+    ensures queries { queries.new.items ≡ queries.old.items ++ option_to_list come }
+    ensures timed { deadlines.new.moments ≡ moments_of queries.new.items }
+{
+    if let Some(query) = come {
+        deadlines.push(query.due());
+        queries.push_reserved(query);
     }
 }
 
 // Drops what an event takes back or meets.
-fn follow_all(queries: &mut [Query], news: &News<'_>)
+fn follow_all(queries: &mut [Query], deadlines: &Deadlines, news: &News<'_>)
+    requires { deadlines.now.moments ≡ moments_of queries.old }
     ensures { queries.new ≡ map (left_by (leaves (news_in news.now))) queries.old }
 {
+    if news.meets_due_alone() {
+        return follow_due(queries, deadlines, news);
+    }
     for query in queries.iter_mut() {
         query.follow(news);
+    }
+}
+
+// The same where the event meets nothing but what is due and goes to its asker.
+fn follow_due(queries: &mut [Query], deadlines: &Deadlines, news: &News<'_>)
+    requires timed { deadlines.now.moments ≡ moments_of queries.old }
+    requires alone { MeetsDueAlone (news_in news.now) }
+    ensures { queries.new ≡ map (left_by (leaves (news_in news.now))) queries.old }
+{
+    let now = news.when.moment;
+    let mut from = 0;
+    while let Some(place) = deadlines.next_due(from, now) {
+        queries[place].follow(news);
+        from = place + 1;
     }
 }
 
@@ -111,29 +149,21 @@ fn keep_all_ours(queries: &mut [Query], claims: &Claims)
 }
 
 // Drops the queries that are owed nothing.
-fn drop_satisfied(queries: &mut Vec<Query>)
-    ensures { queries.new.items ≡ filter has_owed queries.old.items }
+fn drop_satisfied(queries: &mut Vec<Query>, deadlines: &mut Deadlines)
+    requires { deadlines.old.moments ≡ moments_of queries.old.items }
+    ensures queries { queries.new.items ≡ filter has_owed queries.old.items }
+    ensures timed { deadlines.new.moments ≡ moments_of queries.new.items }
 {
+    if are_owed(queries) {
+        return;
+    }
     queries.retain(|query| query.has_owed());
+    deadlines.tell_all(queries.as_slice());
 }
 
-fn first_due(queries: &[Query], lasts: &Lasts) -> Option<u64>
-    ensures { result ≡ next_reply (last_in lasts.now.lasts) queries.now }
+// Whether all queries are owed something.
+fn are_owed(queries: &[Query]) -> bool
+    ensures { result ≡ list_all has_owed queries.now }
 {
-    let mut first = None;
-    for query in queries {
-        first = earlier(first, query.next_due(lasts));
-    }
-    first
-}
-
-// The earlier of two moments that may be there.
-fn earlier(one: Option<u64>, other: Option<u64>) -> Option<u64>
-    ensures { (ones others : List ℕ) → one ≡ least ones → other ≡ least others → result ≡ least (ones ++ others) }
-{
-    match (one, other) {
-        (Some(one), Some(other)) => Some(one.min(other)),
-        (Some(one), None) => Some(one),
-        (None, other) => other,
-    }
+    queries.iter().all(|query| query.has_owed())
 }

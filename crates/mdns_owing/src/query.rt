@@ -15,6 +15,7 @@ use dns_record::Rr;
 use mdns_base::Host;
 use mdns_claims::Claims;
 use mdns_reply::Lasts;
+use mdns_timer::Timed;
 use std::marker::Model;
 
 /// A heard query with what it is owed still. A reply to another port than 5353 repeats its ID and its questions. (RFC 6762 6.7)
@@ -97,6 +98,13 @@ impl Query {
         self.terms.due <= now
     }
 
+    /// The moment, in ms, from which on what it is owed is due.
+    pub fn due(&self) -> u64
+        ensures { result ≡ self.now.due }
+    {
+        self.terms.due
+    }
+
     /// Whether it is owed something.
     pub fn has_owed(&self) -> bool
         ensures { result ≡ has_owed self.now }
@@ -143,5 +151,13 @@ impl Query {
         } else {
             self.terms.due.max(lasts.free_from(&owed.rr))
         }
+    }
+}
+
+impl Timed for Query {
+    ghost moment = { λ query. query.due };
+
+    fn due_at(&self) -> u64 {
+        self.terms.due
     }
 }

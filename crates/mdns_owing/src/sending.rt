@@ -41,9 +41,10 @@ impl Owing {
     ) -> Result<(), AllocError>
         ensures { OnOk result (released.new.items ≡ released.old.items ++ flat_map (released_of (last_in lasts.now.lasts) now self.now.queries) self.now.queries) }
     {
-        let queries = self.queries.as_slice();
-        for query in queries {
-            self.put_released(released, lasts, now, query)?;
+        let mut from = 0;
+        while let Some(place) = self.deadlines.next_due(from, now) {
+            self.put_released(released, lasts, now, &self.queries[place])?;
+            from = place + 1;
         }
         Ok(())
     }
@@ -95,9 +96,10 @@ impl Owing {
     pub fn put_replies(&self, sent: &mut Sends, now: u64) -> Result<(), AllocError>
         ensures { OnOk result (sent.new ≡ sent.old ++ flat_map (replies_at now) self.now.queries) }
     {
-        let queries = self.queries.as_slice();
-        for query in queries {
-            put_reply(self.alloc, sent, now, query)?;
+        let mut from = 0;
+        while let Some(place) = self.deadlines.next_due(from, now) {
+            put_reply(self.alloc, sent, now, &self.queries[place])?;
+            from = place + 1;
         }
         Ok(())
     }

@@ -1,6 +1,6 @@
 use Rattle.std.proofs.Common.{◌∙◌, Some, ap, sym}
 use Rattle.mdns_probe.proofs.Firsts.{least-both}
-use Rattle.mdns_owing.proofs.owing.earlier.Goals as goal
+use Rattle.mdns_owing.proofs.first.earlier.Goals as goal
 
 pub returns-in-Some-Some : goal.returns-in-Some-Some
 returns-in-Some-Some c = λ ones others first second.
