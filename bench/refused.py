@@ -15,12 +15,11 @@ import sys
 import tempfile
 from collections import Counter
 
+from refusing import library
 from tools import TOP
 
 # Each line of the log has the number of the allocation, how the fork ended, and how many bytes the program had put out before it.
-SHIM = r"""
-#define _GNU_SOURCE
-#include <dlfcn.h>
+IS_REFUSED = r"""
 #include <stdio.h>
 #include <stdlib.h>
 #include <string.h>
@@ -71,39 +70,7 @@ static int is_refused(void) {
     return 0;
 }
 
-void *malloc(size_t size) {
-    static void *(*real)(size_t);
-    if (!real) real = dlsym(RTLD_NEXT, "malloc");
-    return is_refused() ? NULL : real(size);
-}
-
-void *realloc(void *old, size_t size) {
-    static void *(*real)(void *, size_t);
-    if (!real) real = dlsym(RTLD_NEXT, "realloc");
-    return is_refused() ? NULL : real(old, size);
-}
-
-void *aligned_alloc(size_t by, size_t size) {
-    static void *(*real)(size_t, size_t);
-    if (!real) real = dlsym(RTLD_NEXT, "aligned_alloc");
-    return is_refused() ? NULL : real(by, size);
-}
-
-int posix_memalign(void **to, size_t by, size_t size) {
-    static int (*real)(void **, size_t, size_t);
-    if (!real) real = dlsym(RTLD_NEXT, "posix_memalign");
-    return is_refused() ? 12 : real(to, by, size);
-}
 """
-
-
-def built(folder):
-    """The library that refuses, built."""
-    source, made = f"{folder}/refused.c", f"{folder}/refused.so"
-    with open(source, "w", encoding="utf-8") as out:
-        out.write(SHIM)
-    subprocess.run(["cc", "-O1", "-shared", "-fPIC", "-o", made, source, "-ldl"], check=True)
-    return made
 
 
 def played(program, script, **more):
@@ -114,11 +81,11 @@ def played(program, script, **more):
         return ran.returncode, out.read()
 
 
-def tried(program, library, script):
+def tried(program, refusing, script):
     """Refuses each allocation of a script; how many there were, how the forks ended, and what was wrong."""
     whole = played(program, script)
     with tempfile.TemporaryDirectory(prefix="refused-") as folder:
-        seen = played(program, script, env={**os.environ, "LD_PRELOAD": library, "REFUSED_IN": folder})
+        seen = played(program, script, env={**os.environ, "LD_PRELOAD": refusing, "REFUSED_IN": folder})
         wrong = [] if seen == whole else ["the run itself gave something else"]
         ends, count = Counter(), 0
         with open(f"{folder}/log", encoding="utf-8") as log:
@@ -141,9 +108,9 @@ def main(words):
     failed = False
     print("| Script | Allocations, each refused once | Ended with 6 and a beginning of the output | Did without, with 0 and all of it |\n|---|---|---|---|")
     with tempfile.TemporaryDirectory(prefix="refused-") as folder:
-        library = built(folder)
+        refusing = library(folder, IS_REFUSED)
         for script in scripts:
-            count, ends, wrong = tried(program, library, script)
+            count, ends, wrong = tried(program, refusing, script)
             print(f"| {os.path.basename(script)} | {count} | {ends[6]} | {ends[0]} |", flush=True)
             for it in wrong[:8]:
                 print(f"wrong: {script}: {it}", file=sys.stderr)

@@ -14,12 +14,11 @@ import sys
 import tempfile
 from collections import Counter
 
+from refusing import library
 from tools import TOP, built
 
 # Refuses the allocation of the number that REFUSED tells, counted over all threads, and says at the end how many there were.
-SHIM = r"""
-#define _GNU_SOURCE
-#include <dlfcn.h>
+IS_REFUSED = r"""
 #include <stdatomic.h>
 #include <stdio.h>
 #include <stdlib.h>
@@ -43,29 +42,6 @@ static int is_refused(void) {
     return ++count == refused;
 }
 
-void *malloc(size_t size) {
-    static void *(*real)(size_t);
-    if (!real) real = dlsym(RTLD_NEXT, "malloc");
-    return is_refused() ? NULL : real(size);
-}
-
-void *realloc(void *old, size_t size) {
-    static void *(*real)(void *, size_t);
-    if (!real) real = dlsym(RTLD_NEXT, "realloc");
-    return is_refused() ? NULL : real(old, size);
-}
-
-void *aligned_alloc(size_t by, size_t size) {
-    static void *(*real)(size_t, size_t);
-    if (!real) real = dlsym(RTLD_NEXT, "aligned_alloc");
-    return is_refused() ? NULL : real(by, size);
-}
-
-int posix_memalign(void **to, size_t by, size_t size) {
-    static int (*real)(void **, size_t, size_t);
-    if (!real) real = dlsym(RTLD_NEXT, "posix_memalign");
-    return is_refused() ? 12 : real(to, by, size);
-}
 """
 
 # The scene's parts stand in the tests of that crate; this plays them once, and ends with the status of the server, or with 20 where there is
@@ -116,9 +92,9 @@ def sources():
     return {"src/main.rt": "#![tactic(auto)]\n\nmod holding;\n\n" + parts + MAIN, "src/holding.rt": holding}
 
 
-def played(program, library, number):
+def played(program, refusing, number):
     """One run in which that allocation is refused: the status, None where it didn't return; what was said; and how many allocations there were."""
-    env = {**os.environ, "LD_PRELOAD": library, "REFUSED": str(number)}
+    env = {**os.environ, "LD_PRELOAD": refusing, "REFUSED": str(number)}
     try:
         ran = subprocess.run([program], env=env, capture_output=True, text=True, timeout=20, check=False)
     except subprocess.TimeoutExpired:
@@ -130,18 +106,15 @@ def played(program, library, number):
 def main():
     with tempfile.TemporaryDirectory(prefix="refused-") as folder:
         program = built(folder, sources(), "mdns_server mdns_outside mdns_base bytes")
-        library = f"{folder}/refused.so"
-        with open(f"{folder}/refused.c", "w", encoding="utf-8") as out:
-            out.write(SHIM)
-        subprocess.run(["cc", "-O1", "-shared", "-fPIC", "-o", library, f"{folder}/refused.c", "-ldl"], check=True)
-        whole = [played(program, library, 0) for _ in range(5)]
+        refusing = library(folder, IS_REFUSED)
+        whole = [played(program, refusing, 0) for _ in range(5)]
         if any((status, said) != (0, "whole") for status, said, _ in whole):
             sys.exit(f"the scene itself isn't served: {whole}")
         most = max(count for _, _, count in whole)
         ends, wrong = Counter(), []
         # (some more, since threads that run otherwise may take more)
         for number in range(1, most + 21):
-            status, said, _ = played(program, library, number)
+            status, said, _ = played(program, refusing, number)
             if status in MEANINGS:
                 ends[MEANINGS[status] + (f", with {said} of its replies" if status == 0 else "")] += 1
             else:
