@@ -1,12 +1,17 @@
-//! Transcripts that are read, and texts that are none: tests of the reader. Standard input has sections. A line `== NAME` begins one, and the
-//! lines behind it are a text. For each the name is printed with how many rows the text has, or with the line at which it is refused.
+//! Transcripts that are read and checked, and texts that are none: tests of the reader and of the checker. Standard input has sections. A line `== NAME`
+//! begins one, and the lines behind it are a text. For each the name is printed with how many rows the text has and the first row with which a daemon's
+//! history isn't legal, if there is one, or with the line at which the text is refused.
 #![tactic(auto)]
 
 mod test_error;
 
 use crate::test_error::TestError;
-use mdns_transcript::{TranscriptError, read_transcript};
+use mdns_transcript::{Transcript, TranscriptError, read_transcript};
+use plain_check::check;
 use std::alloc::{AllocError, Global};
+
+/// The most rows that are checked.
+const MOST_ROWS: usize = 1_000_000;
 
 fn main(rt: HostRuntime) -> Result<(), TestError> {
     let alloc = rt.alloc();
@@ -32,9 +37,27 @@ fn tell(rt: &impl Print, alloc: Global, name: &str, text: &[u8]) -> Result<(), T
         return Ok(());
     }
     match read_transcript(alloc, text) {
-        Ok(rows) => println!(rt; "{name}: {} rows", rows.as_slice().len())?,
+        Ok(transcript) => tell_checked(rt, alloc, name, transcript)?,
         Err(TranscriptError::BadText { line }) => println!(rt; "{name}: refused at line {line}")?,
         Err(TranscriptError::NoMemory) => return Err(TestError::Memory(AllocError)),
+    }
+    Ok(())
+}
+
+// Prints how many rows a transcript has, and which is the first illegal one.
+fn tell_checked(
+    rt: &impl Print,
+    alloc: Global,
+    name: &str,
+    transcript: Transcript,
+) -> Result<(), TestError> {
+    let count = transcript.as_slice().len();
+    if count > MOST_ROWS {
+        return Err(TestError::TooLong);
+    }
+    match check(alloc, transcript)? {
+        Some(row) => println!(rt; "{name}: {count} rows, illegal at row {row}")?,
+        None => println!(rt; "{name}: {count} rows, legal")?,
     }
     Ok(())
 }

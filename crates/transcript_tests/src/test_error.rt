@@ -12,4 +12,7 @@ pub enum TestError {
     /// Memory was refused.
     #[error("memory was refused")]
     Memory(#[from] AllocError),
+    /// A transcript has more rows than are checked.
+    #[error("a transcript has too many rows")]
+    TooLong,
 }
