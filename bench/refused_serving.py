@@ -17,29 +17,27 @@ from collections import Counter
 from refusing import library
 from tools import TOP, built
 
-# Refuses the allocation of the number that REFUSED tells, counted over all threads, and says at the end how many there were.
+# Refuses the allocation of the number that REFUSED tells, counted over all threads. The count stands in the file COUNTED, which has room for it.
 IS_REFUSED = r"""
+#include <fcntl.h>
 #include <stdatomic.h>
-#include <stdio.h>
 #include <stdlib.h>
-#include <unistd.h>
+#include <sys/mman.h>
 
-static atomic_ulong count;
+static atomic_ulong *count;
 static unsigned long refused;
 
 __attribute__((constructor)) static void begin(void) {
-    const char *number = getenv("REFUSED");
+    const char *number = getenv("REFUSED"), *path = getenv("COUNTED");
+    int file = path ? open(path, O_RDWR) : -1;
+    void *at = file < 0 ? MAP_FAILED : mmap(NULL, sizeof *count, PROT_READ | PROT_WRITE, MAP_SHARED, file, 0);
+    if (at == MAP_FAILED) abort();
     refused = number ? strtoul(number, NULL, 10) : 0;
-}
-
-__attribute__((destructor)) static void end(void) {
-    char line[64];
-    int length = snprintf(line, sizeof line, "allocations %lu\n", (unsigned long)count);
-    if (write(2, line, length) != length) _exit(99);
+    count = at;
 }
 
 static int is_refused(void) {
-    return ++count == refused;
+    return count && ++*count == refused;
 }
 
 """
@@ -94,13 +92,16 @@ def sources():
 
 def played(program, refusing, number):
     """One run in which that allocation is refused: the status, None where it didn't return; what was said; and how many allocations there were."""
-    env = {**os.environ, "LD_PRELOAD": refusing, "REFUSED": str(number)}
-    try:
-        ran = subprocess.run([program], env=env, capture_output=True, text=True, timeout=20, check=False)
-    except subprocess.TimeoutExpired:
-        return None, "", 0
-    told = [line for line in ran.stderr.splitlines() if line.startswith("allocations ")]
-    return ran.returncode, ran.stdout.strip(), int(told[-1].split()[1]) if told else 0
+    with tempfile.NamedTemporaryFile(prefix="counted-") as counted:
+        counted.write(bytes(8))
+        counted.flush()
+        env = {**os.environ, "LD_PRELOAD": refusing, "REFUSED": str(number), "COUNTED": counted.name}
+        try:
+            ran = subprocess.run([program], env=env, capture_output=True, text=True, timeout=20, check=False)
+        except subprocess.TimeoutExpired:
+            return None, "", 0
+        with open(counted.name, "rb") as held:
+            return ran.returncode, ran.stdout.strip(), int.from_bytes(held.read(8), sys.byteorder)
 
 
 def main():
@@ -111,6 +112,8 @@ def main():
         if any((status, said) != (0, "whole") for status, said, _ in whole):
             sys.exit(f"the scene itself isn't served: {whole}")
         most = max(count for _, _, count in whole)
+        if most == 0:
+            sys.exit("no allocation of the scene was counted")
         ends, wrong = Counter(), []
         # (some more, since threads that run otherwise may take more)
         for number in range(1, most + 21):
