@@ -74,6 +74,7 @@ fn main(rt: HostRuntime) -> ExitCode {
 # What the statuses mean; any other is wrong.
 MEANINGS = {
     0: "0: it served to the end",
+    5: "5: `serving` couldn't be put, since the scene's sink is in memory, too",
     6: "6: it found no memory before it served",
     9: "9: the door failed", 10: "10: a thread failed", 11: "11: the link failed",
     20: "no memory for the scene itself",
