@@ -1,12 +1,12 @@
 -- Bytes as hexadecimal digits.
-use Rattle.std.proofs.Common.{◌≡◌, ℕ, zero, suc, ◌+◌, ◌*◌, ◌/◌, ◌%◌, ◌<◌, ◌++◌, ◌&&◌, ◌⊎◌, inl, inr, List, [], ◌∷◌, ◌∙◌, Bool, true, false, cond, eqb, ltb, Option, Some, None, Result, Ok, Err, length, get_or, take, slice_index, refl, sym, ap, arith}
+use Rattle.std.proofs.Common.{◌≡◌, ℕ, zero, suc, ◌+◌, ◌*◌, ◌/◌, ◌%◌, ◌<◌, ◌++◌, ◌&&◌, ◌⊎◌, inl, inr, List, [], ◌∷◌, ◌∙◌, Bool, true, false, cond, eqb, ltb, Option, Some, None, Result, Ok, Err, length, take, drop, slice_index, refl, sym, ap, arith}
 use Rattle.std.specs.Char.{to_ascii_lowercase}
 use Rattle.std.specs.List.{list_any}
 use Rattle.std.specs.Result.{result_ok}
 use Rattle.std.specs.Str.{str_to_ascii_lowercase}
 use Rattle.std.proofs.lemmas.Bool.{cases_lt, cases_eq, eqb-true, and_parts}
 use Rattle.std.proofs.lemmas.Bool.Decides.{nat_tests}
-use Rattle.std.proofs.lemmas.List.{take_more, length-map}
+use Rattle.std.proofs.lemmas.List.{take-append-drop, length-map}
 use Rattle.hex.specs.Hex.{IsBytes, encode_with, encode_lower, lower_digits, hex_digit_value, decode_pairs, decode_of, digit_or_error, ◌>>=◌}
 use Rattle.hex.proofs.HexLemmas.{decode_of-odd, decode_of-even, decode_of-ok, decode_of-encode_lower}
 use Rattle.mdns_base.specs.Digits.{digits_of}
@@ -22,9 +22,9 @@ pub encode_none : encode_lower [] ≡ []
 unfolding encode_with
 encode_none = refl
 
--- one byte more
-pub encode_more : (xs : List ℕ) (i : ℕ) → i < length xs → encode_lower (take (i + 1) xs) ≡ encode_lower (take i xs) ++ encode_lower (get_or xs i 0 ∷ [])
-encode_more xs i h = ap encode_lower (take_more xs i 0 h) ∙ encode_with-append lower_digits (take i xs) (get_or xs i 0 ∷ [])
+-- bytes in two parts
+pub encode_parts : (xs : List ℕ) (i : ℕ) → encode_lower (take i xs) ++ encode_lower (drop i xs) ≡ encode_lower xs
+encode_parts xs i = sym (encode_with-append lower_digits (take i xs) (drop i xs)) ∙ ap encode_lower (take-append-drop i xs)
 
 -- ---- digits in either case
 

@@ -1,11 +1,14 @@
 // Bytes as hexadecimal digits: two for each byte, in lower case as they are written, `-` for no bytes.
-ghost use Rattle.std.specs.Prelude.{◌≡◌, ◌++◌, [], ◌∷◌, IfOk, OnOk, Some};
+ghost use Rattle.std.specs.Prelude.{◌≡◌, ◌≤◌, ◌++◌, [], ◌∷◌, length, IfOk, OnOk, Some};
 ghost use Rattle.std.specs.Option.{option_map};
 ghost use Rattle.hex.specs.Hex.{encode_lower};
 ghost use Rattle.mdns_base.specs.Digits.{hex_text, hex_of, digits_of, IsHexOf};
 
 use crate::is_same;
 use std::alloc::{AllocError, Global};
+
+// How many bytes become digits at once.
+const FEW: usize = 32;
 
 /// The bytes that the text spells: `-` spells none, and digits may have either case. `None` exactly where it spells no
 /// bytes: it is empty, has an odd number of digits or another character than digits. `Err` only for want of memory.
@@ -65,17 +68,22 @@ fn put_spelled(out: &mut Vec<u8>, bytes: &[u8]) -> Result<(), AllocError>
 fn put_digits(out: &mut Vec<u8>, bytes: &[u8]) -> Result<(), AllocError>
     ensures { OnOk result (out.new.items ≡ out.old.items ++ encode_lower bytes.now) }
 {
-    for byte in bytes {
-        out.extend_from_slice(&byte_digits(*byte))?;
+    let mut rest = bytes;
+    while !rest.is_empty() {
+        let (few, more) = rest.split_at(rest.len().min(FEW));
+        put_few(out, few)?;
+        rest = more;
     }
     Ok(())
 }
 
-// The two digits of a byte.
-fn byte_digits(byte: u8) -> [u8; 2]
-    ensures { result ≡ encode_lower (byte ∷ []) }
+// Appends the digits of a few bytes at once.
+fn put_few(out: &mut Vec<u8>, few: &[u8]) -> Result<(), AllocError>
+    requires { length few.now ≤ 32 }
+    ensures { OnOk result (out.new.items ≡ out.old.items ++ encode_lower few.now) }
 {
-    let mut digits = [0; 2];
-    let _ = hex::encode_to_slice([byte], &mut digits);
-    digits
+    let mut digits = [0; 2 * FEW];
+    let digits = &mut digits[..2 * few.len()];
+    let _ = hex::encode_to_slice(few, digits);
+    out.extend_from_slice(digits)
 }

@@ -17,4 +17,4 @@ pub use host::{Dest, Host};
 pub use ipv4::{put_ipv4, read_ipv4};
 pub use ipv6::{put_ipv6, read_ipv6};
 pub use memory::{MemSink, MemSource};
-pub use outside::{Failed, Place, Sink, Source};
+pub use outside::{Failed, Sink, Source};

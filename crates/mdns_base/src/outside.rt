@@ -43,6 +43,3 @@ pub trait Sink {
         ensures bytes { Keeps (held self.old) (held self.new) }
         ensures faults { faults self.new ≡ faults self.old };
 }
-
-/// What a served daemon is given: it makes the daemon's ears, clocks and doors. It has no calls yet.
-pub trait Place {}
