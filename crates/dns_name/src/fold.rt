@@ -1,4 +1,4 @@
-ghost use Rattle.std.specs.Prelude.{◌≡◌, ◌↔◌, IsTrue};
+ghost use Rattle.std.specs.Prelude.{◌≡◌, ◌≢◌, ◌↔◌, IsTrue};
 ghost use Rattle.std.specs.Char.{to_ascii_lowercase};
 ghost use Rattle.std.specs.Cmp.Lexicographic.{slice_cmp};
 ghost use Rattle.std.specs.Ordering.{nat_cmp};
@@ -42,7 +42,7 @@ fn is_same_letter(left: u8, right: u8) -> bool
 pub(crate) fn is_same_folded(left: &[u8], right: &[u8]) -> bool
     ensures { IsTrue result ↔ (str_to_ascii_lowercase left.now ≡ str_to_ascii_lowercase right.now) }
 {
-    if left.len() != right.len() {
+    if left.len() != right.len() || differ_at_label_end(left, right) {
         return false;
     }
     // Most names that are the same are spelled the same, too.
@@ -55,6 +55,19 @@ pub(crate) fn is_same_folded(left: &[u8], right: &[u8]) -> bool
         }
     }
     true
+}
+
+// Whether two names in wire form surely differ, at the last byte of the first label. Names of a link that differ often do so there: hosts and services are
+// numbered.
+#[inline]
+fn differ_at_label_end(left: &[u8], right: &[u8]) -> bool
+    ensures { IsTrue result → str_to_ascii_lowercase left.now ≢ str_to_ascii_lowercase right.now }
+{
+    let Some(size) = left.first() else {
+        return false;
+    };
+    let end = usize::from(*size);
+    end < left.len() && end < right.len() && !is_same_letter(left[end], right[end])
 }
 
 /// The order of bytes with ASCII letters in lower case.
