@@ -1,7 +1,7 @@
 // The lists that a message holds.
 ghost use Rattle.std.specs.Prelude.{◌≡◌, [], ◌∷◌, ◌++◌, OnOk, OnErr};
 
-use dns_record::{Question, Rr};
+use dns_record::{Question, Rr, put_copies};
 use std::alloc::{AllocError, Global};
 use std::marker::Model;
 
@@ -44,6 +44,13 @@ impl Rrs {
     {
         self.vec.push(rr)?;
         Ok(())
+    }
+
+    /// Puts copies of records at the end. Refused only for want of memory.
+    pub fn push_copies(&mut self, others: &[Rr]) -> Result<(), AllocError>
+        ensures { OnOk result (self.new ≡ self.old ++ others.now) }
+    {
+        put_copies(&mut self.vec, others)
     }
 
     /// The records, in their order.

@@ -2,6 +2,7 @@
 #![tactic(auto)]
 
 mod compare;
+mod copies;
 mod error;
 mod forms;
 mod law;
@@ -10,6 +11,7 @@ mod record;
 mod write;
 
 pub use compare::{matches, matches_any, rdata_cmp, record_cmp};
+pub use copies::put_copies;
 pub use error::RecordError;
 pub use law::record_order_is_total;
 pub use read::read_kind;

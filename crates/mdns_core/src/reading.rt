@@ -15,7 +15,6 @@ ghost use Rattle.sd_sessions.specs.Kept.{IsWellFormedCall};
 use crate::outcomes::{boot, take, tick};
 use crate::plan::Kept;
 use dns_message::{Message, MessageError, Rrs, read};
-use dns_record::Rr;
 use mdns_base::Host;
 use mdns_claims::Claims;
 use mdns_happened::{Happened, Heard, Idle, Refusal, When};
@@ -179,17 +178,8 @@ fn records_of(alloc: Global, message: &Message) -> Result<Rrs, AllocError>
 {
     let mut records = Rrs::new(alloc);
     if message.response {
-        put_copies(&mut records, message.answers.as_slice())?;
-        put_copies(&mut records, message.additional.as_slice())?;
+        records.push_copies(message.answers.as_slice())?;
+        records.push_copies(message.additional.as_slice())?;
     }
     Ok(records)
-}
-
-fn put_copies(records: &mut Rrs, others: &[Rr]) -> Result<(), AllocError>
-    ensures { OnOk result (records.new ≡ records.old ++ others.now) }
-{
-    for rr in others {
-        records.push(rr.copy()?)?;
-    }
-    Ok(())
 }

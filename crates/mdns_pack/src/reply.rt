@@ -10,7 +10,7 @@ use crate::lists::PACKET_LENGTH;
 use crate::order::{Ordered, in_order};
 use crate::{Messages, Wanting};
 use dns_message::{Draft, Message, Rrs};
-use dns_record::Rr;
+use dns_record::{Rr, put_copies};
 use std::alloc::{AllocError, Global};
 
 /// The replies with the answers of this list, in its order, each with the additional records that it wants. A reply has as
@@ -115,16 +115,6 @@ fn wanted_by(alloc: Global, part: &[Wanting]) -> Result<Rrs, AllocError>
         put_copies(&mut wanted, one.wanted())?;
     }
     in_order(wanted)
-}
-
-// Puts copies of records behind others.
-fn put_copies(records: &mut Vec<Rr>, others: &[Rr]) -> Result<(), AllocError>
-    ensures { OnOk result (records.new.items ≡ records.old.items ++ others.now) }
-{
-    for rr in others {
-        records.push(rr.copy()?)?;
-    }
-    Ok(())
 }
 
 // Whether a record is an additional one of a message.

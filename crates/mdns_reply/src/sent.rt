@@ -7,7 +7,7 @@ ghost use Rattle.mdns_history.specs.Debts.{sections, multicasts_in};
 ghost use Rattle.mdns_reply.specs.Lasts.{multicasts_of};
 
 use dns_message::{Message, Rrs};
-use dns_record::Rr;
+use dns_record::{Rr, put_copies};
 use mdns_base::Dest;
 use mdns_history::Sent;
 use std::alloc::{AllocError, Global};
@@ -45,14 +45,4 @@ fn put_sections(made: &mut Vec<Rr>, message: &Message) -> Result<(), AllocError>
     put_copies(made, message.answers.as_slice())?;
     put_copies(made, message.authority.as_slice())?;
     put_copies(made, message.additional.as_slice())
-}
-
-// Puts copies of records behind others.
-fn put_copies(made: &mut Vec<Rr>, records: &[Rr]) -> Result<(), AllocError>
-    ensures { OnOk result (made.new.items ≡ made.old.items ++ records.now) }
-{
-    for rr in records {
-        made.push(rr.copy()?)?;
-    }
-    Ok(())
 }

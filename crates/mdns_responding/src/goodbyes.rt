@@ -13,7 +13,7 @@ ghost use Rattle.mdns_announcing.specs.Told.{ended_in, gone_in, goodbyes_told, r
 use crate::announcing::send_to_all;
 use crate::responder::Responder;
 use dns_message::Rrs;
-use dns_record::Rr;
+use dns_record::{Rr, put_copies};
 use mdns_claims::{Claimant, ends};
 use mdns_history::Sends;
 use mdns_pack::{in_order, pack_plain};
@@ -100,14 +100,4 @@ fn has(some: &[Rr], rr: &Rr) -> bool
     ensures { result ≡ list_any (same rr.now) some.now }
 {
     some.iter().any(|one| rr.same(one))
-}
-
-/// Puts copies of records behind others. Refused only for want of memory.
-pub fn put_copies(records: &mut Vec<Rr>, some: &[Rr]) -> Result<(), AllocError>
-    ensures { OnOk result (records.new.items ≡ records.old.items ++ some.now) }
-{
-    for rr in some {
-        records.push(rr.copy()?)?;
-    }
-    Ok(())
 }

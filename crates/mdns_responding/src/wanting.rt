@@ -8,11 +8,10 @@ ghost use Rattle.mdns_claims.specs.Owned.{of_name, own_in};
 ghost use Rattle.mdns_history.specs.Sending.{addresses_of, own_of, srv_addresses, wanted_by};
 ghost use Rattle.mdns_responding.specs.Told.{is_free_by, wanted_told};
 
-use crate::goodbyes::put_copies;
 use crate::responder::Responder;
 use dns_message::{Questions, Rrs};
 use dns_name::Name;
-use dns_record::{Rdata, Rr};
+use dns_record::{Rdata, Rr, put_copies};
 use mdns_asked::{Asked, any_for};
 use mdns_pack::Wanting;
 use std::alloc::AllocError;

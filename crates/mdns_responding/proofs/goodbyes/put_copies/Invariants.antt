@@ -1,5 +1,0 @@
-use Rattle.std.proofs.Common.{◌≡◌, ◌++◌, take}
-use Rattle.mdns_responding.proofs.goodbyes.put_copies.Given as goal
-
-abbrev pub invariant-loop-rr : goal.invariant-loop-rr
-invariant-loop-rr l = l.records.items ≡ l.initial.records.items ++ take l.rr-index l.some
