@@ -102,9 +102,9 @@ still_none names name other offset first none (inr differ) = at (leb_tells first
         let before : offset_of name names ≡ None = ap (offset_of name) (sym (take_all first names (omega (arith, w.1)))) ∙ none in
         none_in_fewer name first (names ++ (other, offset) ∷ []) (none_in_both name names ((other, offset) ∷ []) before ∙ other_name name other offset differ)
 
--- one more name, where one of its slot stands before
+-- one more name, where one of its slot stands before, or none is known to
 pub kept_first : (names : Offsets) (firsts : List ℕ) (other : List (List ℕ)) (offset : ℕ) → AreFirsts names firsts
-    → get_or firsts (slot_of (wire_of other)) 0 < length names → AreFirsts (names ++ (other, offset) ∷ []) firsts
+    → get_or firsts (slot_of (wire_of other)) 0 ≤ length names → AreFirsts (names ++ (other, offset) ∷ []) firsts
 kept_first names firsts other offset h before = record {
   none = λ name. still_none names name other offset (get_or firsts (slot_of (wire_of name)) 0) (h.none name) (at name (eqb_tells (slot_of (wire_of name)) (slot_of (wire_of other))));
 }

@@ -40,7 +40,7 @@ impl<'a> Written<'a> {
     {
         let mut out = Vec::new(alloc);
         out.extend_from_slice(&HEADER)?;
-        let names = WrittenNames::new(alloc)?;
+        let names = WrittenNames::new(alloc);
         Ok(Written { out, names })
     }
 

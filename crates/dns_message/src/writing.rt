@@ -28,7 +28,7 @@ pub fn write(alloc: Global, message: &Message, limit: usize) -> Result<Bytes, Wr
         return Err(WriteError::TooLong);
     }
     let mut out = Vec::new(alloc);
-    let mut names = WrittenNames::new(alloc)?;
+    let mut names = WrittenNames::new(alloc);
     put_header(&mut out, message)?;
     put_questions(&mut out, &mut names, message.questions.as_slice(), limit)?;
     put_records(&mut out, &mut names, message.answers.as_slice(), limit)?;

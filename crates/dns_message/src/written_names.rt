@@ -1,14 +1,17 @@
 // The names that a message holds already, with the offsets at which they stand. (RFC 1035 4.1.4)
-ghost use Rattle.std.specs.Prelude.{◌≡◌, ◌<◌, ◌≤◌, ◌++◌, [], ◌∷◌, length, take, IfOk, OnOk, OnErr, IfSome};
+ghost use Rattle.std.specs.Prelude.{◌≡◌, ℕ, ◌<◌, ◌≤◌, ◌++◌, [], ◌∷◌, length, take, get_or, IfOk, OnOk, OnErr, IfSome};
 ghost use Rattle.dns_name.specs.Names.{labels_of, exact_eq, IsNameInWire};
-ghost use Rattle.dns_message.specs.Writing.{offset_of};
-ghost use Rattle.dns_message.specs.Compressing.{slot_of};
+ghost use Rattle.dns_message.specs.Writing.{Offsets, offset_of};
+ghost use Rattle.dns_message.specs.Compressing.{AreFirsts, slot_of};
 
 use std::alloc::{AllocError, Global};
 use std::marker::Model;
 
 // How many slots the table of first places has.
 const SLOTS: usize = 2048;
+
+// So many names are searched one by one, and have no table: most messages have no more.
+const FEW: usize = 16;
 
 /// The rest of a name in wire form, and the offset at which it was written.
 #[derive(Drop)]
@@ -18,20 +21,21 @@ pub(crate) struct Suffix<'a> {
 }
 
 impl<'a> Model for Suffix<'a> {
-    ghost use Rattle.std.specs.Prelude.{List, ℕ, ◌<◌};
+    ghost use Rattle.std.specs.Prelude.{List, ℕ, ◌<◌, length};
     ghost use Rattle.dns_name.specs.Names.{labels_of, IsNameInWire};
 
     ghost Value = { List (List ℕ) × ℕ };
 
     ghost view = { λ s. (labels_of s.wire.now, s.offset) };
 
-    // A pointer has 14 bits.
-    ghost invariant = { λ s. IsNameInWire s.wire.now × (s.offset < 16384) };
+    // It isn't the root, and a pointer has 14 bits.
+    ghost invariant = { λ s. IsNameInWire s.wire.now × (1 < length s.wire.now) × (s.offset < 16384) };
 }
 
 impl<'a> Suffix<'a> {
     fn new(wire: &'a [u8], offset: u16) -> Self
         requires name { IsNameInWire wire.now }
+        requires some { 1 < length wire.now }
         requires most { offset < 16384 }
         ensures { result ≡ (labels_of wire.now, offset) }
     {
@@ -55,17 +59,18 @@ impl<'a> Suffix<'a> {
     }
 }
 
-/// The names that were written, the least offset first. Each has one of 2048 slots, and of each slot it is known before
-/// which place no name of it stands; so the search for a name begins at the first of its slot, and looks at no more
-/// names than there are, whatever the names.
+/// The names that were written, the least offset first. Where they are more than a few, each has one of 2048 slots, and of each slot it is known
+/// before which place no name of it stands; so the search for a name begins at the first of its slot, and looks at no more names than there
+/// are, whatever the names.
 #[derive(Drop)]
 pub(crate) struct WrittenNames<'a> {
+    alloc: Global,
     suffixes: Vec<Suffix<'a>>,
+    // Before which place no name of a slot stands; nothing of few names.
     firsts: Vec<u16>,
 }
 
 impl<'a> Model for WrittenNames<'a> {
-    ghost use Rattle.std.specs.Prelude.{◌≡◌, List, ℕ, length};
     ghost use Rattle.dns_message.specs.Writing.{Offsets};
     ghost use Rattle.dns_message.specs.Compressing.{AreFirsts};
 
@@ -73,18 +78,19 @@ impl<'a> Model for WrittenNames<'a> {
 
     ghost view = { λ n. n.suffixes.items };
 
-    ghost invariant = { λ n. (length n.firsts.items ≡ 2048) × AreFirsts n.suffixes.items n.firsts.items };
+    ghost invariant = { λ n. AreFirsts n.suffixes.items n.firsts.items };
 }
 
 impl<'a> WrittenNames<'a> {
-    /// No names.
-    pub(crate) fn new(alloc: Global) -> Result<Self, AllocError>
-        ensures { IfOk result (λ names. names ≡ []) }
+    /// No names. It takes no memory.
+    pub(crate) fn new(alloc: Global) -> Self
+        ensures { result ≡ [] }
     {
-        Ok(WrittenNames {
+        WrittenNames {
+            alloc,
             suffixes: Vec::new(alloc),
-            firsts: Vec::from_array(alloc, [u16::MAX; SLOTS])?,
-        })
+            firsts: Vec::new(alloc),
+        }
     }
 
     /// The least offset at which a name in wire form was written.
@@ -94,7 +100,10 @@ impl<'a> WrittenNames<'a> {
         ensures value { result ≡ offset_of (labels_of wire.now) self.now }
         ensures most { IfSome result (λ offset. offset < 16384) }
     {
-        let first = usize::from(self.firsts[slot_of(wire)]);
+        if self.firsts.is_empty() {
+            return find(self.suffixes.as_slice(), wire);
+        }
+        let first = first_of(&self.firsts, slot_of(wire));
         if first >= self.suffixes.len() {
             return None;
         }
@@ -109,11 +118,19 @@ impl<'a> WrittenNames<'a> {
         requires most { offset < 16384 }
         ensures { OnOk result (self.new ≡ self.old ++ (labels_of wire.now, offset) ∷ []) }
     {
-        let count = self.suffixes.len();
-        let slot = slot_of(wire);
+        self.prepare()?;
+        let place = self.suffixes.len();
         self.suffixes.push(Suffix::new(wire, offset))?;
-        if usize::from(self.firsts[slot]) >= count {
-            self.firsts[slot] = count as u16;
+        note(&mut self.firsts, wire, place);
+        Ok(())
+    }
+
+    // Makes the table where the names have just become more than a few. Refused only for want of memory.
+    fn prepare(&mut self) -> Result<(), AllocError>
+        ensures { self.new ≡ self.old }
+    {
+        if self.suffixes.len() == FEW {
+            self.firsts = firsts_of(self.alloc, &self.suffixes)?;
         }
         Ok(())
     }
@@ -145,6 +162,42 @@ fn find(names: &[Suffix<'_>], wire: &[u8]) -> Option<u16>
         }
     }
     None
+}
+
+// A table for some names. Refused only for want of memory.
+fn firsts_of(alloc: Global, names: &[Suffix<'_>]) -> Result<Vec<u16>, AllocError>
+    ensures { IfOk result (λ firsts. AreFirsts names.now firsts.items) }
+{
+    let mut firsts = Vec::from_array(alloc, [u16::MAX; SLOTS])?;
+    for (place, name) in names.iter().enumerate() {
+        note(&mut firsts, name.wire, place);
+    }
+    Ok(firsts)
+}
+
+// Notes in a table that a name stands at a place, behind all that are noted.
+fn note(firsts: &mut [u16], wire: &[u8], place: usize)
+    requires name { IsNameInWire wire.now }
+    requires some { 1 < length wire.now }
+    ensures { (names : Offsets) (offset : ℕ) → length names ≡ place → AreFirsts names firsts.old → AreFirsts (names ++ (labels_of wire.now, offset) ∷ []) firsts.new }
+{
+    let slot = slot_of(wire);
+    if slot >= firsts.len() {
+        return;
+    }
+    if usize::from(firsts[slot]) >= place {
+        firsts[slot] = place as u16;
+    }
+}
+
+// Before which place no name of a slot stands.
+fn first_of(firsts: &[u16], slot: usize) -> usize
+    ensures { result ≡ get_or firsts.now slot 0 }
+{
+    match firsts.get(slot) {
+        Some(first) => usize::from(*first),
+        None => 0,
+    }
 }
 
 // The slot of a name in wire form.

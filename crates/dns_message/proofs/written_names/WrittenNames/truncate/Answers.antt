@@ -5,7 +5,5 @@ use Rattle.dns_message.proofs.Searching.{fewer_names}
 use Rattle.dns_message.proofs.written_names.WrittenNames.truncate.Goals as goal
 
 pub invariant_of-self : goal.invariant_of-self
-invariant_of-self c = (
-  c.self.invariant.0,
-  subst (λ (names : Offsets). AreFirsts names c.self.inside.firsts.items) (sym c.truncate.ensures.items) (fewer_names c.self.inside.suffixes.items c.self.inside.firsts.items c.args.len c.self.invariant.1),
-)
+invariant_of-self c =
+    subst (λ (names : Offsets). AreFirsts names c.self.inside.firsts.items) (sym c.truncate.ensures.items) (fewer_names c.self.inside.suffixes.items c.self.inside.firsts.items c.args.len c.self.invariant)
