@@ -95,8 +95,8 @@ group_name group history = numbered_name group (number_of group history)
 abbrev pub is_taken : List (List (List ℕ)) → List (List ℕ) → Bool
 is_taken names name = list_any (folded_eq name) names
 
--- The least number from a given one on under which a group's name is free. Numbers 1 and 2 may give one name, since a label that is too long is cut; so two
--- more are tried than there are names.
+-- The least number from a given one on under which a group's name is free. Number 1 and one other may give one name, since a label that is too long is cut; so
+-- two more are tried than there are names.
 unfoldable pub free_number : ℕ → List (List (List ℕ)) → Group → ℕ
 free_number from names group = unwrap_or (find (λ number. not (is_taken names (numbered_name group number))) (count_up from (length names + 2))) from
 

@@ -22,4 +22,3 @@ pub mod Calls
 pub mod EntryText
 pub mod Typed
 pub mod Replays
-pub mod Assertions

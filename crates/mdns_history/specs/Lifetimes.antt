@@ -22,7 +22,8 @@ takes_back rr hearing = same rr hearing.rr && (hearing.rr.ttl == 0)
 abbrev pub flushes : Rr → Hearing → Bool
 flushes rr hearing = hearing.rr.flush && folded_eq rr.owner hearing.rr.owner && (kind_of rr.rdata == kind_of hearing.rr.rdata)
 
--- A hearing cuts the life that a renewal gave to a second: a goodbye, or a flush more than a second after the renewal.
+-- whether a hearing ends, a second later at the latest, the life that a record got by its renewal at this moment: a goodbye does, and a flush that is heard more than
+-- a second after the renewal
 abbrev pub cuts : Rr → ℕ → Hearing → Bool
 cuts rr renewed hearing = takes_back rr hearing || (flushes rr hearing && nat_lt (renewed + 1000) hearing.moment)
 

@@ -82,8 +82,8 @@ abbrev pub spread_to : (ℕ → Option ℕ) → ℕ → Host → ℕ → Dest �
 spread_to address_of moment from sender to bytes link =
     put_all (map (delivery_to moment from bytes) (hearers address_of link.parted sender to)) link.under_way
 
--- A packet that is sent: one that is to be lost is lost for all; any other is under way to each daemon that hears it, but to none where it has more bytes than a
--- packet.
+-- A packet that is sent: one that is to be lost is lost for all; any other is under way to each daemon that hears it. (No daemon sends one of more bytes than a packet
+-- may have; it would be under way to none.)
 abbrev pub with_packet : (ℕ → Option ℕ) → ℕ → ℕ → Sent → LinkState → LinkState
 with_packet address_of now sender sent link =
     if nat_lt 0 link.losses then record link { losses = link.losses - 1 }

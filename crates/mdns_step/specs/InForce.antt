@@ -1,4 +1,4 @@
--- Which duties of a Multicast DNS host this daemon has by now. It is said here alone: a word changes when a duty comes into force.
+-- Which duties of a Multicast DNS host this daemon has: all of them. It is said here alone.
 use Rattle.std.specs.Prelude.{true}
 use Rattle.mdns_history.specs.InForce.{Duties}
 
