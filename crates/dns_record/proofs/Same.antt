@@ -1,5 +1,5 @@
 -- Records are the same exactly where their identities are one, and record order is an order of identities.
-use Rattle.std.proofs.Common.{◌≡◌, ◌&&◌, ◌∙◌, Bool, true, false, ap, sym, eqb, refl, subst, Ordering, Less, Equal, Greater}
+use Rattle.std.proofs.Common.{◌≡◌, ◌&&◌, ◌∙◌, ℕ, List, Bool, true, false, ap, eqb, refl, subst, Ordering, Less, Equal, Greater}
 use Rattle.std.specs.Prelude.{◌↔◌, IsTrue}
 use Rattle.std.specs.Bool.{Decides}
 use Rattle.std.specs.Str.{bytes_eq}
@@ -14,8 +14,7 @@ use Rattle.std.proofs.lemmas.Bool.{false≢true}
 use Rattle.std.proofs.lemmas.Bool.Decides.{Decides-eqb}
 use Rattle.dns_name.specs.Names.{folded_eq, name_cmp}
 use Rattle.dns_record.specs.declared.record.Rr.{Rr}
-use Rattle.dns_record.specs.declared.record.Rdata.{Rdata}
-use Rattle.dns_record.specs.Records.{Identity, identity_of, same, data_eq, data_of, kind_of, rdata_cmp, record_cmp}
+use Rattle.dns_record.specs.Records.{Identity, identity_of, same, data_eq, rdata_cmp, record_cmp}
 
 all_three : (a b c : Bool) → (a && (b && c)) ≡ true → (a ≡ true) × (b ≡ true) × (c ≡ true)
 all_three true true c h = (refl, refl, h)
@@ -115,7 +114,17 @@ pub record_cmp_total : IsTotalOrder record_cmp
 unfolding record_cmp rdata_cmp name_cmp
 record_cmp_total = on_total identity_of identity_cmp-total
 
--- data that agree in type and bytes
-pub data_eq_same : (left right : Rdata) → (kind_of left ≡ kind_of right) → data_eq left right ≡ is_eq (slice_cmp nat_cmp (data_of left) (data_of right))
-unfolding data_eq
-data_eq_same left right h = rw ((Decides-eqb (kind_of left) (kind_of right)).1 h) (sym (is_eq-slice_cmp (data_of left) (data_of right)))
+-- data whose order is equal have the same bytes
+pub equal_bytes : (left right : List ℕ) → is_eq (slice_cmp nat_cmp left right) ≡ bytes_eq left right
+equal_bytes left right = is_eq-slice_cmp left right
+
+turned : (a b : Bool) → (a && b) ≡ (b && a)
+turned true true = refl
+turned true false = refl
+turned false true = refl
+turned false false = refl
+
+-- records are the same where their data agree, and then their owners
+pub same_by_data : (left right : Rr) → same left right ≡ (data_eq left.rdata right.rdata && folded_eq left.owner right.owner)
+unfolding same
+same_by_data left right = turned (folded_eq left.owner right.owner) (data_eq left.rdata right.rdata)

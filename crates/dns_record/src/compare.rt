@@ -3,6 +3,7 @@ ghost use Rattle.std.specs.Prelude.{◌≡◌, ◌↔◌, [], ◌++◌, ◌≤�
 ghost use Rattle.std.specs.Int.{to_be_bytes, w32};
 ghost use Rattle.std.specs.List.{list_any};
 ghost use Rattle.std.specs.Ordering.{nat_cmp};
+ghost use Rattle.std.specs.Str.{bytes_eq};
 ghost use Rattle.std.specs.Cmp.Lexicographic.{slice_cmp};
 ghost use Rattle.dns_name.specs.Names.{wire_of};
 ghost use Rattle.dns_record.specs.Records.{data_of, data_eq, identity_of, same, record_cmp, rdata_cmp, matches};
@@ -124,11 +125,23 @@ fn fixed(bytes: &[u8]) -> ArrayVec<u8, 16>
 
 impl Rdata {
     // Whether type and data agree.
-    #[tactic(auto, unfolding(crate::specs::Records::data_eq), using(crate::proofs::Same::data_eq_same))]
+    #[tactic(auto, unfolding(crate::specs::Records::data_eq))]
     fn data_eq(&self, other: &Rdata) -> bool
         ensures { result ≡ data_eq self.now other.now }
     {
-        self.kind() == other.kind() && self.data_cmp(other).is_eq()
+        self.kind() == other.kind() && self.has_same_bytes(other)
+    }
+
+    // Whether the bytes of data agree. The most common pairs go without their order.
+    #[tactic(auto, using(crate::proofs::Same::equal_bytes))]
+    fn has_same_bytes(&self, other: &Rdata) -> bool
+        ensures { result ≡ bytes_eq (data_of self.now) (data_of other.now) }
+    {
+        match (self, other) {
+            (Rdata::Ptr(left), Rdata::Ptr(right)) => left.as_wire() == right.as_wire(),
+            (Rdata::Txt(left), Rdata::Txt(right)) => left.as_slice() == right.as_slice(),
+            _ => self.data_cmp(other).is_eq(),
+        }
     }
 }
 
@@ -139,7 +152,8 @@ impl Rr {
         ensures value { result ≡ same self.now other.now }
         ensures tells { IsTrue result ↔ (identity_of self.now ≡ identity_of other.now) }
     {
-        self.owner.folded_eq(&other.owner) && self.rdata.data_eq(&other.rdata)
+        // Records that are compared have one owner mostly, and other data.
+        self.rdata.data_eq(&other.rdata) && self.owner.folded_eq(&other.owner)
     }
 }
 
