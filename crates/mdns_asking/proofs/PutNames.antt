@@ -41,18 +41,6 @@ pub put-next : {X : Type 0} (P Q : X → Type 0) (xs : List X) (i : ℕ) (x : X)
 put-next P Q xs i x within is weaker here before =
     subst (AllByRecursion Q) (sym (take_more xs i x within ∙ ap (λ y. take i xs ++ y ∷ []) (sym is))) (each-append Q (take i xs) (x ∷ []) (each-weaker Q P weaker (take i xs) before) (here, tt))
 
--- a name that is put behind others is among them
-pub put_last : (names after : List (List (List ℕ))) (name copy : List (List ℕ)) → after ≡ names ++ copy ∷ [] → copy ≡ name → is_among after name ≡ true
-put_last names after name copy e same =
-    ap (λ (them : List (List (List ℕ))). is_among them name) (e ∙ ap (λ (other : List (List ℕ)). names ++ other ∷ []) same) ∙ behind names
-  where
-    itself : folded_eq name name ≡ true
-    itself = folded_eq-equivalence.refl name
-
-    behind : (them : List (List (List ℕ))) → is_among (them ++ name ∷ []) name ≡ true
-    behind [] = ap (λ (b : Bool). b || false) itself
-    behind (other ∷ them) = ap (λ (b : Bool). folded_eq name other || b) (behind them) ∙ or_true (folded_eq name other)
-
 -- names that are one, case aside, are both among others or neither is
 same_among : (name other : List (List ℕ)) → folded_eq name other ≡ true → (names : List (List (List ℕ))) → is_among names name ≡ is_among names other
 same_among name other same [] = refl

@@ -41,9 +41,9 @@ timed_in one (Some walk) = timed walk.later.items one
 abbrev pub timed_by : List Walk → Tracked → Tracked
 timed_by walks one = timed_in one (walk_of one.key.name walks)
 
--- the same of the questions of a name
-abbrev pub timed_if : List Walk → List (List ℕ) → Tracked → Tracked
-timed_if walks name one = if folded_eq name one.key.name then timed_by walks one else one
+-- a question with the first refresh point of a walk's later records, if the walk is of its name
+abbrev pub timed_if : Walk → Tracked → Tracked
+timed_if walk one = if folded_eq walk.name one.key.name then timed walk.later.items one else one
 
 -- a question with its cause, if it is due
 abbrev pub due_by : List Walk → ℕ → Tracked → Option (Key × Cause)

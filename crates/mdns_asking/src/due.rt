@@ -110,8 +110,8 @@ fn cause_with(one: &Tracked, point: Option<u64>, now: u64) -> Option<Cause>
     }
 }
 
-/// The first refresh point that calls for an asking: of the later records, where the name was walked, or else the one that is kept.
-pub fn point_of(one: &Tracked, walks: &[Walk]) -> Option<u64>
+// The first refresh point that calls for an asking: of the later records, where the name was walked, or else the one that is kept.
+fn point_of(one: &Tracked, walks: &[Walk]) -> Option<u64>
     ensures { result ≡ (timed_by walks.now one.now).refresh }
 {
     match walk_of(&one.key.name, walks) {

@@ -16,6 +16,7 @@ use dns_record::Key;
 use mdns_happened::Happened;
 use mdns_question::Tracked;
 use sd_answer::questions_of;
+use sd_sessions::put_once;
 use std::alloc::AllocError;
 
 /// Puts the names of the questions at these places. Refused only for want of memory.
@@ -33,7 +34,7 @@ pub fn put_names_at(
     ensures once { OnOk result (ArePutOnce names.old.items names.new.items) }
 {
     for place in places {
-        put_name(names, &questions[*place].key.name)?;
+        put_once(names, &questions[*place].key.name)?;
     }
     Ok(())
 }
@@ -63,28 +64,7 @@ fn put_key_names(names: &mut Vec<Name>, keys: &[Key]) -> Result<(), AllocError>
     ensures once { OnOk result (ArePutOnce names.old.items names.new.items) }
 {
     for key in keys {
-        put_name(names, &key.name)?;
+        put_once(names, &key.name)?;
     }
     Ok(())
-}
-
-// Puts a name behind others, unless it is there, case aside.
-fn put_name(names: &mut Vec<Name>, name: &Name) -> Result<(), AllocError>
-    ensures kept { OnOk result ((other : List (List ℕ)) → is_among names.old.items other ≡ true → is_among names.new.items other ≡ true) }
-    ensures put { OnOk result (is_among names.new.items name.now ≡ true) }
-    ensures only { OnOk result (ArePutOnly (λ other. folded_eq other name.now) names.old.items names.new.items) }
-    ensures once { OnOk result (ArePutOnce names.old.items names.new.items) }
-{
-    if is_among(names, name) {
-        return Ok(());
-    }
-    names.push(name.copy())?;
-    Ok(())
-}
-
-// Whether a name is one of several, case aside.
-fn is_among(names: &[Name], name: &Name) -> bool
-    ensures { result ≡ is_among names.now name.now }
-{
-    names.iter().any(|other| name.folded_eq(other))
 }

@@ -2,27 +2,28 @@
 ghost use Rattle.std.specs.Prelude.{◌≡◌, map};
 ghost use Rattle.mdns_asking.specs.ByWalks.{timed_by, timed_if};
 
-use crate::due::point_of;
-use dns_name::Name;
 use mdns_happened::Walk;
-use mdns_question::Asker;
+use mdns_question::{Asker, first_refresh};
 
 /// Tells of each question of a walked name the first refresh point of its later records. Other questions aren't looked at.
 pub fn tell_points(asker: &mut Asker, walks: &[Walk])
     ensures { asker.new.questions ≡ map (timed_by walks.now) asker.old.questions }
 {
-    for walk in walks {
-        tell_points_of(asker, &walk.name, walks);
+    // A name's first walk counts, so it is the last one that is told: then no walk is looked for.
+    let mut left = walks.len();
+    while left > 0 {
+        left -= 1;
+        tell_points_of(asker, &walks[left]);
     }
 }
 
-// Tells it of the questions of a name.
-fn tell_points_of(asker: &mut Asker, name: &Name, walks: &[Walk])
-    ensures { asker.new.questions ≡ map (timed_if walks.now name.now) asker.old.questions }
+// Tells it of the questions of a walk's name.
+fn tell_points_of(asker: &mut Asker, walk: &Walk)
+    ensures { asker.new.questions ≡ map (timed_if walk.now) asker.old.questions }
 {
-    let (first, end) = asker.places_of(name);
+    let (first, end) = asker.places_of(&walk.name);
     for place in first..end {
-        let point = point_of(&asker.questions()[place], walks);
+        let point = first_refresh(&asker.questions()[place], walk.later.as_slice());
         asker.tell_at(place, point);
     }
 }

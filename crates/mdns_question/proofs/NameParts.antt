@@ -1,9 +1,10 @@
 -- The questions of a name stand side by side.
-use Rattle.std.proofs.Common.{◌≡◌, ℕ, zero, suc, ◌<◌, ◌≤◌, Bool, true, false, List, [], ◌∷◌, length, get_or, Ordering, Less, Equal, Greater, refl, ap, ◌∙◌, sym, arith, ⊎_elim}
+use Rattle.std.proofs.Common.{◌≡◌, ℕ, zero, suc, ◌<◌, ◌≤◌, Bool, true, false, not, List, [], ◌∷◌, length, get_or, Ordering, Less, Equal, Greater, refl, ap, ◌∙◌, sym, arith, ⊎_elim}
 use Rattle.std.specs.List.Sorted.{IsPartitionedBy, IsPartitionPoint}
-use Rattle.std.specs.Ordering.{is_lt, is_le, is_eq, nat_cmp, ordering_then, ordering_reverse}
+use Rattle.std.specs.Ordering.{is_lt, is_le, is_gt, is_eq, nat_cmp, ordering_then, ordering_reverse}
 use Rattle.std.specs.Cmp.{IsTotalOrder}
 use Rattle.std.proofs.lemmas.Bool.{cases_lt}
+use Rattle.std.proofs.lemmas.List.{get_or_default}
 use Rattle.std.proofs.lemmas.Cmp.{on_total, nat_list_cmp_total, alike_right}
 use Rattle.std.proofs.lemmas.Map.Text.{is_eq-slice_cmp}
 use Rattle.dns_name.specs.Names.{wire_of, folded, folded_eq, name_cmp}
@@ -56,6 +57,40 @@ module _ (name : List (List ℕ)) where
       ⊎_elim (λ less. step test low (get_or questions i d) (get_or questions j d) (far questions s i j d less within) passes high)
       (λ more. let same : j ≡ i = omega arith in ap (λ (k : ℕ). test (name_cmp (get_or questions k d).key.name name)) (sym same) ∙ passes)
       (cases_lt i j)
+
+  -- whether a question's name isn't above the name, at its place
+  pub at_place : (questions : List Tracked) (i : ℕ) (one d : Tracked) (b : Bool) → i < length questions → is_gt (name_cmp (get_or questions i one).key.name name) ≡ b →
+      is_le (name_cmp (get_or questions i d).key.name name) ≡ not b
+  at_place questions i one d b h e =
+      ap (λ (x : Tracked). is_le (name_cmp x.key.name name)) (sym (get_or_default questions i one d h)) ∙ of (name_cmp (get_or questions i one).key.name name) ∙ ap not e
+    where
+      of : (o : Ordering) → is_le o ≡ not (is_gt o)
+      of Less = refl
+      of Equal = refl
+      of Greater = refl
+
+  -- the place behind the last question whose name isn't above the name, where it is reached from the first one of the name
+  pub reached : (questions : List Tracked) (first end : ℕ) → IsStrict tracked_cmp questions →
+      IsPartitionPoint (λ one. is_lt (name_cmp one.key.name name) ≡ true) (λ one. is_lt (name_cmp one.key.name name) ≡ false) questions first →
+      ((k : ℕ) → k < end → (d : Tracked) → first ≤ k → is_le (name_cmp (get_or questions k d).key.name name) ≡ true) →
+      ((d : Tracked) → end < length questions → is_le (name_cmp (get_or questions end d).key.name name) ≡ false) →
+      IsPartitionPoint (λ one. is_le (name_cmp one.key.name name) ≡ true) (λ one. is_le (name_cmp one.key.name name) ≡ false) questions end
+  reached questions first end s lt between stop = (passed, past)
+    where
+      le_of : (o : Ordering) → is_lt o ≡ true → is_le o ≡ true
+      le_of Less e = refl
+      le_of Equal e = absurd (cc)
+      le_of Greater e = absurd (cc)
+
+      passed : (k : ℕ) (d : Tracked) → 0 ≤ k → k < end → is_le (name_cmp (get_or questions k d).key.name name) ≡ true
+      passed k d h g = ⊎_elim (λ before. le_of (name_cmp (get_or questions k d).key.name name) (lt.0 k d h before)) (λ from. between k g d from) (cases_lt k first)
+
+      past : (k : ℕ) (d : Tracked) → end ≤ k → k < length questions → is_le (name_cmp (get_or questions k d).key.name name) ≡ false
+      past k d h g = of (is_le (name_cmp (get_or questions k d).key.name name)) refl
+        where
+          of : (b : Bool) → is_le (name_cmp (get_or questions k d).key.name name) ≡ b → is_le (name_cmp (get_or questions k d).key.name name) ≡ false
+          of false e = e
+          of true e = let no : true ≡ false = sym (parted is_le refl refl questions s end k d h g e) ∙ stop d (omega (arith, h, g)) in absurd (cc)
 
   pub are_of_name : (questions : List Tracked) (first end : ℕ) → first ≤ length questions → end ≤ length questions →
       IsPartitionPoint (λ one. is_lt (name_cmp one.key.name name) ≡ true) (λ one. is_lt (name_cmp one.key.name name) ≡ false) questions first →

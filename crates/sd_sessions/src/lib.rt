@@ -19,4 +19,5 @@ mod walks;
 pub use change::{Call, SessionChange};
 pub use codes::Registering;
 pub use law::sessions_follow_the_history;
+pub use names::put_once;
 pub use sessions::{Plan, Sessions};

@@ -93,8 +93,8 @@ fn put_names_of(names: &mut Vec<Name>, questions: &[Key]) -> Result<(), AllocErr
     Ok(())
 }
 
-// Puts a name that isn't among others, case aside.
-fn put_once(names: &mut Vec<Name>, name: &Name) -> Result<(), AllocError>
+/// Puts a name that isn't among others, case aside. Refused only for want of memory.
+pub fn put_once(names: &mut Vec<Name>, name: &Name) -> Result<(), AllocError>
     ensures kept { OnOk result (AreWithin names.old.items names.new.items) }
     ensures put { OnOk result (is_among names.new.items name.now ≡ true) }
     ensures only { OnOk result (ArePutOnly (λ other. folded_eq other name.now) names.old.items names.new.items) }

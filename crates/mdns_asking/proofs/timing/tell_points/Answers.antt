@@ -1,20 +1,19 @@
-use Rattle.std.proofs.Common.{◌≡◌, ℕ, List, length, map, take, ap, ◌∙◌, arith}
-use Rattle.std.proofs.Math.Seq.{take-length}
-use Rattle.mdns_happened.specs.declared.walk.Walk.{Walk}
-use Rattle.mdns_asking.proofs.TimedNames.{timed_so_far, none_yet, walk_more, all_walked}
+use Rattle.std.proofs.Common.{◌≡◌, ℕ, ◌-◌, map, drop, ap, ◌∙◌, arith}
+use Rattle.mdns_asking.specs.ByWalks.{timed_by}
+use Rattle.mdns_asking.proofs.TimedNames.{none_yet, walk_more}
 use Rattle.mdns_asking.proofs.timing.tell_points.Goals as goal
 
-pub loop-walk-init : goal.loop-walk-init
-loop-walk-init c = none_yet c.args.walks.now c.args.asker.now.questions
+pub loop-left-init : goal.loop-left-init
+loop-left-init c = record { within = omega arith; told = none_yet c.args.walks.now c.args.asker.now.questions }
 
-pub loop-walk-preserved : goal.loop-walk-preserved
-loop-walk-preserved c =
-    walk_more c.args.walks.now c.loop-walk.walk-index c.walk-item.result c.args.asker.now.questions c.loop-walk.asker.questions c.tell_points_of.new.asker.questions
-    c.loop-walk-test.true c.walk-item.is c.loop-walk.invariant c.tell_points_of.ensures
+pub loop-left-preserved : goal.loop-left-preserved
+loop-left-preserved c = record {
+  within = omega arith;
+  told = walk_more c.args.walks.now (c.loop-left.left - 1) c.loop-left.left c.index-walks-left.result c.args.asker.now.questions c.loop-left.asker.questions c.tell_points_of.new.asker.questions
+      (omega arith) (omega arith) c.index-walks-left.is c.loop-left.invariant.told c.tell_points_of.ensures;
+}
 
 pub returns : goal.returns
 returns c =
-    let all : c.loop-walk.walk-index ≡ length c.args.walks.now = omega arith in
-    c.loop-walk.invariant
-    ∙ ap (λ (ws : List Walk). map (timed_so_far c.args.walks.now ws) c.args.asker.now.questions) (ap (λ (n : ℕ). take n c.args.walks.now) all ∙ take-length c.args.walks.now)
-    ∙ all_walked c.args.walks.now c.args.asker.now.questions
+    let none : c.loop-left.left ≡ 0 = omega arith in
+    c.loop-left.invariant.told ∙ ap (λ (n : ℕ). map (timed_by (drop n c.args.walks.now)) c.args.asker.now.questions) none

@@ -1,6 +1,12 @@
-use Rattle.std.proofs.Common.{◌≡◌, map, take}
-use Rattle.mdns_asking.proofs.TimedNames.{timed_so_far}
+use Rattle.std.proofs.Common.{◌≡◌, ◌≤◌, length, map, drop}
+use Rattle.mdns_asking.specs.ByWalks.{timed_by}
 use Rattle.mdns_asking.proofs.timing.tell_points.Given as goal
 
-abbrev pub invariant-loop-walk : goal.invariant-loop-walk
-invariant-loop-walk l = l.asker.questions ≡ map (timed_so_far l.walks (take l.walk-index l.walks)) l.initial.asker.questions
+abbrev pub invariant-loop-left : goal.invariant-loop-left
+invariant-loop-left l = record {
+  within : l.left ≤ length l.walks;
+  told : l.asker.questions ≡ map (timed_by (drop l.left l.walks)) l.initial.asker.questions;
+}
+
+abbrev pub decreases-loop-left : goal.decreases-loop-left
+decreases-loop-left l = l.left

@@ -8,5 +8,5 @@ returns c =
     let end : ℕ = c.places_of-first.result.1 in
     let past : end ≤ c.loop-place.place = c.loop-place-test.false in
     let most : c.loop-place.place ≤ end = c.loop-place.auto.place-end c.places_of-first.ensures.order in
-    timed_places c.args.walks.now c.args.name.now c.args.asker.now.questions c.loop-place.asker.questions first end c.places_of-first.ensures c.loop-place.invariant.len
+    timed_places c.args.walk.now c.args.asker.now.questions c.loop-place.asker.questions first end c.places_of-first.ensures c.loop-place.invariant.len
     (λ k d h g. c.loop-place.invariant.told k d h (omega (arith, g, past))) c.loop-place.invariant.before (λ k d h. c.loop-place.invariant.behind k d (omega (arith, h, most)))
