@@ -9,3 +9,4 @@ pub mod Ticking
 pub mod Places
 pub mod Passing
 pub mod Probing
+pub mod Bits

@@ -1,7 +1,6 @@
 -- The probes of groups, one by one.
-use Rattle.std.proofs.Common.{◌≡◌, ℕ, ◌<◌, Bool, true, false, cond, List, [], ◌∷◌, ◌++◌, map, refl, ap}
+use Rattle.std.proofs.Common.{◌≡◌, ℕ, Bool, true, false, cond, List, [], ◌∷◌, ◌++◌, map, refl, ap}
 use Rattle.std.specs.Prelude.{filter}
-use Rattle.mdns_history.specs.declared.entry.Sent.{Sent}
 use Rattle.mdns_history.specs.Sending.{to_all}
 use Rattle.mdns_probe.specs.Claiming.{is_probe_due}
 use Rattle.mdns_probe.specs.Kept.{Kept, probe_for, probes_for}

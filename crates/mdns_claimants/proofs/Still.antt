@@ -1,8 +1,7 @@
 -- A group whose moment hasn't come: nothing is due of it, and a tick leaves it as it is.
-use Rattle.std.proofs.Common.{◌≡◌, ℕ, ◌<◌, ◌≤◌, Bool, true, false, cond, not, ◌&&◌, List, [], ◌∷◌, refl, ap, ◌∙◌, arith}
+use Rattle.std.proofs.Common.{◌≡◌, ℕ, ◌<◌, Bool, true, false, cond, not, ◌&&◌, [], ◌∷◌, refl, ap, ◌∙◌, arith}
 use Rattle.std.specs.Prelude.{nat_le, nat_lt}
 use Rattle.std.proofs.lemmas.Bool.{lt-leb}
-use Rattle.mdns_probe.specs.declared.claim.Claim.{Claim}
 use Rattle.mdns_probe.specs.Claiming.{is_probe_due, is_settle_due, is_announce_due, probed_at, settled_at, settled_if, announced_at, announced_if, ticked, after_tick}
 use Rattle.mdns_probe.specs.Kept.{Kept}
 use Rattle.mdns_claimants.specs.Due.{kept_moment, moment_of, ticked_at}

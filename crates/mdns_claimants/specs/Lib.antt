@@ -3,3 +3,4 @@ pub mod Typed
 pub mod Owned
 pub mod Due
 pub mod Live
+pub mod Bits

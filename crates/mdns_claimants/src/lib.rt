@@ -12,6 +12,7 @@ mod moment;
 pub mod names;
 pub mod ours;
 pub mod own;
+pub mod owners;
 pub mod probes;
 mod renewal;
 

@@ -1,9 +1,11 @@
 // The own records of a name. (RFC 6762 6)
 ghost use Rattle.std.specs.Prelude.{OnOk, [], ◌∷◌, ◌++◌, ◌≡◌};
 ghost use Rattle.mdns_asked.specs.Asked.{IsPut};
+ghost use Rattle.mdns_claimants.specs.Bits.{bit_of};
 ghost use Rattle.mdns_claimants.specs.Owned.{claimed, claimed_of, of_name, own_in};
 
 use crate::claimant::Claimant;
+use crate::owners::bit_of;
 use dns_message::Rrs;
 use dns_name::Name;
 use dns_record::Rr;
@@ -15,7 +17,19 @@ use std::alloc::AllocError;
 pub fn put_own(rrs: &mut Rrs, groups: &[Claimant], name: &Name) -> Result<(), AllocError>
     ensures { OnOk result (rrs.new ≡ rrs.old ++ of_name name.now (own_in groups.now)) }
 {
+    let bit = bit_of(name);
     for one in groups {
+        put_of_group(rrs, one, name, bit)?;
+    }
+    Ok(())
+}
+
+// Puts the records of a group that have a name, whose bit is given, behind others, if the group is sure.
+fn put_of_group(rrs: &mut Rrs, one: &Claimant, name: &Name, bit: u64) -> Result<(), AllocError>
+    requires { bit ≡ bit_of name.now }
+    ensures { OnOk result (rrs.new ≡ rrs.old ++ claimed_of name.now one.now.claim.sure one.now.claim) }
+{
+    if one.may_have(bit) {
         put_claimed(rrs, one.claim(), one.claim().sure, name)?;
     }
     Ok(())

@@ -1,12 +1,10 @@
 -- Own records and answers behind a deed, group by group.
-use Rattle.std.proofs.Common.{◌≡◌, ℕ, ◌+◌, ◌<◌, ◌==◌, Bool, true, false, true≢false, cond, ◌&&◌, ◌||◌, List, [], ◌∷◌, ◌++◌, map, filter, length, get_or, drop, refl, ap, sym, ◌∙◌, append-nil, append_assoc, Option, Some, None}
-use Rattle.std.specs.List.{cons_option, list_any, flat_map}
+use Rattle.std.proofs.Common.{◌≡◌, ℕ, ◌==◌, Bool, true, false, cond, ◌&&◌, ◌||◌, List, [], ◌∷◌, ◌++◌, map, filter, refl, ap, sym, ◌∙◌, append-nil, append_assoc, Option, Some, None}
+use Rattle.std.specs.List.{cons_option, flat_map}
 use Rattle.std.specs.Option.{option_map, option_map_or, option_to_list}
-use Rattle.std.proofs.lemmas.List.{drop_more}
 use Rattle.std.proofs.lemmas.List.Elements.{filter-append}
 use Rattle.std.proofs.lemmas.List.Folds.{list_any-append}
 use Rattle.dns_name.specs.Names.{folded_eq}
-use Rattle.dns_name.proofs.Folding.{folded_eq-equivalence}
 use Rattle.dns_record.specs.declared.record.Rr.{Rr}
 use Rattle.sd_call.specs.declared.answer.Answer.{Answer}
 use Rattle.sd_call.specs.declared.answer.Answer.TheVariants.{Conflict}
@@ -20,7 +18,7 @@ use Rattle.mdns_probe.specs.Answering.{registered_by}
 use Rattle.mdns_probe.specs.Kept.{Kept, name_of}
 use Rattle.mdns_claims.specs.declared.plan.Deed.{Deed}
 use Rattle.mdns_claims.specs.Later.{Shown, shown_of, shown_own, shown_answer, later_of}
-use Rattle.mdns_claimants.specs.Owned.{of_name, own_in, registered_answers, is_among, AreWithin}
+use Rattle.mdns_claimants.specs.Owned.{of_name, own_in, registered_answers}
 use Rattle.mdns_claims.specs.Planned.{Means}
 use Rattle.mdns_claims.proofs.Made.{later_group}
 

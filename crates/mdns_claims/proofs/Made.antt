@@ -1,7 +1,7 @@
 -- The groups behind a deed: what it makes of each, and the one that it begins.
 use Rattle.std.proofs.Common.{◌≡◌, ℕ, ◌+◌, ◌<◌, ◌≤◌, Bool, true, false, cond, not, ◌||◌, ◌⊎◌, List, [], ◌∷◌, ◌++◌, map, length, get_or, drop, refl, ap, sym, ◌∙◌, append-nil, Option, Some, None, inl, inr, arith}
 use Rattle.std.specs.List.{cons_option}
-use Rattle.std.specs.Option.{option_map, option_to_list, is_some}
+use Rattle.std.specs.Option.{option_map, option_map_or, option_to_list, is_some}
 use Rattle.std.proofs.lemmas.Bool.{cases_lt}
 use Rattle.std.proofs.lemmas.List.{drop_more, drop_all, get_or_past}
 use Rattle.mdns_history.specs.Groups.{Group}
@@ -11,8 +11,11 @@ use Rattle.mdns_claims.specs.declared.plan.Deed.TheVariants.{Nothing, Ticks, Beg
 use Rattle.mdns_claimants.specs.declared.renewal.Renewal.{Renewal}
 use Rattle.mdns_renewals.specs.Occasions.{ends_by}
 use Rattle.mdns_claimants.specs.Due.{ticked_at}
-use Rattle.mdns_claims.specs.Later.{shown_of, later_of, later_from, begun_by, is_still, touches}
+use Rattle.mdns_claims.specs.Later.{shown_of, shown_own, later_of, later_from, begun_by, is_still, takes_none, touches}
 use Rattle.mdns_claimants.specs.Named.{with_renewal, with_renewals}
+use Rattle.mdns_claimants.specs.Owned.{of_name}
+use Rattle.mdns_claimants.proofs.Bits.{none_claimed}
+use Rattle.mdns_probe.specs.Claiming.{is_settle_due}
 use Rattle.mdns_claims.specs.Planned.{Means, going_on, kept_by}
 use Rattle.mdns_claims.proofs.Ticked.{shown_ticked}
 
@@ -125,3 +128,14 @@ module _ (means : Means) where
       of : (b : Bool) → cond b None (Some (with_renewal (get_or renewals.items place None) one)) ≡ Some after → after.group ≡ one.group
       of true h = cc
       of false h = sym (ap (λ (k : Kept). k.group) (same h)) ∙ same_group (get_or renewals.items place None) one
+
+  -- a deed that renews no group gives none a record of a name that it has none of
+  pub none_later : (deed : Deed) (place : ℕ) (one : Kept) (name : List (List ℕ)) → takes_none deed ≡ true → of_name name (one.claim.unique ++ one.claim.shared) ≡ [] →
+      option_map_or (shown_own name) (option_map shown_of (later_of means deed place one)) [] ≡ []
+  none_later Nothing place one name e none = none_claimed name one.claim.sure one.claim none
+  none_later Ticks place one name e none =
+      ap (shown_own name) (shown_ticked means.moment means.announces one)
+      ∙ none_claimed name (one.claim.sure || is_settle_due means.moment one.claim) one.claim none
+  none_later (Begins new) place one name e none = none_claimed name one.claim.sure one.claim none
+  none_later Ends place one name e none = absurd (cc)
+  none_later (Changes renewals) place one name e none = absurd (cc)

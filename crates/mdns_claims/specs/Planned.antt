@@ -1,7 +1,6 @@
 -- What a plan says of an event, and what its deed makes of the groups that are kept. (RFC 6762 8 and 9)
-use Rattle.std.specs.Prelude.{◌≡◌, ℕ, suc, ◌<◌, ◌^◌, Bool, true, false, not, List, [], ◌∷◌, ◌++◌, map, filter, Option, Some, None, is_some, ◌||◌, IsTrue, if◌then◌else◌}
+use Rattle.std.specs.Prelude.{◌≡◌, ℕ, suc, ◌<◌, ◌^◌, Bool, true, false, not, List, [], ◌∷◌, ◌++◌, map, filter, Option, Some, None, is_some, ◌||◌}
 use Rattle.std.specs.List.{list_all}
-use Rattle.sd_call.specs.Requests.{well_formed, is_register}
 use Rattle.sd_service.specs.Bitmaps.{have_bitmap}
 use Rattle.mdns_history.specs.declared.mark.Mark.{Mark}
 use Rattle.mdns_history.specs.Sessions.{Accepted, is_stop}
@@ -10,13 +9,12 @@ use Rattle.mdns_probe.specs.Kept.{Kept}
 use Rattle.mdns_claims.specs.declared.plan.Plan.{Plan}
 use Rattle.mdns_claims.specs.declared.plan.Deed.{Deed}
 use Rattle.mdns_claims.specs.declared.plan.Deed.TheVariants.{Nothing, Ticks, Begins, Ends, Changes}
-use Rattle.mdns_claimants.specs.declared.renewal.Renewal.{Renewal}
 use Rattle.mdns_claimants.specs.Named.{with_renewals, AreNamed}
 use Rattle.mdns_claimants.specs.Typed.{have_data, records_of, is_typed, is_mapped}
 use Rattle.mdns_claims.specs.State.{Contents}
 pub use Rattle.mdns_renewals.specs.Wishes.{IsAcceptable}
 pub use Rattle.mdns_renewals.specs.Occasions.{renewal_told}
-use Rattle.mdns_renewals.specs.Occasions.{Occasion, updated_txt, number_after, ends, ends_by, is_touched, renewed}
+use Rattle.mdns_renewals.specs.Occasions.{Occasion, updated_txt, number_after, ends_by}
 use Rattle.mdns_claims.specs.Behind.{storm_told, groups_told, registered_told}
 use Rattle.mdns_claimants.specs.Due.{ticked_at}
 

@@ -4,6 +4,7 @@ ghost use Rattle.std.specs.Option.{option_map, option_map_or, option_to_list};
 ghost use Rattle.dns_record.specs.declared.record.Rr.{Rr};
 ghost use Rattle.mdns_asked.specs.Asked.{IsPut};
 ghost use Rattle.mdns_timer.specs.Parts.{IsFirstDue, NoneDue};
+ghost use Rattle.mdns_claimants.specs.Bits.{bit_of};
 ghost use Rattle.mdns_claimants.specs.Due.{moment_of};
 ghost use Rattle.mdns_claimants.specs.Owned.{AreWithin, is_among, is_ours, of_name, own_in, registered_answers};
 ghost use Rattle.mdns_claims.specs.Seen.{means_in};
@@ -20,6 +21,7 @@ use mdns_claimants::Claimant;
 use mdns_claimants::answers::{is_of, registered_answer};
 use mdns_claimants::names::put_claim_names;
 use mdns_claimants::own::{put_claim, put_claimed};
+use mdns_claimants::owners::bit_of;
 use mdns_happened::Registered;
 use mdns_probe::Naming;
 use mdns_timer::Deadlines;
@@ -162,13 +164,39 @@ impl Behind<'_> {
     fn put_later(&self, rrs: &mut Rrs, name: &Name) -> Result<(), AllocError>
         ensures { OnOk result (rrs.new ≡ rrs.old ++ of_name name.now (own_in (later_from (means_in self.now.means) self.now.deed.now 0 self.now.groups.now))) }
     {
+        let bit = bit_of(name);
         let groups = self.groups;
         for (place, one) in groups.iter().enumerate() {
-            if let Some(later) = self.means.later(self.deed, place, one) {
-                put_claimed(rrs, later.claim, later.sure, name)?;
+            if self.may_have(one, bit) {
+                self.put_later_at(rrs, place, one, name)?;
             }
         }
         Ok(())
+    }
+
+    // Whether a group may have a record of a name, whose bit is given, behind the plan. Most have none before it, and get none by a plan
+    // that renews no group.
+    fn may_have(&self, one: &Claimant, bit: u64) -> bool
+        ensures { result ≡ false → (place : ℕ) (name : List (List ℕ)) → bit ≡ bit_of name
+            → option_map_or (shown_own name) (option_map shown_of (later_of (means_in self.now.means) self.now.deed.now place one.now)) [] ≡ [] }
+    {
+        one.may_have(bit) || !takes_none(self.deed)
+    }
+
+    // Puts the own records of a name that the group in a place has behind the plan.
+    fn put_later_at(
+        &self,
+        rrs: &mut Rrs,
+        place: usize,
+        one: &Claimant,
+        name: &Name,
+    ) -> Result<(), AllocError>
+        ensures { OnOk result (rrs.new ≡ rrs.old ++ option_map_or (shown_own name.now) (option_map shown_of (later_of (means_in self.now.means) self.now.deed.now place one.now)) []) }
+    {
+        match self.means.later(self.deed, place, one) {
+            Some(later) => put_claimed(rrs, later.claim, later.sure, name),
+            None => Ok(()),
+        }
     }
 
     // Puts the own records that questions ask for and that the groups that are there have behind the plan.

@@ -1,4 +1,4 @@
-use Rattle.std.proofs.Common.{◌≡◌, ◌<◌, ◌∙◌, ◌≤◌, length, refl, arith}
+use Rattle.std.proofs.Common.{◌<◌, ◌∙◌, length, arith}
 use Rattle.mdns_claimants.specs.Due.{ticked_at}
 use Rattle.mdns_claimants.proofs.Places.{retimed, changed_length, timed_length}
 use Rattle.mdns_claimants.proofs.Ticking.{tick_more, tick_done}

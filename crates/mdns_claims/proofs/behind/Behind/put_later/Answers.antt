@@ -1,23 +1,23 @@
-use Rattle.std.proofs.Common.{◌∙◌, [], ap, sym, append-nil}
-use Rattle.std.specs.Option.{option_map_or}
-use Rattle.mdns_claims.specs.Later.{shown_own}
-use Rattle.mdns_claimants.specs.Owned.{claimed_of}
+use Rattle.std.proofs.Common.{◌∙◌, [], refl, sym, append-nil}
+use Rattle.std.specs.Option.{option_map, option_map_or}
+use Rattle.mdns_claims.specs.Later.{later_of, shown_of, shown_own}
 use Rattle.mdns_claims.specs.Seen.{means_in}
 use Rattle.mdns_claims.proofs.Ahead.{own_more}
 use Rattle.mdns_claims.proofs.behind.Behind.put_later.Goals as goal
-use Rattle.mdns_claims.proofs.behind.Behind.put_later.Goals.{in-Some+in_ok-put_claimed, in_default}
+use Rattle.mdns_claims.proofs.behind.Behind.put_later.Goals.{then-may_have+in_ok-put_later_at, else-may_have}
 
 pub loop-place-preserved : goal.loop-place-preserved
 loop-place-preserved c =
-    elim c.match-later.branch [
-      | in-Some+in_ok-put_claimed w ↦
+    elim c.if-may_have.branch [
+      | then-may_have+in_ok-put_later_at w ↦
           own_more (means_in c.args.self.now.means) c.args.self.now.deed.now c.args.self.now.groups.now c.loop-place.place c.index-groups-place.result c.loop-place-test.true c.index-groups-place.is
-          c.args.name.now c.loop-place.rrs c.match-later.rrs (claimed_of c.args.name.now w.in-Some.later.sure w.in-Some.later.claim.now) (w.rrs-is ∙ w.in_ok-put_claimed.ensures)
-          (ap (λ o. option_map_or (shown_own c.args.name.now) o []) w.in-Some.ensures)
+          c.args.name.now c.loop-place.rrs c.if-may_have.rrs
+          (option_map_or (shown_own c.args.name.now) (option_map shown_of (later_of (means_in c.args.self.now.means) c.args.self.now.deed.now c.loop-place.place c.index-groups-place.result)) [])
+          (w.rrs-is ∙ w.in_ok-put_later_at.ensures) refl
           ∙ c.loop-place.invariant
-      | in_default w ↦
+      | else-may_have w ↦
           own_more (means_in c.args.self.now.means) c.args.self.now.deed.now c.args.self.now.groups.now c.loop-place.place c.index-groups-place.result c.loop-place-test.true c.index-groups-place.is
-          c.args.name.now c.loop-place.rrs c.match-later.rrs [] (w.rrs-is ∙ sym (append-nil c.loop-place.rrs))
-          (ap (λ o. option_map_or (shown_own c.args.name.now) o []) w.in_default.ensures)
+          c.args.name.now c.loop-place.rrs c.if-may_have.rrs [] (w.rrs-is ∙ sym (append-nil c.loop-place.rrs))
+          (sym (c.may_have.ensures w.if-may_have.false c.loop-place.place c.args.name.now c.bit_of-bit.ensures))
           ∙ c.loop-place.invariant
     ]

@@ -1,4 +1,4 @@
-use Rattle.std.proofs.Common.{◌≡◌, ◌+◌, ◌<◌, ◌∙◌, length, get_or, arith}
+use Rattle.std.proofs.Common.{length, get_or, arith}
 use Rattle.std.proofs.lemmas.List.{get_or_default}
 use Rattle.mdns_probe.specs.Kept.{Kept}
 use Rattle.mdns_claimants.proofs.Naming.{not_within}
