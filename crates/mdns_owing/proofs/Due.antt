@@ -1,11 +1,12 @@
 -- What is due is found by its moment, and what isn't changes nothing.
 use Rattle.std.proofs.Common.{◌≡◌, ℕ, zero, suc, ◌+◌, ◌<◌, ◌≤◌, min, max, Bool, true, false, cond, not, ◌&&◌, ◌||◌, List, [], ◌∷◌, ◌++◌, length, map, take, drop, get_or, Option, Some, None, refl, ap, sym, subst, ◌∙◌, arith, append-nil, append_assoc, add-one, ⊎_elim, ◌^◌, ◌-◌}
 use Rattle.std.specs.Prelude.{filter, nat_le, IfNone, IfSome}
-use Rattle.std.specs.List.{list_any, list_all, flat_map, AllByRecursion}
+use Rattle.std.specs.List.{list_any, flat_map, All as AllOf, AllByRecursion}
 use Rattle.std.proofs.Math.Seq.{take-length}
-use Rattle.std.proofs.lemmas.Bool.{and_parts, lt-leb, cases_lt}
+use Rattle.std.proofs.lemmas.Bool.{lt-leb, cases_lt}
 use Rattle.std.proofs.lemmas.List.{get_or-map, take_more, take_all, take-append-le, length-map}
 use Rattle.std.proofs.lemmas.List.Concat.{flat_map-append}
+use Rattle.std.proofs.lemmas.List.Elements.{All-head, All-tail, filter-append}
 use Rattle.mdns_base.specs.declared.host.Dest.TheVariants.{All}
 use Rattle.mdns_base.specs.Hosts.{dest_eq}
 use Rattle.dns_name.specs.Lists.{least, least_of}
@@ -108,11 +109,16 @@ all_stay : {X : Type 0} (p : X → Bool) (xs : List X) → ((x : X) → p x ≡ 
 all_stay p [] h = refl
 all_stay p (x ∷ xs) h = ap (λ b. cond b (x ∷ filter p xs) (filter p xs)) (h x) ∙ ap (λ l. x ∷ l) (all_stay p xs h)
 
--- what isn't due is left where nothing else is met
-leaves_undue : (news : News) (query : Query) → MeetsDueAlone news → nat_le query.due news.moment ≡ false → (owed : Owed) → leaves news query owed ≡ true
-leaves_undue news query alone late owed =
-    (λ i. not (strikes query owed (query_of (alone.heard i)))
-    && not (cond (dest_eq owed.1 All) (is_multicast owed.0 (alone.multicast i) || list_any (λ rr. same owed.0 rr && nat_le (owed.0).ttl rr.ttl) (counted_records (alone.heard i))) (news.tick && late i)))
+pub each_stays : {X : Type 0} (p : X → Bool) (xs : List X) → AllOf (λ x. p x ≡ true) xs → filter p xs ≡ xs
+each_stays p [] h = refl
+each_stays p (x ∷ xs) h =
+    ap (λ b. cond b (x ∷ filter p xs) (filter p xs)) (All-head (λ y. p y ≡ true) x xs h) ∙ ap (λ l. x ∷ l) (each_stays p xs (All-tail (λ y. p y ≡ true) x xs h))
+
+-- what isn't due is left where it isn't multicast and nothing is heard
+pub leaves_unmet : (news : News) (query : Query) (owed : Owed) → news.heard ≡ None → nat_le query.due news.moment ≡ false → is_multicast owed.0 news.multicast ≡ false → leaves news query owed ≡ true
+leaves_unmet news query owed unheard late apart =
+    (λ i. not (strikes query owed (query_of (unheard i)))
+    && not (cond (dest_eq owed.1 All) (apart i || list_any (λ rr. same owed.0 rr && nat_le (owed.0).ttl rr.ttl) (counted_records (unheard i))) (news.tick && late i)))
     ∙ of (dest_eq owed.1 All) news.tick
   where
     of : (all tick : Bool) → not (cond all false (tick && false)) ≡ true
@@ -124,7 +130,8 @@ pub stays_undue : (news : News) (queries : List Query) (moments : List ℕ) (fro
     (k : ℕ) (d : Query) → from ≤ k → k < place → left_by (leaves news) (get_or queries k d) ≡ get_or queries k d
 stays_undue news queries moments from place alone timed within none k d behind below =
     let query : Query = get_or queries k d in
-    ap (λ (owed : List Owed). record query { owed = owed }) (all_stay (leaves news query) query.owed (leaves_undue news query alone (undue queries moments news.moment from place timed within none k d behind below)))
+    ap (λ (owed : List Owed). record query { owed = owed }) (all_stay (leaves news query) query.owed (λ owed.
+    leaves_unmet news query owed alone.heard (undue queries moments news.moment from place timed within none k d behind below) (ap (is_multicast owed.0) alone.multicast)))
 
 -- when time has passed nothing was heard
 pub ticked_unheard : (it : Happened) → (told_by it).ticks ≡ true → (told_by it).heard ≡ None
@@ -152,11 +159,9 @@ timed_written test queries before after rest moments len timed long is left =
     let all : take len (after ++ rest) ≡ after = take-append-le len after rest (omega arith) ∙ take_all len after (omega arith) in
     timed ∙ sym (timed_left test queries) ∙ ap moments_of (sym e ∙ sym all)
 
-pub all_owed : (queries : List Query) → list_all has_owed queries ≡ true → filter has_owed queries ≡ queries
-all_owed [] h = refl
-all_owed (query ∷ queries) h =
-    let parts = and_parts (has_owed query) (list_all has_owed queries) h in
-    ap (λ b. cond b (query ∷ filter has_owed queries) (filter has_owed queries)) parts.0 ∙ ap (λ l. query ∷ l) (all_owed queries parts.1)
+-- what is dropped before a query comes is dropped with it
+pub dropped_then_put : (queries come : List Query) → filter has_owed queries ++ filter has_owed come ≡ filter has_owed (queries ++ come)
+dropped_then_put queries come = sym (filter-append has_owed queries come)
 
 -- ---- the first moment
 

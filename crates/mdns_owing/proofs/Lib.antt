@@ -8,3 +8,5 @@ pub mod Matching
 pub mod Asked
 pub mod Listing
 pub mod Collecting
+pub mod Marked
+pub mod Told

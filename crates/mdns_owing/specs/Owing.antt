@@ -1,6 +1,6 @@
 -- What contracts see of the queries that are owed something, and what an event makes of them, told of what is kept. (RFC 6762 5.4, 6, 6.1, 6.7, 7.1 to 7.4)
 use Rattle.std.specs.Prelude.{◌≡◌, ℕ, ◌<◌, ◌≤◌, nat_le, Bool, true, not, ◌&&◌, List, [], ◌++◌, map, filter, Option, Some, None}
-use Rattle.std.specs.List.{list_any, flat_map}
+use Rattle.std.specs.List.{list_any, flat_map, All}
 use Rattle.dns_record.specs.declared.record.Rr.{Rr}
 use Rattle.dns_record.specs.Records.{same}
 use Rattle.mdns_history.specs.Hearings.{Heard, query_of}
@@ -16,6 +16,7 @@ use Rattle.mdns_history.specs.Debts.{Owed, is_struck}
 use Rattle.mdns_happened.specs.declared.happened.Heard.{Heard as Said}
 use Rattle.mdns_owing.specs.declared.terms.Terms.{Terms}
 use Rattle.mdns_owing.specs.declared.news.News.{News as Event}
+use Rattle.mdns_owing.specs.Satisfied.{IsOwed}
 use Rattle.mdns_debts.specs.Following.{Ours, News, owed_to, way_for, queries_from, leaves, left_by, has_owed, queries_after}
 
 -- what a query says of itself that decides when and where what it is owed goes, as a query that is owed nothing
@@ -30,6 +31,11 @@ pub record State : Type 0 where
 -- the moments from which on what queries are owed is due
 abbrev pub moments_of : List Query → List ℕ
 moments_of queries = map (λ query. query.due) queries
+
+-- The queries that are kept, and the moments beside them: each is owed something, and the moments are those from which on that is due.
+pub record AreKept (queries : List Query) (moments : List ℕ) : Type 0 where
+  pub owed : All IsOwed queries
+  pub timed : moments ≡ moments_of queries
 
 -- a moment isn't before the first one, if there is that
 abbrev pub IsNoSooner : Option ℕ → ℕ → Type 0

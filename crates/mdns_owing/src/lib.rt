@@ -7,11 +7,13 @@ mod found;
 mod hearing;
 mod law;
 mod listed;
+mod marks;
 mod multicasts;
 mod news;
 mod owed;
 mod owing;
 mod query;
+mod satisfied;
 mod sending;
 mod terms;
 

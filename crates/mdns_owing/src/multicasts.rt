@@ -1,7 +1,10 @@
 // The records that are multicast with an event.
-ghost use Rattle.std.specs.Prelude.{◌≡◌, ◌++◌, IfOk, OnOk, filter, nat_lt};
+ghost use Rattle.std.specs.Prelude.{◌≡◌, ◌++◌, false, IfOk, OnOk, IsTrue, filter, nat_lt};
+ghost use Rattle.dns_record.specs.declared.record.Rr.{Rr};
 ghost use Rattle.mdns_history.specs.Debts.{is_multicast};
+ghost use Rattle.mdns_owing.specs.Marks.{HasMark};
 
+use crate::marks::Marks;
 use dns_message::Rrs;
 use dns_record::Rr;
 use mdns_pack::Ordered;
@@ -14,19 +17,20 @@ pub struct Multicasts {
     all: Rrs,
     // Those with a TTL above 0.
     found: Ordered,
+    // Their marks.
+    marks: Marks,
 }
 
 impl Model for Multicasts {
-    ghost use Rattle.std.specs.Prelude.{◌≡◌, List, filter, nat_lt};
+    ghost use Rattle.std.specs.Prelude.{List};
     ghost use Rattle.dns_record.specs.declared.record.Rr.{Rr};
-    ghost use Rattle.dns_record.specs.Records.{record_cmp};
-    ghost use Rattle.dns_name.specs.Lists.{ordered};
+    ghost use Rattle.mdns_owing.specs.Marks.{AreFound};
 
     ghost Value = { List Rr };
 
     ghost view = { λ a. a.all };
 
-    ghost invariant = { λ a. a.found ≡ ordered record_cmp (filter (λ rr. nat_lt 0 rr.ttl) a.all) };
+    ghost invariant = { λ a. AreFound a.all a.found a.marks.bits };
 }
 
 impl Multicasts {
@@ -36,9 +40,11 @@ impl Multicasts {
     {
         let mut lasting = Vec::new(alloc);
         put_lasting(&mut lasting, all.as_slice())?;
+        let marks = Marks::of(&lasting);
         Ok(Multicasts {
             all,
             found: Ordered::of(lasting)?,
+            marks,
         })
     }
 
@@ -47,6 +53,13 @@ impl Multicasts {
         ensures { result ≡ is_multicast rr.now self.now }
     {
         self.found.has(rr)
+    }
+
+    /// Whether no record with one of these marks is multicast with a TTL above 0.
+    pub(crate) fn are_apart(&self, marks: Marks) -> bool
+        ensures { IsTrue result → (rr : Rr) → HasMark marks.bits rr → is_multicast rr self.now ≡ false }
+    {
+        self.marks.are_apart(marks)
     }
 
     /// The records. It takes no memory.

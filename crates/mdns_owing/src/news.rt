@@ -1,13 +1,15 @@
 // What an event tells the queries that are owed something.
-ghost use Rattle.std.specs.Prelude.{◌≡◌, nat_le, ◌&&◌, IsTrue};
+ghost use Rattle.std.specs.Prelude.{◌≡◌, nat_le, true, ◌&&◌, IsTrue};
 ghost use Rattle.std.specs.List.{list_any};
 ghost use Rattle.dns_record.specs.Records.{same};
 ghost use Rattle.mdns_base.specs.Hosts.{host_eq};
-ghost use Rattle.mdns_history.specs.Debts.{is_struck};
+ghost use Rattle.mdns_history.specs.Debts.{Owed, is_struck};
 ghost use Rattle.mdns_history.specs.Hearings.{counted_records, query_of};
 ghost use Rattle.mdns_debts.specs.Following.{strikes, meets, leaves};
+ghost use Rattle.mdns_owing.specs.Marks.{HasMark};
 ghost use Rattle.mdns_owing.specs.Owing.{news_in, query_of_terms, MeetsDueAlone};
 
+use crate::marks::Marks;
 use crate::multicasts::Multicasts;
 use crate::owed::Owed;
 use crate::terms::Terms;
@@ -37,6 +39,14 @@ impl News<'_> {
         ensures { IsTrue result → MeetsDueAlone (news_in self.now) }
     {
         self.is_tick() && self.multicasts.as_rrs().as_slice().is_empty()
+    }
+
+    /// Whether the event leaves all that a query is owed whose marks are these, as is soon told: time has passed, but the query isn't due, and
+    /// nothing with such a mark is multicast.
+    pub(crate) fn passes_over(&self, query: &Terms, marks: Marks) -> bool
+        ensures { IsTrue result → (owed : Owed) → HasMark marks.bits owed.0 → leaves (news_in self.now) (query_of_terms query.now) owed ≡ true }
+    {
+        self.is_tick() && self.when.moment < query.due && self.multicasts.are_apart(marks)
     }
 
     // Whether the event is a query of the same host that takes back what is owed: more was to follow the earlier query, and this one lists

@@ -1,14 +1,16 @@
 // The heard queries that are owed something.
 ghost use Rattle.std.specs.Prelude.{◌≡◌, ◌↔◌, ◌-◌, ◌≤◌, ◌++◌, [], map, length, filter, IsTrue, OnOk, if◌then◌else◌, vec_len, vec_capacity};
-ghost use Rattle.std.specs.List.{list_all};
+ghost use Rattle.std.specs.List.{All};
 ghost use Rattle.std.specs.Option.{option_to_list};
 ghost use Rattle.mdns_debts.specs.Following.{has_owed, leaves, left_by, next_reply};
 ghost use Rattle.mdns_claims.specs.Owned.{is_ours};
-ghost use Rattle.mdns_owing.specs.Owing.{followed_by, kept_ours, last_in, news_in, moments_of, MeetsDueAlone};
+ghost use Rattle.mdns_owing.specs.Satisfied.{IsOwed, AreTold};
+ghost use Rattle.mdns_owing.specs.Owing.{followed_by, kept_ours, last_in, news_in, moments_of, AreKept, MeetsDueAlone};
 
 use crate::first::first_due;
 use crate::news::News;
 use crate::query::Query;
+use crate::satisfied::Satisfied;
 use mdns_claims::Claims;
 use mdns_reply::Lasts;
 use mdns_timer::Deadlines;
@@ -26,14 +28,14 @@ pub struct Owing {
 }
 
 impl Model for Owing {
-    ghost use Rattle.std.specs.Prelude.{◌≡◌, ◌-◌, min, vec_len, vec_capacity};
-    ghost use Rattle.mdns_owing.specs.Owing.{State, moments_of};
+    ghost use Rattle.std.specs.Prelude.{◌-◌, min, vec_len, vec_capacity};
+    ghost use Rattle.mdns_owing.specs.Owing.{State, AreKept};
 
     ghost Value = { State };
 
     ghost view = { λ o. record { queries = o.queries.items; spare = min (vec_capacity o.queries - vec_len o.queries) o.deadlines.spare } };
 
-    ghost invariant = { λ o. o.deadlines.moments ≡ moments_of o.queries.items };
+    ghost invariant = { λ o. AreKept o.queries.items o.deadlines.moments };
 }
 
 impl Owing {
@@ -81,9 +83,9 @@ impl Owing {
         requires room { length (option_to_list come) ≤ self.old.spare }
         ensures { self.new.queries ≡ followed_by (news_in news.now) (option_to_list come) self.old.queries }
     {
-        follow_all(&mut self.queries, &self.deadlines, news);
+        let satisfied = follow_all(&mut self.queries, &self.deadlines, news);
+        drop_satisfied(&mut self.queries, &mut self.deadlines, satisfied);
         put(&mut self.queries, &mut self.deadlines, come);
-        drop_satisfied(&mut self.queries, &mut self.deadlines);
     }
 
     /// Drops what is no more the daemon's to send, by what it claims now, unless all is known to be. It takes no memory.
@@ -93,77 +95,91 @@ impl Owing {
         if all {
             return;
         }
-        keep_all_ours(&mut self.queries, claims);
-        drop_satisfied(&mut self.queries, &mut self.deadlines);
+        let satisfied = keep_all_ours(&mut self.queries, claims);
+        drop_satisfied(&mut self.queries, &mut self.deadlines, satisfied);
     }
 }
 
-// Puts the query that comes behind the others, if there is one and there is room.
+// Puts the query that comes behind the others, if there is one that is owed something, for which there is room.
 fn put(queries: &mut Vec<Query>, deadlines: &mut Deadlines, come: Option<Query>)
     requires room { length (option_to_list come) ≤ vec_capacity queries.old - vec_len queries.old }
     requires moments_room { length (option_to_list come) ≤ deadlines.old.spare }
-    requires timed { deadlines.old.moments ≡ moments_of queries.old.items }
-    ensures queries { queries.new.items ≡ queries.old.items ++ option_to_list come }
-    ensures timed { deadlines.new.moments ≡ moments_of queries.new.items }
+    requires kept { AreKept queries.old.items deadlines.old.moments }
+    ensures queries { queries.new.items ≡ queries.old.items ++ filter has_owed (option_to_list come) }
+    ensures kept { AreKept queries.new.items deadlines.new.moments }
 {
     if let Some(query) = come {
-        deadlines.push(query.due());
-        queries.push_reserved(query);
+        if query.has_owed() {
+            deadlines.push(query.due());
+            queries.push_reserved(query);
+        }
     }
 }
 
-// Drops what an event takes back or meets.
-fn follow_all(queries: &mut [Query], deadlines: &Deadlines, news: &News<'_>)
-    requires { deadlines.now.moments ≡ moments_of queries.old }
-    ensures { queries.new ≡ map (left_by (leaves (news_in news.now))) queries.old }
+// Drops what an event takes back or meets, and tells which queries are owed nothing then.
+fn follow_all(queries: &mut [Query], deadlines: &Deadlines, news: &News<'_>) -> Satisfied
+    requires { AreKept queries.old deadlines.now.moments }
+    ensures left { queries.new ≡ map (left_by (leaves (news_in news.now))) queries.old }
+    ensures satisfied { AreTold (length queries.new) result queries.new }
 {
     if news.meets_due_alone() {
         return follow_due(queries, deadlines, news);
     }
-    for query in queries.iter_mut() {
-        query.follow(news);
+    let mut satisfied = Satisfied::Nobody;
+    for place in 0..queries.len() {
+        satisfied = satisfied.with(place, queries[place].follow_or_pass(news));
     }
+    satisfied
 }
 
 // The same where the event meets nothing but what is due and goes to its asker.
-fn follow_due(queries: &mut [Query], deadlines: &Deadlines, news: &News<'_>)
-    requires timed { deadlines.now.moments ≡ moments_of queries.old }
+fn follow_due(queries: &mut [Query], deadlines: &Deadlines, news: &News<'_>) -> Satisfied
+    requires kept { AreKept queries.old deadlines.now.moments }
     requires alone { MeetsDueAlone (news_in news.now) }
-    ensures { queries.new ≡ map (left_by (leaves (news_in news.now))) queries.old }
+    ensures left { queries.new ≡ map (left_by (leaves (news_in news.now))) queries.old }
+    ensures satisfied { AreTold (length queries.new) result queries.new }
 {
     let now = news.when.moment;
+    let mut satisfied = Satisfied::Nobody;
     let mut from = 0;
     while let Some(place) = deadlines.next_due(from, now) {
-        queries[place].follow(news);
+        satisfied = satisfied.with(place, queries[place].follow(news));
         from = place + 1;
     }
+    satisfied
 }
 
-// Drops what is no more the daemon's to send.
-fn keep_all_ours(queries: &mut [Query], claims: &Claims)
-    ensures { queries.new ≡ map (left_by (λ query owed. is_ours claims.now.contents.kept owed.0)) queries.old }
+// Drops what is no more the daemon's to send, and tells which queries are owed nothing then.
+fn keep_all_ours(queries: &mut [Query], claims: &Claims) -> Satisfied
+    requires { All IsOwed queries.old }
+    ensures left { queries.new ≡ map (left_by (λ query owed. is_ours claims.now.contents.kept owed.0)) queries.old }
+    ensures satisfied { AreTold (length queries.new) result queries.new }
 {
-    for query in queries.iter_mut() {
-        query.keep_ours(claims);
+    let mut satisfied = Satisfied::Nobody;
+    for place in 0..queries.len() {
+        satisfied = satisfied.with(place, queries[place].keep_ours(claims));
     }
+    satisfied
 }
 
-// Drops the queries that are owed nothing.
-fn drop_satisfied(queries: &mut Vec<Query>, deadlines: &mut Deadlines)
-    requires { deadlines.old.moments ≡ moments_of queries.old.items }
+// Drops the queries that are owed nothing. Where it is told which one that is, no other is asked.
+fn drop_satisfied(queries: &mut Vec<Query>, deadlines: &mut Deadlines, satisfied: Satisfied)
+    requires timed { deadlines.old.moments ≡ moments_of queries.old.items }
+    requires satisfied { AreTold (length queries.old.items) satisfied queries.old.items }
     ensures queries { queries.new.items ≡ filter has_owed queries.old.items }
-    ensures timed { deadlines.new.moments ≡ moments_of queries.new.items }
+    ensures kept { AreKept queries.new.items deadlines.new.moments }
+    ensures room { vec_capacity queries.old - vec_len queries.old ≤ vec_capacity queries.new - vec_len queries.new }
+    ensures moments_room { deadlines.old.spare ≤ deadlines.new.spare }
 {
-    if are_owed(queries) {
-        return;
+    match satisfied {
+        Satisfied::Nobody => {}
+        Satisfied::One(place) => {
+            queries.remove(place);
+            deadlines.remove(place);
+        }
+        Satisfied::Many => {
+            queries.retain(|query| query.has_owed());
+            deadlines.tell_all(queries.as_slice());
+        }
     }
-    queries.retain(|query| query.has_owed());
-    deadlines.tell_all(queries.as_slice());
-}
-
-// Whether all queries are owed something.
-fn are_owed(queries: &[Query]) -> bool
-    ensures { result ≡ list_all has_owed queries.now }
-{
-    queries.iter().all(|query| query.has_owed())
 }

@@ -7,6 +7,7 @@ ghost use Rattle.mdns_debts.specs.Queries.{is_to_all, records_for};
 ghost use Rattle.mdns_debts.specs.Following.{has_owed, leaves, left_by, moment_of};
 ghost use Rattle.mdns_owing.specs.Owing.{last_in, news_in};
 
+use crate::marks::Marks;
 use crate::news::News;
 use crate::owed::Owed;
 use crate::terms::Terms;
@@ -25,10 +26,14 @@ pub struct Query {
     id: u16,
     questions: Questions,
     owed: Vec<Owed>,
+    // The marks of what it is owed, and maybe of what it was.
+    marks: Marks,
 }
 
 impl Model for Query {
+    ghost use Rattle.std.specs.List.{All};
     ghost use Rattle.mdns_debts.specs.Queries.{Query};
+    ghost use Rattle.mdns_owing.specs.Marks.{HasMark};
 
     ghost Value = { Query };
 
@@ -41,6 +46,8 @@ impl Model for Query {
       due = q.terms.due;
       owed = q.owed.items;
     } };
+
+    ghost invariant = { λ q. All (λ owed. HasMark q.marks.bits owed.0) q.owed.items };
 }
 
 impl Query {
@@ -48,11 +55,13 @@ impl Query {
     pub fn new(terms: Terms, id: u16, questions: Questions, owed: Vec<Owed>) -> Query
         ensures { result ≡ record { from = terms.from; id = id; questions = questions; truncated = terms.truncated; probing = terms.probing; due = terms.due; owed = owed.items } }
     {
+        let marks = Marks::of_owed(&owed);
         Query {
             terms,
             id,
             questions,
             owed,
+            marks,
         }
     }
 
@@ -112,19 +121,34 @@ impl Query {
         !self.owed.is_empty()
     }
 
-    /// Drops what an event takes back or meets. It takes no memory.
-    pub fn follow(&mut self, news: &News<'_>)
-        ensures { self.new ≡ left_by (leaves (news_in news.now)) self.old }
+    /// Drops what an event takes back or meets, and tells whether it is owed something still. It takes no memory.
+    pub fn follow(&mut self, news: &News<'_>) -> bool
+        ensures left { self.new ≡ left_by (leaves (news_in news.now)) self.old }
+        ensures owed { result ≡ has_owed self.new }
     {
         let terms = self.terms;
         self.owed.retain(|owed| news.leaves(&terms, owed));
+        !self.owed.is_empty()
     }
 
-    /// Drops what is no more the daemon's to send. It takes no memory.
-    pub fn keep_ours(&mut self, claims: &Claims)
-        ensures { self.new ≡ left_by (λ query owed. is_ours claims.now.contents.kept owed.0) self.old }
+    /// The same, but nothing that is owed is looked at where the event passes over the query.
+    pub fn follow_or_pass(&mut self, news: &News<'_>) -> bool
+        ensures left { self.new ≡ left_by (leaves (news_in news.now)) self.old }
+        ensures owed { result ≡ has_owed self.new }
+    {
+        if news.passes_over(&self.terms, self.marks) {
+            return !self.owed.is_empty();
+        }
+        self.follow(news)
+    }
+
+    /// Drops what is no more the daemon's to send, and tells whether it is owed something still. It takes no memory.
+    pub fn keep_ours(&mut self, claims: &Claims) -> bool
+        ensures left { self.new ≡ left_by (λ query owed. is_ours claims.now.contents.kept owed.0) self.old }
+        ensures owed { result ≡ has_owed self.new }
     {
         self.owed.retain(|owed| claims.is_ours(&owed.rr));
+        !self.owed.is_empty()
     }
 
     /// The first moment, in ms, from which on some of what it is owed may be sent: what goes to all has to wait behind the record's last

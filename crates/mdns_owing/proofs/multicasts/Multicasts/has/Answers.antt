@@ -9,7 +9,7 @@ use Rattle.mdns_owing.proofs.multicasts.Multicasts.has.Goals as goal
 pub returns : goal.returns
 returns c =
     c.has.ensures
-    ∙ ap (list_any (same c.args.rr.now)) c.self.invariant
+    ∙ ap (list_any (same c.args.rr.now)) c.self.invariant.sorted
     ∙ any_ordered c.args.rr.now (filter (λ rr. nat_lt 0 rr.ttl) c.self.inside.all)
     ∙ any_filter (same c.args.rr.now) (λ rr. nat_lt 0 rr.ttl) c.self.inside.all
     ∙ ap (is_multicast c.args.rr.now) c.self.view_is

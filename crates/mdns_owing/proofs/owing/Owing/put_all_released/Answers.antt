@@ -9,7 +9,7 @@ pub loop-place-preserved : goal.loop-place-preserved
 loop-place-preserved c =
     let queries : List Query = c.args.self.now.queries in
     let moments : List ℕ = c.self.inside.deadlines.moments in
-    let timed : moments ≡ moments_of queries = c.self.invariant ∙ ap (λ (s : State). moments_of s.queries) c.self.view_is in
+    let timed : moments ≡ moments_of queries = c.self.invariant.timed ∙ ap (λ (s : State). moments_of s.queries) c.self.view_is in
     let len : length moments ≡ length queries = length_timed queries moments timed in
     let there : c.in-Some.place < length queries = omega (arith, len, c.in-Some.ensures.within) in
     let found = c.in-Some.ensures.some in
@@ -27,7 +27,7 @@ pub returns : goal.returns
 returns c =
     let queries : List Query = c.args.self.now.queries in
     let moments : List ℕ = c.self.inside.deadlines.moments in
-    let timed : moments ≡ moments_of queries = c.self.invariant ∙ ap (λ (s : State). moments_of s.queries) c.self.view_is in
+    let timed : moments ≡ moments_of queries = c.self.invariant.timed ∙ ap (λ (s : State). moments_of s.queries) c.self.view_is in
     let len : length moments ≡ length queries = length_timed queries moments timed in
     flat_all (released_of (last_in c.args.lasts.now.lasts) c.args.now queries) queries c.loop-place.from c.args.released.now.items c.loop-place.released.items c.loop-place.invariant.within
     (released_undue (last_in c.args.lasts.now.lasts) c.args.now queries moments c.loop-place.from (length queries) timed (omega arith)

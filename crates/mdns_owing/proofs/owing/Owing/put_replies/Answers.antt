@@ -9,7 +9,7 @@ pub loop-place-preserved : goal.loop-place-preserved
 loop-place-preserved c =
     let queries : List Query = c.args.self.now.queries in
     let moments : List ℕ = c.self.inside.deadlines.moments in
-    let timed : moments ≡ moments_of queries = c.self.invariant ∙ ap (λ (s : State). moments_of s.queries) c.self.view_is in
+    let timed : moments ≡ moments_of queries = c.self.invariant.timed ∙ ap (λ (s : State). moments_of s.queries) c.self.view_is in
     let len : length moments ≡ length queries = length_timed queries moments timed in
     let there : c.in-Some.place < length queries = omega (arith, len, c.in-Some.ensures.within) in
     let found = c.in-Some.ensures.some in
@@ -26,7 +26,7 @@ pub returns : goal.returns
 returns c =
     let queries : List Query = c.args.self.now.queries in
     let moments : List ℕ = c.self.inside.deadlines.moments in
-    let timed : moments ≡ moments_of queries = c.self.invariant ∙ ap (λ (s : State). moments_of s.queries) c.self.view_is in
+    let timed : moments ≡ moments_of queries = c.self.invariant.timed ∙ ap (λ (s : State). moments_of s.queries) c.self.view_is in
     let len : length moments ≡ length queries = length_timed queries moments timed in
     flat_all (replies_at c.args.now) queries c.loop-place.from c.args.sent.now c.loop-place.sent c.loop-place.invariant.within
     (replies_undue c.args.now queries moments c.loop-place.from (length queries) timed (omega arith) (subst (NoneDue moments c.args.now c.loop-place.from) len c.in_default.ensures.none))
