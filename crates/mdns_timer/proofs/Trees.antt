@@ -1,7 +1,8 @@
 -- The tree of least moments, told anew from a place up, and from the last node down.
 use Rattle.std.proofs.Common.{◌≡◌, ◌≢◌, ℕ, zero, suc, ◌+◌, ◌-◌, ◌*◌, ◌/◌, ◌<◌, ◌≤◌, ◌^◌, nat_lt, min, cond, Bool, true, false, ⊎_elim, inl, inr, ◌⊎◌, List, [], ◌∷◌, ◌++◌, length, get_or, set, refl, sym, ap, subst, ◌∙◌, arith}
 use Rattle.std.proofs.lemmas.Bool.{cases_eq, ltb-false}
-use Rattle.std.proofs.lemmas.List.{get_or-set_same, get_or-set_other, length-set}
+use Rattle.std.proofs.lemmas.List.{get_or-set_same, get_or-set_other, length-set, places}
+use Rattle.std.specs.List.{remove}
 use Rattle.mdns_timer.specs.Tree.{moment_at, least_at, IsOn, HasLeast, IsTree, IsTreeBut}
 use Rattle.mdns_timer.proofs.Paths.{on_itself, on_up, on_step, none_above, half_even, half_odd}
 
@@ -120,3 +121,10 @@ others_stand (m ∷ moments) v (suc k) apart = others_stand moments v k (λ e. a
 
 pub tree_pushed : (moments nodes : List ℕ) (v : ℕ) → IsTree moments nodes → IsTreeBut (length moments) (moments ++ v ∷ []) nodes
 tree_pushed moments nodes v tree = tree_differs moments (moments ++ v ∷ []) nodes (length moments) (others_stand moments v) tree
+
+-- a list without its last moment
+pub tree_popped : (moments nodes : List ℕ) (place : ℕ) → place + 1 ≡ length moments → IsTree moments nodes → IsTreeBut place (remove moments place) nodes
+tree_popped moments nodes place last tree = tree_differs moments (remove moments place) nodes place same tree
+  where
+    same : (k : ℕ) → k ≢ place → moment_at (remove moments place) k ≡ moment_at moments k
+    same k apart = grind (arith, places)

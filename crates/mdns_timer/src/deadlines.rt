@@ -104,7 +104,12 @@ impl Deadlines {
         ensures spare { self.old.spare + 1 ≤ self.new.spare }
     {
         self.moments.remove(place);
-        build(&mut self.nodes, &self.moments);
+        if place == self.moments.len() {
+            // Nothing moved down.
+            mend(&mut self.nodes, &self.moments, place);
+        } else {
+            build(&mut self.nodes, &self.moments);
+        }
     }
 
     /// Puts another moment in place of the one at a place.
