@@ -8,7 +8,7 @@ use Rattle.std.specs.Map.{keys_of, values_of, lookup}
 use Rattle.std.proofs.lemmas.Bool.{and_from, and_left, and_right, false≢true, eqb-true, eq-eqb, ne_eqb, cases_eq}
 use Rattle.std.proofs.lemmas.List.Elements.{filter-append}
 use Rattle.std.proofs.lemmas.List.Sorted.{IsPermutation-refl, IsPermutation-trans, IsPermutation-cons, IsPermutation-middle, IsPermutation-append_right}
-use Rattle.dns_name.specs.Lists.{count_up}
+use Rattle.lists.specs.Lists.{count_up}
 use Rattle.by_name.specs.At.{At, at, at_eq}
 use Rattle.by_name.specs.Filed.{found, above, numbered, in_layers, AreFiled}
 use Rattle.by_name.proofs.Finding.{at_same}

@@ -12,7 +12,7 @@ use Rattle.std.proofs.lemmas.Bool.{false_from_ne_true, false≢true}
 use Rattle.std.proofs.lemmas.List.Concat.{flat_map-append}
 use Rattle.std.proofs.lemmas.List.Sorted.{IsPermutation-refl, IsPermutation-sym, IsPermutation-trans, IsPermutation-append_left, IsPermutation-append_right, IsPermutation-append_comm, IsPermutation-swap_remove, All-permutation}
 use Rattle.std.proofs.lemmas.List.Elements.{All-from_recursion, recursion_from_All}
-use Rattle.mdns_base.proofs.Permutations.{along_permutation}
+use Rattle.lists.proofs.Permutations.{along_permutation}
 use Rattle.indexmap.specs.Layout.{set_value_at}
 use Rattle.by_name.specs.At.{At, at, at_eq}
 use Rattle.by_name.specs.Filed.{found, above, HaveNoGap, IsFoundAt, IsWithout, AllOwned, AreFiled}

@@ -2,8 +2,9 @@
 use crate::error::RowError;
 use crate::spelled::{bytes_of, number, shown, told, word};
 use bytes::Bytes;
-use mdns_base::{Dest, Host, MemSource, Sink, put_hex};
+use mdns_base::{Dest, Host, MemSource, Sink};
 use mdns_outside::*;
+use number_text::put_hex;
 use std::alloc::{AllocError, Global};
 
 /// The host that sends packets, and to which they go.

@@ -1,7 +1,7 @@
 // How rows spell bytes, and how bytes are shown.
 use crate::error::RowError;
 use dns_name::{Label, Name};
-use mdns_base::{put_hex, read_hex};
+use number_text::{put_hex, read_hex};
 use std::alloc::{AllocError, Global};
 use std::num::ParseIntError;
 use std::str::FromStr;

@@ -76,10 +76,10 @@ fn push_pairs(
 
 fn pair(alloc: Global, key: &str, value: Option<&str>) -> Result<Pair, RowError> {
     let value = match value {
-        Some(value) => Some(Octets::from_slice(alloc, &bytes_of(alloc, value)?)?),
+        Some(value) => Some(Octets::from_vec(bytes_of(alloc, value)?)),
         None => None,
     };
-    let key = Octets::from_slice(alloc, &bytes_of(alloc, key)?)?;
+    let key = Octets::from_vec(bytes_of(alloc, key)?);
     Ok(Pair { key, value })
 }
 

@@ -1,7 +1,7 @@
 -- How records and questions are put into messages. (RFC 6762 6.7, 7.1, 7.2, 17 and 18, RFC 6763 12)
 use Rattle.std.specs.Prelude.{ℕ, nat_lt, nat_le, min, Bool, true, false, List, [], ◌∷◌, ◌++◌, map, length, filter, zip, if◌then◌else◌}
 use Rattle.std.specs.List.{list_any, flat_map}
-use Rattle.dns_name.specs.Lists.{ordered, without}
+use Rattle.lists.specs.Lists.{ordered, without}
 use Rattle.dns_record.specs.declared.record.Rr.{Rr}
 use Rattle.dns_record.specs.declared.record.Question.{Question}
 use Rattle.dns_record.specs.declared.record.Key.{Key}

@@ -7,7 +7,6 @@ mod data;
 mod draft;
 mod fields;
 mod law;
-mod lists;
 mod message;
 mod names;
 mod reading;
@@ -17,7 +16,6 @@ mod written_names;
 
 pub use draft::Draft;
 pub use law::{one_message_is_spelled, what_is_written_is_read_again};
-pub use lists::{Questions, Rrs};
-pub use message::{Message, MessageError, WriteError};
+pub use message::{Message, MessageError, Questions, Rrs, WriteError};
 pub use reading::read;
 pub use writing::write;

@@ -3,8 +3,15 @@ ghost use Rattle.std.specs.Prelude.{◌≡◌};
 ghost use Rattle.dns_message.specs.declared.message.MessageError.TheVariants as message_error;
 ghost use Rattle.dns_message.specs.declared.message.WriteError.TheVariants as write_error;
 
-use crate::{Questions, Rrs};
+use dns_record::{Question, Rr};
+use lists::List;
 use std::alloc::AllocError;
+
+/// A list of questions.
+pub type Questions = List<Question>;
+
+/// A list of records.
+pub type Rrs = List<Rr>;
 
 /// A message, with the questions and records of class IN that it was read with. (RFC 1035 4.1)
 #[derive(Drop)]

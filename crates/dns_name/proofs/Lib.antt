@@ -4,10 +4,7 @@ pub mod WrittenText
 pub mod Spelling
 pub mod Spelled
 pub mod ReadItems
-pub mod Places
 pub mod Endings
 pub mod ReadBack
 pub mod FoldedBytes
 pub mod Spellings
-pub mod InOrder
-pub mod Least

@@ -8,9 +8,9 @@ use Rattle.std.proofs.lemmas.Bool.{and_parts, cases_eq, ne_eqb, false≢true, lt
 use Rattle.std.proofs.lemmas.List.{take-append-drop}
 use Rattle.std.proofs.lemmas.Option.{option_and_then_some}
 use Rattle.std.proofs.lemmas.Slice.Eq.{bytes_eq-Decides}
-use Rattle.mdns_base.specs.Digits.{IsReadFrom, decimal_below}
-use Rattle.mdns_base.proofs.Joined.{lacks}
-use Rattle.mdns_base.proofs.Decimals.{decimal_below_written, decimal_below_exact, decimal_lacks}
+use Rattle.number_text.specs.Digits.{IsReadFrom, decimal_below}
+use Rattle.number_text.proofs.Joined.{lacks}
+use Rattle.number_text.proofs.Decimals.{decimal_below_written, decimal_below_exact, decimal_lacks}
 use Rattle.dns_record.specs.RecordText.{kind_name, kind_text}
 use Rattle.dns_record.specs.ReadRecord.{named_kinds, is_name_of, numbered_kind, kind_read}
 

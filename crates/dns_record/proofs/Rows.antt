@@ -1,7 +1,7 @@
 -- Worked rows on records and their text.
 use Rattle.std.proofs.Common.{◌≡◌, [], ◌∷◌, refl, codes, true}
 use Rattle.std.specs.Fmt.{digits}
-use Rattle.mdns_base.specs.Digits.{four_text, ipv4_text}
+use Rattle.number_text.specs.Digits.{four_text, ipv4_text}
 use Rattle.dns_record.specs.declared.record.Rdata.TheVariants.{A}
 use Rattle.dns_record.specs.RecordText.{kind_name, kind_text, data_text, record_text}
 

@@ -4,8 +4,8 @@ use Rattle.std.specs.List.{position_or_len, before_first, after_first}
 use Rattle.std.specs.Option.{MatchOption, option_map}
 use Rattle.std.proofs.lemmas.Bool.{false≢true, eq-eqb, eqb-true}
 use Rattle.std.proofs.lemmas.List.Sums.{fails_before_first, passes_at_first}
-use Rattle.mdns_base.specs.Cut.{cut_of}
-use Rattle.mdns_base.proofs.Cuts.{cut_of-here, cut_of-nowhere}
+use Rattle.number_text.specs.Cut.{cut_of}
+use Rattle.number_text.proofs.Cuts.{cut_of-here, cut_of-nowhere}
 
 -- what stands round the first space
 pub word_cut : (text : List ℕ) (r : Option (Bor (List ℕ) × Bor (List ℕ)))

@@ -6,9 +6,9 @@ use Rattle.std.specs.Option.{option_map}
 use Rattle.std.specs.Result.{result_ok}
 use Rattle.std.proofs.lemmas.Bool.{ne_eqb, eqb-true, false≢true, leb-false, and_parts, not-true}
 use Rattle.std.proofs.lemmas.List.Folds.{list_any-append}
-use Rattle.mdns_base.specs.Digits.{decimal_below, hex_of, hex_text, ipv4_of, ipv4_text, ipv6_of, ipv6_text}
-use Rattle.mdns_base.proofs.Joined.{lacks, cut_of-joined}
-use Rattle.mdns_base.proofs.Decimals.{decimal_below_written, decimal_lacks}
+use Rattle.number_text.specs.Digits.{decimal_below, hex_of, hex_text, ipv4_of, ipv4_text, ipv6_of, ipv6_text}
+use Rattle.number_text.proofs.Joined.{lacks, cut_of-joined}
+use Rattle.number_text.proofs.Decimals.{decimal_below_written, decimal_lacks}
 use Rattle.dns_name.specs.ReadName.{read_name}
 use Rattle.dns_name.specs.NameText.{three_digits, byte_text, label_text, name_text}
 use Rattle.dns_record.specs.Records.{kind_of, is_rdata, is_typed, has_raw_form}

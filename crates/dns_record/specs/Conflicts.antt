@@ -4,7 +4,7 @@ use Rattle.std.specs.List.{list_any}
 use Rattle.std.specs.Ordering.{nat_cmp, ordering_then, is_lt}
 use Rattle.std.specs.Cmp.Lexicographic.{slice_cmp}
 use Rattle.std.specs.declared.cmp.Ordering.{Ordering}
-use Rattle.dns_name.specs.Lists.{each_once, sorted_by}
+use Rattle.lists.specs.Lists.{each_once, sorted_by}
 use Rattle.dns_name.specs.Names.{folded_eq}
 use Rattle.dns_record.specs.declared.record.Rr.{Rr}
 use Rattle.dns_record.specs.Records.{same, kind_of, data_of}

@@ -5,8 +5,8 @@ use Rattle.std.specs.List.{find, list_any}
 use Rattle.std.specs.Option.{option_map, option_map_or, option_or}
 use Rattle.std.specs.Result.{result_ok}
 use Rattle.std.specs.Str.{bytes_eq}
-use Rattle.mdns_base.specs.Cut.{cut_of}
-use Rattle.mdns_base.specs.Digits.{◌>>=◌, decimal_below, hex_of, ipv4_of, ipv6_of}
+use Rattle.number_text.specs.Cut.{cut_of}
+use Rattle.number_text.specs.Digits.{◌>>=◌, decimal_below, hex_of, ipv4_of, ipv6_of}
 use Rattle.dns_name.specs.ReadName.{read_name}
 use Rattle.dns_record.specs.Records.{is_rdata}
 use Rattle.dns_record.specs.RecordText.{kind_name}

@@ -1,7 +1,7 @@
 -- Types, data and records as text. (RFC 1035 5.1)
 use Rattle.std.specs.Prelude.{ℕ, ◌==◌, Bool, true, false, List, [], ◌∷◌, ◌++◌, Option, Some, None, decimal, codes, if◌then◌else◌}
 use Rattle.std.specs.Option.{unwrap_or}
-use Rattle.mdns_base.specs.Digits.{hex_text, ipv4_text, ipv6_text}
+use Rattle.number_text.specs.Digits.{hex_text, ipv4_text, ipv6_text}
 use Rattle.dns_name.specs.NameText.{name_text}
 use Rattle.dns_record.specs.Records.{kind_of}
 use Rattle.dns_record.specs.declared.record.Rdata.{Rdata}

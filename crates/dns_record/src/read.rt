@@ -2,8 +2,8 @@
 ghost use Rattle.std.specs.Prelude.{◌≡◌, ◌^◌, ◌==◌, Some, None, decimal, IfOk, IfSome, IsTrue, MatchResult};
 ghost use Rattle.std.specs.List.{find, list_any};
 ghost use Rattle.std.specs.Option.{option_map};
-ghost use Rattle.mdns_base.specs.Cut.{cut_of};
-ghost use Rattle.mdns_base.specs.Digits.{IsReadFrom, hex_of};
+ghost use Rattle.number_text.specs.Cut.{cut_of};
+ghost use Rattle.number_text.specs.Digits.{IsReadFrom, hex_of};
 ghost use Rattle.dns_record.specs.RecordText.{kind_text};
 ghost use Rattle.dns_record.specs.ReadRecord.{named_kinds, is_name_of, numbered_kind, kind_read, name_read, srv_read, nsec_read, raw_read, rdata_read, flush_read, head_read, record_read};
 ghost use Rattle.dns_record.specs.Records.{is_rdata};
@@ -12,7 +12,7 @@ use crate::write::kind_name;
 use crate::{Rdata, RecordError, Rr};
 use bytes::Bytes;
 use dns_name::Name;
-use mdns_base::{is_same, read_decimal_u16, read_decimal_u32, read_hex, read_ipv4, read_ipv6};
+use number_text::{is_same, read_decimal_u16, read_decimal_u32, read_hex, read_ipv4, read_ipv6};
 use std::alloc::{AllocError, Global};
 
 /// The type that the text names: by its name, or by `TYPE` and its number where it has none. `None` exactly where it is

@@ -9,7 +9,7 @@ ghost use Rattle.dns_record.specs.ReadRecord.{name_read, kind_read, srv_read, rd
 use crate::{Rdata, Rr};
 use bytes::Bytes;
 use dns_name::Name;
-use mdns_base::{put_decimal, put_hex, put_ipv4, put_ipv6};
+use number_text::{put_decimal, put_hex, put_ipv4, put_ipv6};
 use std::alloc::{AllocError, Global};
 
 impl Rr {

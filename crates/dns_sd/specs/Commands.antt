@@ -4,7 +4,7 @@ use Rattle.std.specs.List.{list_all}
 use Rattle.std.specs.Str.{bytes_eq}
 use Rattle.std.specs.Global.{Global}
 use Rattle.std.specs.String.{string_bytes}
-use Rattle.mdns_base.specs.Digits.{◌>>=◌, decimal_below}
+use Rattle.number_text.specs.Digits.{◌>>=◌, decimal_below}
 use Rattle.dns_record.specs.ReadRecord.{kind_read}
 use Rattle.txt_record.specs.Strings.{txt_data}
 use Rattle.sd_call.specs.declared.request.Request.{Request}

@@ -9,7 +9,7 @@ ghost use Rattle.dns_sd.specs.Commands.{texts, is_domain, is_domain_end, browse_
 use crate::words::next_word;
 use bytes::Bytes;
 use dns_record::read_kind;
-use mdns_base::read_decimal_u16;
+use number_text::read_decimal_u16;
 use sd_call::Request;
 use sd_client::{
     ClientError, address_request, browse_request, query_request, register_request, resolve_request,

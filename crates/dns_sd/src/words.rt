@@ -2,7 +2,7 @@
 ghost use Rattle.std.specs.Prelude.{◌≡◌, ◌<◌, ◌∷◌, [], Some, None, IfSome, MatchOption};
 ghost use Rattle.dns_sd.specs.Commands.{texts, first_word, socket_words, count_word, given_count, count_words};
 
-use mdns_base::read_decimal_u32;
+use number_text::read_decimal_u32;
 
 /// The socket where none is given: in the folder where the program runs.
 const SOCKET: &str = "mdnsd.sock";

@@ -3,7 +3,7 @@ use crate::request::{families_word, is_domain, is_string};
 use crate::words::{count, next_word, socket};
 use bytes::Bytes;
 use dns_record::read_kind;
-use mdns_base::read_decimal_u16;
+use number_text::read_decimal_u16;
 use sd_client::{
     ClientError, address_request, browse_request, query_request, register_request, resolve_request,
 };

@@ -1,7 +1,7 @@
 -- The goodbyes of an event are of the groups that end with their operations.
 use Rattle.std.proofs.Common.{◌≡◌, ℕ, ◌==◌, Bool, true, false, ◌&&◌, ◌||◌, List, [], ◌∷◌, map, refl, ap, sym, ◌∙◌, Option, Some, None}
 use Rattle.std.specs.List.{flat_map}
-use Rattle.dns_name.specs.Lists.{ordered, without}
+use Rattle.lists.specs.Lists.{ordered, without}
 use Rattle.dns_record.specs.declared.record.Rr.{Rr}
 use Rattle.dns_record.specs.Records.{same, record_cmp}
 use Rattle.dns_message.specs.Packing.{pack_plain}

@@ -1,7 +1,7 @@
 -- What a daemon announces and takes back, told of the groups that it keeps. (RFC 6762 8.3, 8.4 and 10.1)
 use Rattle.std.specs.Prelude.{ℕ, ◌&&◌, List, [], ◌++◌, map, filter}
 use Rattle.std.specs.List.{flat_map}
-use Rattle.dns_name.specs.Lists.{ordered, without}
+use Rattle.lists.specs.Lists.{ordered, without}
 use Rattle.dns_record.specs.declared.record.Rr.{Rr}
 use Rattle.dns_record.specs.Records.{same, record_cmp}
 use Rattle.dns_message.specs.Packing.{pack_plain}

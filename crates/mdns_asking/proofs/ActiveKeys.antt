@@ -4,7 +4,7 @@ use Rattle.std.specs.Prelude.{nat_lt}
 use Rattle.std.specs.List.{list_any, flat_map, find}
 use Rattle.std.specs.Option.{option_map, option_and_then, option_or, is_some}
 use Rattle.std.proofs.lemmas.List.Folds.{list_any-append}
-use Rattle.dns_name.specs.Lists.{count_where, ordered}
+use Rattle.lists.specs.Lists.{count_where, ordered}
 use Rattle.dns_record.specs.declared.record.Key.{Key}
 use Rattle.dns_record.specs.Records.{key_eq, key_cmp}
 use Rattle.mdns_history.specs.declared.event.Event.{Event}

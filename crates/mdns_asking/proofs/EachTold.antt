@@ -2,7 +2,7 @@
 use Rattle.std.proofs.Common.{◌≡◌, ℕ, ◌-◌, Bool, true, false, cond, List, [], ◌∷◌, map, refl}
 use Rattle.std.specs.List.{list_any, AllByRecursion}
 use Rattle.std.specs.Ordering.{is_lt}
-use Rattle.dns_name.specs.Lists.{insert_by}
+use Rattle.lists.specs.Lists.{insert_by}
 use Rattle.dns_record.specs.declared.record.Key.{Key}
 use Rattle.mdns_history.specs.declared.mark.Cause.{Cause}
 use Rattle.mdns_cache.proofs.ListLemmas.{each-filter, each-map}

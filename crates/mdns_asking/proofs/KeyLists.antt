@@ -10,8 +10,8 @@ use Rattle.std.proofs.lemmas.Cmp.{on_total, then_total, nat_cmp_total, nat_list_
 use Rattle.std.proofs.lemmas.Map.Text.{is_eq-slice_cmp}
 use Rattle.std.proofs.lemmas.Bool.{and_from, and_parts, or_parts, cond-true, cond-false}
 use Rattle.dns_name.specs.Names.{wire_of, folded, folded_eq, name_cmp}
-use Rattle.dns_name.specs.Lists.{insert_by, each_once, sorted_by, ordered}
-use Rattle.dns_name.proofs.InOrder.{any-sorted, none-filter}
+use Rattle.lists.specs.Lists.{insert_by, each_once, sorted_by, ordered}
+use Rattle.lists.proofs.InOrder.{any-sorted, none-filter}
 use Rattle.dns_record.specs.declared.record.Key.{Key}
 use Rattle.dns_record.specs.Records.{key_eq, key_cmp}
 

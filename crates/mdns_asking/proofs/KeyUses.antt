@@ -5,7 +5,7 @@ use Rattle.std.specs.List.{flat_map}
 use Rattle.std.specs.Option.{is_some, option_or, unwrap_or}
 use Rattle.std.specs.Ordering.{is_lt, int_eq}
 use Rattle.std.proofs.lemmas.List.Concat.{flat_map-append}
-use Rattle.dns_name.specs.Lists.{insert_by, count_where, count_up}
+use Rattle.lists.specs.Lists.{insert_by, count_where, count_up}
 use Rattle.dns_record.specs.declared.record.Key.{Key}
 use Rattle.dns_record.specs.Records.{key_eq}
 use Rattle.sd_call.specs.declared.request.Request.{Request}

@@ -9,7 +9,7 @@ use Rattle.std.proofs.lemmas.List.Elements.{Contains-append_left, Contains-push,
 use Rattle.std.proofs.lemmas.List.Folds.{list_any_more}
 use Rattle.mdns_base.specs.Hosts.{mdns_port}
 use Rattle.dns_name.specs.Names.{folded_eq}
-use Rattle.dns_name.specs.Lists.{least_of}
+use Rattle.lists.specs.Lists.{least_of}
 use Rattle.dns_name.proofs.Folding.{folded_eq-equivalence}
 use Rattle.dns_record.specs.declared.record.Question.{Question}
 use Rattle.dns_record.specs.Records.{key_eq}

@@ -4,7 +4,7 @@ use Rattle.std.specs.Prelude.{filter, nat_lt}
 use Rattle.std.specs.List.{list_any, list_all, flat_map, filter_map, cons_option}
 use Rattle.std.specs.Option.{option_map, option_to_list}
 use Rattle.std.proofs.lemmas.List.Folds.{list_all-append, list_all-map}
-use Rattle.dns_name.specs.Lists.{least, least_of}
+use Rattle.lists.specs.Lists.{least, least_of}
 use Rattle.dns_record.specs.declared.record.Key.{Key}
 use Rattle.mdns_history.specs.declared.mark.Cause.{Cause}
 use Rattle.mdns_history.specs.declared.mark.Cause.TheVariants as cause
@@ -16,7 +16,7 @@ use Rattle.mdns_question.specs.declared.tracked.Tracked.{Tracked}
 use Rattle.mdns_question.specs.Tracking.{active_of, is_refreshed, due_cause, due_with, due_at}
 use Rattle.mdns_question.specs.Next.{is_wanted, is_open, open_in, next_of}
 use Rattle.mdns_question.proofs.Refreshes.{refreshed_by}
-use Rattle.dns_name.proofs.Least.{least_of-min, least_of-append}
+use Rattle.lists.proofs.Least.{least_of-min, least_of-append}
 use Rattle.mdns_asking.specs.State.{asker_of}
 
 -- What is below a number and below each of several is below the least of them.

@@ -1,6 +1,6 @@
 // The questions that have users.
 ghost use Rattle.std.specs.Prelude.{◌≡◌, ◌||◌, ℕ, ◌≤◌, List, [], map, length, true, IfOk, OnOk};
-ghost use Rattle.dns_name.specs.Lists.{least};
+ghost use Rattle.lists.specs.Lists.{least};
 ghost use Rattle.mdns_history.specs.declared.held.Held.{Held};
 ghost use Rattle.mdns_cache.specs.Lifetimes.{AllLive};
 ghost use Rattle.mdns_cache.specs.Ended.{is_among};

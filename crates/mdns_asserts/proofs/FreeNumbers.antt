@@ -10,10 +10,10 @@ use Rattle.std.proofs.lemmas.Fmt.{decimal_injective}
 use Rattle.std.proofs.lemmas.List.{append_cancel_right, map-append}
 use Rattle.std.proofs.lemmas.List.Folds.{list_any-append}
 use Rattle.std.proofs.lemmas.Map.Made.{length-le_from_is_member}
-use Rattle.mdns_base.proofs.Joined.{lacks}
-use Rattle.mdns_base.proofs.Decimals.{decimal_lacks}
+use Rattle.number_text.proofs.Joined.{lacks}
+use Rattle.number_text.proofs.Decimals.{decimal_lacks}
 use Rattle.mdns_history.proofs.TokenTexts.{decimal_digits}
-use Rattle.dns_name.specs.Lists.{count_up}
+use Rattle.lists.specs.Lists.{count_up}
 use Rattle.dns_name.specs.Names.{folded, folded_eq}
 use Rattle.dns_name.proofs.Folding.{folded_eq-tells, folded_eq-equivalence}
 use Rattle.sd_name.specs.Renaming.{cut_to, with_suffix, renamed, host_renamed}

@@ -5,7 +5,7 @@ use Rattle.std.specs.List.{list_any, flat_map, filter_map, cons_option}
 use Rattle.std.specs.Option.{option_and_then}
 use Rattle.mdns_base.specs.Hosts.{mdns_port}
 use Rattle.dns_name.specs.Names.{folded_eq}
-use Rattle.dns_name.specs.Lists.{ordered, each_once, without}
+use Rattle.lists.specs.Lists.{ordered, each_once, without}
 use Rattle.dns_record.specs.declared.record.Rr.{Rr}
 use Rattle.dns_record.specs.declared.record.Key.{Key}
 use Rattle.dns_record.specs.Records.{any_kind, same, record_cmp}

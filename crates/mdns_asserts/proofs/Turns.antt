@@ -3,7 +3,7 @@ use Rattle.std.proofs.Common.{◌≡◌, ℕ, zero, suc, ◌+◌, ◌^◌, ◌�
 use Rattle.std.specs.Prelude.{filter, nat_lt, if◌then◌else◌}
 use Rattle.std.specs.List.{cons_option, find}
 use Rattle.std.specs.Option.{unwrap_or, option_map_or}
-use Rattle.dns_name.specs.Lists.{count_up}
+use Rattle.lists.specs.Lists.{count_up}
 use Rattle.mdns_base.specs.Hosts.{mdns_port}
 use Rattle.dns_name.specs.Names.{folded_eq}
 use Rattle.dns_record.specs.Conflicts.{clashes, loses_tie}

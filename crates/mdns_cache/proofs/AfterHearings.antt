@@ -6,7 +6,7 @@ use Rattle.std.specs.Map.{values_of}
 use Rattle.mdns_cache.specs.Named.{Entry}
 use Rattle.by_name.specs.Filed.{in_layers}
 use Rattle.by_name.proofs.Layers.{in_layers-permutes}
-use Rattle.mdns_base.proofs.Permutations.{IsPermutation-filter}
+use Rattle.lists.proofs.Permutations.{IsPermutation-filter}
 use Rattle.dns_record.specs.declared.record.Rr.{Rr}
 use Rattle.mdns_history.specs.declared.held.Held.{Held}
 use Rattle.mdns_history.specs.Hearings.{Hearing}

@@ -7,7 +7,7 @@ use Rattle.std.proofs.lemmas.Bool.{ltb-true, eqb-true, false≢true}
 use Rattle.std.proofs.lemmas.List.Elements.{All-from_recursion, recursion_from_All}
 use Rattle.std.proofs.lemmas.List.Sorted.{All-permutation, IsPermutation-sym, IsPermutation-trans, IsPermutation-cons}
 use Rattle.std.proofs.lemmas.Option.{get_or_from_slice_get}
-use Rattle.dns_name.specs.Lists.{least_of}
+use Rattle.lists.specs.Lists.{least_of}
 use Rattle.dns_record.specs.Records.{record_cmp}
 use Rattle.mdns_history.specs.declared.held.Held.{Held}
 use Rattle.mdns_cache.specs.Lifetimes.{AllLive, IsFirstEnded, ending_cmp, next_end_of}

@@ -13,7 +13,7 @@ use Rattle.mdns_history.specs.Hearings.{Hearing}
 use Rattle.mdns_history.specs.Lifetimes.{live_of, is_live_at, is_other, cuts, held_from, renewals}
 use Rattle.mdns_history.proofs.LifetimeSteps.{live_of-later, live_of-renewal, live_of-goodbye}
 use Rattle.mdns_cache.specs.Lifetimes.{Holds, Stands, AllLive, AllHeard, hearing_at, hearings_at, renewed, shortened, after_hearing, after_hearings}
-use Rattle.mdns_base.proofs.Permutations.{IsPermutation-filter}
+use Rattle.lists.proofs.Permutations.{IsPermutation-filter}
 use Rattle.mdns_cache.proofs.ListLemmas.{filter_all, filter_less, each-append, each-filter, each-passes, each-map, each-weaker}
 
 same_itself : (rr : Rr) → same rr rr ≡ true

@@ -4,7 +4,7 @@ use Rattle.std.specs.List.{list_any, AllByRecursion, IsDistinct}
 use Rattle.std.proofs.lemmas.Bool.{false≢true, false_from_ne_true}
 use Rattle.std.proofs.lemmas.List.Elements.{filter_agree}
 use Rattle.std.proofs.lemmas.List.Sums.{length-filter}
-use Rattle.dns_name.specs.Lists.{least_of}
+use Rattle.lists.specs.Lists.{least_of}
 use Rattle.dns_record.specs.declared.record.Rr.{Rr}
 use Rattle.dns_record.specs.Records.{same}
 use Rattle.dns_record.proofs.Same.{same_tells}

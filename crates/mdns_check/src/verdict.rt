@@ -3,8 +3,8 @@ ghost use Rattle.std.specs.Prelude.{◌≡◌, ◌≤◌, ◌++◌, ◌∷◌, [
 ghost use Rattle.mdns_check.specs.Verdicts.{IsVerdict, status_of, line_of, numbered};
 
 use crate::stop::{BAD_LINE, ILLEGAL, LEGAL};
-use mdns_base::put_decimal;
 use mdns_transcript::{TranscriptError, read_transcript};
+use number_text::put_decimal;
 use plain_check::check;
 use std::alloc::{AllocError, Global};
 

@@ -4,7 +4,7 @@ use Rattle.std.specs.List.{flat_map, cons_option}
 use Rattle.std.specs.Option.{option_to_list}
 use Rattle.std.proofs.lemmas.List.{take_more, map-append}
 use Rattle.std.proofs.lemmas.List.Concat.{flat_map-append}
-use Rattle.dns_name.specs.Lists.{least}
+use Rattle.lists.specs.Lists.{least}
 use Rattle.mdns_probe.specs.Kept.{Kept}
 use Rattle.mdns_claimants.specs.declared.renewal.Renewal.{Renewal}
 use Rattle.mdns_claimants.specs.Named.{with_renewal, with_renewals, IsNamed, AreNamed}

@@ -2,8 +2,8 @@
 use Rattle.std.proofs.Common.{◌≡◌, ℕ, ◌<◌, ◌≤◌, Bool, true, false, cond, min, List, [], ◌∷◌, ◌++◌, length, map, Option, Some, None, refl, ap, sym, ◌∙◌, arith}
 use Rattle.std.specs.Prelude.{nat_lt}
 use Rattle.std.specs.List.{flat_map}
-use Rattle.dns_name.specs.Lists.{least, least_of}
-use Rattle.dns_name.proofs.Least.{least_of-min}
+use Rattle.lists.specs.Lists.{least, least_of}
+use Rattle.lists.proofs.Least.{least_of-min}
 use Rattle.mdns_probe.specs.Kept.{Kept}
 use Rattle.mdns_claimants.specs.Due.{kept_moment, last_moment, moment_of, never, next_in}
 

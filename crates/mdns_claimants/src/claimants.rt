@@ -1,7 +1,7 @@
 // The live groups, and when something is due of each.
 ghost use Rattle.std.specs.Prelude.{IfNone, IfSome, OnOk, [], length, map, ◌++◌, ◌+◌, ◌<◌, ◌^◌, ◌∷◌, ◌≡◌, ◌≤◌};
 ghost use Rattle.std.specs.List.{flat_map, remove};
-ghost use Rattle.dns_name.specs.Lists.{least};
+ghost use Rattle.lists.specs.Lists.{least};
 ghost use Rattle.mdns_timer.specs.Parts.{IsFirstDue, NoneDue};
 ghost use Rattle.mdns_claimants.specs.Due.{moment_of, next_in, ticked_at};
 ghost use Rattle.mdns_claimants.specs.Named.{AreNamed, with_renewals};

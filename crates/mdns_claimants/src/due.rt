@@ -1,7 +1,7 @@
 // Groups with the moments that are kept of them: what is done to both.
 ghost use Rattle.std.specs.Prelude.{length, map, ◌<◌, ◌^◌, ◌≡◌, ◌≤◌};
 ghost use Rattle.std.specs.List.{flat_map};
-ghost use Rattle.dns_name.specs.Lists.{least};
+ghost use Rattle.lists.specs.Lists.{least};
 ghost use Rattle.mdns_claimants.specs.Due.{IsChangedAt, moment_of, next_in, ticked_at};
 ghost use Rattle.mdns_claimants.specs.Named.{AreNamed, IsNamedAt, with_renewal, with_renewals};
 

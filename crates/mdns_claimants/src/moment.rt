@@ -1,7 +1,7 @@
 // The moment at which something is next due of a group.
 ghost use Rattle.std.specs.Prelude.{List, ℕ, ◌++◌, ◌≡◌};
 ghost use Rattle.std.specs.List.{flat_map};
-ghost use Rattle.dns_name.specs.Lists.{least};
+ghost use Rattle.lists.specs.Lists.{least};
 ghost use Rattle.mdns_claimants.specs.Due.{moment_of, next_in};
 
 use crate::claimant::Claimant;

@@ -4,7 +4,7 @@ use Rattle.std.specs.Prelude.{replicate}
 use Rattle.std.specs.List.{list_any}
 use Rattle.std.specs.Option.{option_map, option_map_or, unwrap_or, is_some}
 use Rattle.std.proofs.lemmas.Bool.{ne_eqb, eq-eqb}
-use Rattle.dns_name.specs.Lists.{count_where}
+use Rattle.lists.specs.Lists.{count_where}
 use Rattle.dns_record.specs.declared.record.Rr.{Rr}
 use Rattle.dns_record.specs.Conflicts.{is_stormy}
 use Rattle.mdns_history.specs.declared.config.Config.{Config}

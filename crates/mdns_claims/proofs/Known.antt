@@ -7,7 +7,7 @@ use Rattle.std.proofs.lemmas.Bool.{and_parts, leb-true}
 use Rattle.std.proofs.lemmas.List.Folds.{list_all-append}
 use Rattle.dns_name.specs.Names.{folded_eq}
 use Rattle.dns_name.proofs.Folding.{folded_eq-equivalence}
-use Rattle.dns_name.proofs.InOrder.{all-ordered}
+use Rattle.lists.proofs.InOrder.{all-ordered}
 use Rattle.dns_record.specs.declared.record.Rdata.TheVariants.{A, Aaaa, Ptr}
 use Rattle.dns_record.specs.declared.record.Rr.{Rr}
 use Rattle.dns_record.specs.Records.{same, data_eq, record_cmp}

@@ -2,7 +2,7 @@
 ghost use Rattle.std.specs.Prelude.{IfOk, IsTrue, OnOk, [], filter, is_some, nat_le, true, ℕ, ◌++◌, ◌<◌, ◌^◌, ◌∷◌, ◌≡◌, ◌≤◌};
 ghost use Rattle.std.specs.List.{flat_map};
 ghost use Rattle.std.specs.Option.{option_map, option_to_list};
-ghost use Rattle.dns_name.specs.Lists.{least};
+ghost use Rattle.lists.specs.Lists.{least};
 ghost use Rattle.dns_name.specs.Names.{folded_eq};
 ghost use Rattle.mdns_asked.specs.Asked.{IsPut};
 ghost use Rattle.mdns_claims.specs.Behind.{contents_told, host_kept, host_named, kept_told, occasion_of, probes_told, storm_told};

@@ -3,7 +3,7 @@ use Rattle.std.proofs.Common.{◌≡◌, ℕ, zero, suc, ◌+◌, ◌≤◌, Boo
 use Rattle.std.specs.List.{find}
 use Rattle.std.specs.Option.{unwrap_or}
 use Rattle.std.proofs.lemmas.Bool.{le-leb}
-use Rattle.dns_name.specs.Lists.{count_up}
+use Rattle.lists.specs.Lists.{count_up}
 use Rattle.mdns_history.specs.Groups.{Group, numbered_name, is_taken, free_number}
 use Rattle.mdns_history.specs.Claims.{greatest_number}
 

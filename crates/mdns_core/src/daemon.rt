@@ -12,7 +12,7 @@ ghost use Rattle.mdns_step.specs.InForce.{in_force};
 ghost use Rattle.mdns_step.specs.Touched.{touched};
 ghost use Rattle.mdns_history.specs.Fitting.{Fits, FitsAt, boot_entry, is_boot, is_host_label};
 ghost use Rattle.mdns_history.specs.Due.{NextDue};
-ghost use Rattle.dns_name.specs.Lists.{least};
+ghost use Rattle.lists.specs.Lists.{least};
 ghost use Rattle.sd_sessions.specs.Codes.{has_number};
 
 use crate::parts::{Done, Parts};

@@ -15,6 +15,7 @@ ghost use Rattle.sd_sessions.specs.Kept.{IsWellFormedCall};
 use crate::outcomes::{boot, take, tick};
 use crate::plan::Kept;
 use dns_message::{Message, MessageError, Rrs, read};
+use dns_record::put_copies;
 use mdns_base::Host;
 use mdns_claims::Claims;
 use mdns_happened::{Happened, Heard, Idle, Refusal, When};
@@ -176,10 +177,10 @@ fn is_ignored(from: &Host, message: &Message) -> bool
 fn records_of(alloc: Global, message: &Message) -> Result<Rrs, AllocError>
     ensures { IfOk result (λ rrs. rrs ≡ (if message.now.response then message.now.answers ++ message.now.additional else [])) }
 {
-    let mut records = Rrs::new(alloc);
+    let mut records = Vec::new(alloc);
     if message.response {
-        records.push_copies(message.answers.as_slice())?;
-        records.push_copies(message.additional.as_slice())?;
+        put_copies(&mut records, message.answers.as_slice())?;
+        put_copies(&mut records, message.additional.as_slice())?;
     }
-    Ok(records)
+    Ok(Rrs::from_vec(records))
 }

@@ -3,8 +3,8 @@ use Rattle.std.proofs.Common.{◌≡◌, ℕ, ◌+◌, Bool, true, false, cond, 
 use Rattle.std.specs.Prelude.{filter, nat_lt}
 use Rattle.std.specs.List.{list_any, list_all, flat_map}
 use Rattle.dns_name.specs.Names.{folded_eq}
-use Rattle.dns_name.specs.Lists.{each_once}
-use Rattle.dns_name.proofs.InOrder.{any-filter}
+use Rattle.lists.specs.Lists.{each_once}
+use Rattle.lists.proofs.InOrder.{any-filter}
 use Rattle.dns_record.specs.declared.record.Rr.{Rr}
 use Rattle.dns_record.specs.declared.record.Question.{Question}
 use Rattle.dns_record.specs.Records.{same, matches}

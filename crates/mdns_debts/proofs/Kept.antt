@@ -4,7 +4,7 @@ use Rattle.std.specs.Prelude.{filter, nat_lt, nat_le}
 use Rattle.std.specs.List.{list_any, list_all, flat_map}
 use Rattle.mdns_base.specs.declared.host.Dest.TheVariants.{All, One}
 use Rattle.mdns_base.specs.Hosts.{mdns_port}
-use Rattle.dns_name.specs.Lists.{ordered, each_once}
+use Rattle.lists.specs.Lists.{ordered, each_once}
 use Rattle.dns_name.specs.Names.{folded_eq}
 use Rattle.dns_record.specs.declared.record.Rr.{Rr}
 use Rattle.dns_record.specs.declared.record.Question.{Question}

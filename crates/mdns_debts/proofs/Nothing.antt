@@ -3,7 +3,7 @@ use Rattle.std.proofs.Common.{◌≡◌, Bool, true, false, cond, ◌&&◌, List
 use Rattle.std.specs.Prelude.{filter, not}
 use Rattle.std.specs.List.{list_all, flat_map}
 use Rattle.std.specs.Ordering.{is_lt, is_eq}
-use Rattle.dns_name.specs.Lists.{each_once, insert_by, sorted_by, ordered}
+use Rattle.lists.specs.Lists.{each_once, insert_by, sorted_by, ordered}
 use Rattle.dns_record.specs.declared.record.Rr.{Rr}
 use Rattle.dns_record.specs.Records.{record_cmp}
 use Rattle.dns_message.specs.Packing.{parts_from}

@@ -8,7 +8,7 @@ use Rattle.std.specs.declared.cmp.Ordering.{Ordering}
 use Rattle.std.specs.declared.cmp.Ordering.TheVariants.{Less, Equal, Greater}
 use Rattle.mdns_base.specs.declared.host.Dest.TheVariants.{All}
 use Rattle.mdns_base.specs.Hosts.{dest_eq}
-use Rattle.dns_name.specs.Lists.{ordered, sorted_by, insert_by, each_once, without}
+use Rattle.lists.specs.Lists.{ordered, sorted_by, insert_by, each_once, without}
 use Rattle.dns_record.specs.declared.record.Rr.{Rr}
 use Rattle.dns_record.specs.Records.{same, record_cmp}
 use Rattle.dns_record.proofs.Same.{same_tells, record_cmp_equal}

@@ -6,7 +6,7 @@ use Rattle.std.specs.Option.{option_and_then}
 use Rattle.mdns_base.specs.declared.host.Host.{Host}
 use Rattle.mdns_base.specs.declared.host.Dest.TheVariants.{All}
 use Rattle.mdns_base.specs.Hosts.{mdns_port, dest_eq}
-use Rattle.dns_name.specs.Lists.{ordered, sorted_by, insert_by, each_once}
+use Rattle.lists.specs.Lists.{ordered, sorted_by, insert_by, each_once}
 use Rattle.std.specs.Ordering.{is_eq, is_lt}
 use Rattle.dns_record.specs.declared.record.Rr.{Rr}
 use Rattle.dns_record.specs.Records.{record_cmp}

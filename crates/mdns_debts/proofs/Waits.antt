@@ -5,7 +5,7 @@ use Rattle.std.specs.List.{list_any, list_all, flat_map}
 use Rattle.std.specs.Option.{option_or, option_flatten}
 use Rattle.std.specs.Ordering.{is_eq, is_lt}
 use Rattle.mdns_base.specs.Hosts.{mdns_port}
-use Rattle.dns_name.specs.Lists.{ordered, sorted_by, insert_by, each_once}
+use Rattle.lists.specs.Lists.{ordered, sorted_by, insert_by, each_once}
 use Rattle.dns_name.proofs.Folding.{same_tests}
 use Rattle.dns_record.specs.declared.record.Rr.{Rr}
 use Rattle.dns_record.specs.Records.{same, record_cmp}

@@ -1,7 +1,7 @@
 -- Which records go to all, told of the queries that are owed something and of the last multicasts. (RFC 6762 6)
 use Rattle.std.specs.Prelude.{ℕ, ◌+◌, nat_le, max, Bool, ◌&&◌, ◌||◌, List, [], map, filter, Option, Some, None, if◌then◌else◌}
 use Rattle.std.specs.List.{list_any, flat_map}
-use Rattle.dns_name.specs.Lists.{ordered}
+use Rattle.lists.specs.Lists.{ordered}
 use Rattle.dns_record.specs.declared.record.Rr.{Rr}
 use Rattle.dns_record.specs.Records.{same, record_cmp}
 use Rattle.mdns_history.specs.Debts.{is_long_ago}

@@ -1,6 +1,6 @@
 -- The commands of one kind that are still to come.
 use Rattle.std.proofs.Common.{◌≡◌, ℕ, suc, ◌+◌, ◌-◌, ◌<◌, List, ◌∷◌, ◌++◌, [], map, refl, sym, ap, ◌∙◌, append_assoc, arith}
-use Rattle.dns_name.specs.Lists.{count_up}
+use Rattle.lists.specs.Lists.{count_up}
 use Rattle.mdns_script.specs.declared.command.Command.{Command}
 
 -- the commands of the numbers from the first on, before the last

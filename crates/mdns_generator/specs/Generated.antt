@@ -1,6 +1,6 @@
 -- The script of a number: one daemon announces so many services, another finds them, and then they end.
 use Rattle.std.specs.Prelude.{ℕ, ◌+◌, ◌-◌, ◌/◌, ◌%◌, List, [], ◌∷◌, ◌++◌, map, codes, decimal, Some, None, false}
-use Rattle.dns_name.specs.Lists.{count_up}
+use Rattle.lists.specs.Lists.{count_up}
 use Rattle.sd_call.specs.declared.request.Request.TheVariants.{Register, Browse}
 use Rattle.mdns_history.specs.declared.event.Event.TheVariants.{Call, Detach}
 use Rattle.mdns_script.specs.declared.command.Command.{Command}

@@ -1,6 +1,6 @@
 // The commands of a generated script, in order.
 ghost use Rattle.std.specs.Prelude.{◌≡◌, ◌≤◌, ◌+◌, ◌++◌, map, IfOk, OnOk};
-ghost use Rattle.dns_name.specs.Lists.{count_up};
+ghost use Rattle.lists.specs.Lists.{count_up};
 ghost use Rattle.mdns_generator.specs.Generated.{starting, command_of, generated};
 
 use crate::requests::{Kind, booting, command};

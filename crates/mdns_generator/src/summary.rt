@@ -4,8 +4,8 @@ ghost use Rattle.mdns_generator.specs.Summaries.{line_text, summary_text, IsSumm
 
 use crate::commands::commands;
 use crate::play::play;
-use mdns_base::put_decimal;
 use mdns_hub::Tally;
+use number_text::put_decimal;
 use std::alloc::{AllocError, Global};
 
 /// Plays the script of a number, from 1 to 200, and gives its summary: the lines `gen N`, `named A`, `found F` and `lost L`, which say how

@@ -4,7 +4,7 @@ use Rattle.std.specs.Prelude.{filter}
 use Rattle.std.specs.List.{find}
 use Rattle.std.specs.Option.{option_map, option_map_or, option_and_then}
 use Rattle.std.specs.Ordering.{is_lt}
-use Rattle.dns_name.specs.Lists.{insert_by}
+use Rattle.lists.specs.Lists.{insert_by}
 use Rattle.sd_call.specs.declared.request.Request.{Request}
 use Rattle.sd_call.specs.declared.request.Request.TheVariants as request
 use Rattle.sd_call.specs.Requests.{is_start, is_register, with_txt}

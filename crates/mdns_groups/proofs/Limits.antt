@@ -3,7 +3,7 @@ use Rattle.std.proofs.Common.{◌≡◌, ℕ, zero, suc, ◌+◌, ◌<◌, ◌�
 use Rattle.std.specs.Prelude.{filter, nat_le}
 use Rattle.std.specs.Option.{option_or, unwrap_or, is_some}
 use Rattle.std.specs.Ordering.{is_lt}
-use Rattle.dns_name.specs.Lists.{insert_by, count_up}
+use Rattle.lists.specs.Lists.{insert_by, count_up}
 use Rattle.sd_call.specs.declared.request.Request.{Request}
 use Rattle.sd_call.specs.declared.request.Request.TheVariants as request
 use Rattle.sd_call.specs.Requests.{is_start}

@@ -1,7 +1,7 @@
 -- One name that opens all definitions, for worked rows and for laws that hold by computation.
 use Rattle.std.proofs.Common.{ℕ}
 use Rattle.hex.specs.Hex.{encode_with}
-use Rattle.mdns_base.specs.Digits.{four_text, ipv4_text, hex_text, ipv6_half_text, ipv6_text}
+use Rattle.number_text.specs.Digits.{four_text, ipv4_text, hex_text, ipv6_half_text, ipv6_text}
 use Rattle.dns_name.specs.Names.{folded_eq, exact_eq, name_cmp, is_under}
 use Rattle.dns_record.specs.Records.{data_eq, same, rdata_cmp, record_cmp, matches, key_eq, key_cmp, is_rdata}
 use Rattle.dns_record.specs.RecordText.{kind_name, kind_text, data_text, record_text}

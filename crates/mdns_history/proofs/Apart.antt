@@ -4,8 +4,8 @@ use Rattle.std.proofs.lemmas.Bool.{or_from, or_parts}
 use Rattle.std.specs.Prelude.{filter}
 use Rattle.std.specs.List.{list_any, find}
 use Rattle.std.specs.Ordering.{int_eq, is_lt}
-use Rattle.dns_name.specs.Lists.{insert_by}
-use Rattle.dns_name.proofs.InOrder.{any-insert, none-filter}
+use Rattle.lists.specs.Lists.{insert_by}
+use Rattle.lists.proofs.InOrder.{any-insert, none-filter}
 use Rattle.sd_call.specs.declared.request.Request.{Request}
 use Rattle.sd_call.specs.declared.request.Request.TheVariants as request
 use Rattle.sd_call.specs.Requests.{no_error, is_start}

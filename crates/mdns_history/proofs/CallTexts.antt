@@ -6,8 +6,8 @@ use Rattle.std.specs.Fmt.{signed_decimal}
 use Rattle.std.specs.Str.{bytes_eq}
 use Rattle.std.proofs.lemmas.Bool.{eqb-true, and_parts}
 use Rattle.std.proofs.lemmas.Slice.Eq.{bytes_eq-Decides}
-use Rattle.mdns_base.specs.Digits.{hex_text, decimal_below}
-use Rattle.mdns_base.proofs.Decimals.{decimal_below_written}
+use Rattle.number_text.specs.Digits.{hex_text, decimal_below}
+use Rattle.number_text.proofs.Decimals.{decimal_below_written}
 use Rattle.dns_name.specs.NameText.{name_text}
 use Rattle.dns_record.specs.Records.{kind_of}
 use Rattle.dns_record.specs.RecordText.{space, kind_name, kind_text, srv_text, data_text}

@@ -2,7 +2,7 @@
 use Rattle.std.proofs.Common.{◌≡◌, ℕ, true, List, ◌∷◌, ◌++◌, Option, Some, None, refl, ap, sym, ◌∙◌, arith, codes, append_assoc, drop}
 use Rattle.std.proofs.lemmas.Bool.{and_parts}
 use Rattle.std.specs.Prelude.{decimal}
-use Rattle.mdns_base.specs.Digits.{hex_text, ipv4_text, ipv6_text}
+use Rattle.number_text.specs.Digits.{hex_text, ipv4_text, ipv6_text}
 use Rattle.mdns_base.specs.declared.host.Host.{Host}
 use Rattle.mdns_base.specs.declared.host.Dest.{Dest}
 use Rattle.mdns_base.specs.declared.host.Dest.TheVariants.{All, One}

@@ -5,7 +5,7 @@ use Rattle.std.specs.List.{list_any, filter_map, find}
 use Rattle.std.specs.Option.{option_or, unwrap_or, is_some}
 use Rattle.std.specs.Ordering.{int_eq}
 use Rattle.std.specs.FinMap as fin
-use Rattle.dns_name.specs.Lists.{count_where}
+use Rattle.lists.specs.Lists.{count_where}
 use Rattle.sd_call.specs.declared.request.Request.{Request}
 use Rattle.sd_call.specs.Requests.{no_error, is_start}
 use Rattle.sd_call.specs.Replay.{replay, replay_from}

@@ -3,7 +3,7 @@ use Rattle.std.proofs.Common.{◌≡◌, ℕ, ◌+◌, ◌≤◌, min, Bool, tru
 use Rattle.std.proofs.Math.Bool.{and-false}
 use Rattle.std.specs.Prelude.{filter, nat_lt}
 use Rattle.std.specs.Option.{unwrap_or}
-use Rattle.dns_name.specs.Lists.{least_of}
+use Rattle.lists.specs.Lists.{least_of}
 use Rattle.dns_record.specs.declared.record.Rr.{Rr}
 use Rattle.mdns_history.specs.Hearings.{Hearing}
 use Rattle.mdns_history.specs.Lifetimes.{renews, takes_back, flushes, cuts, full_end, end_from, after_renewal, last_renewal}

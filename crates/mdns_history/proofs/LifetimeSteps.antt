@@ -4,7 +4,7 @@ use Rattle.std.proofs.Math.Bool.{and-false}
 use Rattle.std.proofs.lemmas.Bool.{not-true}
 use Rattle.std.specs.Prelude.{filter, nat_lt}
 use Rattle.std.specs.Option.{option_map}
-use Rattle.dns_name.specs.Lists.{least_of, each_once}
+use Rattle.lists.specs.Lists.{least_of, each_once}
 use Rattle.dns_record.specs.declared.record.Rr.{Rr}
 use Rattle.dns_record.specs.Records.{same}
 use Rattle.mdns_history.specs.declared.entry.Entry.{Entry}

@@ -5,10 +5,10 @@ use Rattle.std.specs.Prelude.{decimal}
 use Rattle.std.specs.Option.{unwrap_or}
 use Rattle.std.specs.List.{list_all}
 use Rattle.std.specs.Result.{result_ok}
-use Rattle.mdns_base.specs.Digits.{hex_text, ipv4_text, ipv6_text}
-use Rattle.mdns_base.proofs.HexText.{hex_written}
-use Rattle.mdns_base.proofs.Ipv4Text.{ipv4_written}
-use Rattle.mdns_base.proofs.Ipv6Text.{ipv6_written}
+use Rattle.number_text.specs.Digits.{hex_text, ipv4_text, ipv6_text}
+use Rattle.number_text.proofs.HexText.{hex_written}
+use Rattle.number_text.proofs.Ipv4Text.{ipv4_written}
+use Rattle.number_text.proofs.Ipv6Text.{ipv6_written}
 use Rattle.dns_name.specs.Names.{is_name}
 use Rattle.dns_name.specs.NameText.{name_text}
 use Rattle.dns_name.proofs.ReadBack.{read_name-name_text}

@@ -7,8 +7,8 @@ use Rattle.std.specs.Ordering.{nat_cmp, int_eq}
 use Rattle.std.specs.Cmp.{nat_cmp_total, Equal-is, unsigned_tied, nat_eq_equiv}
 use Rattle.std.specs.FinMap as fin
 use Rattle.std.specs.FinSet as set
-use Rattle.dns_name.specs.Lists.{insert_by}
-use Rattle.dns_name.proofs.InOrder.{any-insert}
+use Rattle.lists.specs.Lists.{insert_by}
+use Rattle.lists.proofs.InOrder.{any-insert}
 use Rattle.sd_call.specs.declared.answer.Answer.{Answer}
 use Rattle.sd_call.specs.declared.request.Request.{Request}
 use Rattle.sd_call.specs.declared.request.Request.TheVariants as request

@@ -3,9 +3,9 @@ use Rattle.std.proofs.Common.{◌≡◌, ℕ, Bool, true, false, cond, not, ◌&
 use Rattle.std.specs.Prelude.{decimal}
 use Rattle.std.specs.List.{list_all, flat_map}
 use Rattle.std.proofs.lemmas.Bool.{eqb-true, and_parts}
-use Rattle.mdns_base.specs.Cut.{cut_of}
-use Rattle.mdns_base.specs.Digits.{ipv4_text, ipv4_of, four_of}
-use Rattle.mdns_base.proofs.Ipv4Text.{ipv4_written}
+use Rattle.number_text.specs.Cut.{cut_of}
+use Rattle.number_text.specs.Digits.{ipv4_text, ipv4_of, four_of}
+use Rattle.number_text.proofs.Ipv4Text.{ipv4_written}
 use Rattle.mdns_base.specs.declared.host.Host.{Host}
 use Rattle.mdns_base.specs.declared.host.Dest.{Dest}
 use Rattle.mdns_base.specs.declared.host.Dest.TheVariants.{All, One}

@@ -12,11 +12,11 @@ use Rattle.std.proofs.lemmas.Bool.Decides.{nat_tests}
 use Rattle.std.proofs.lemmas.Fmt.{digits_decimal, signed_decimal_injective}
 use Rattle.std.proofs.lemmas.Str.Parse.{IsNumeralModel, numerals_by_fold}
 use Rattle.hex.specs.Hex.{IsBytes, encode_with, encode_lower, lower_digits}
-use Rattle.mdns_base.specs.Digits.{decimal_below, hex_of, hex_text, ipv4_of, ipv4_text, ipv6_of, ipv6_text, ipv6_half_text, four_text, group_text}
-use Rattle.mdns_base.proofs.Decimals.{decimal_below_written}
-use Rattle.mdns_base.proofs.HexText.{hex_written}
-use Rattle.mdns_base.proofs.Ipv4Text.{ipv4_written}
-use Rattle.mdns_base.proofs.Ipv6Text.{ipv6_written}
+use Rattle.number_text.specs.Digits.{decimal_below, hex_of, hex_text, ipv4_of, ipv4_text, ipv6_of, ipv6_text, ipv6_half_text, four_text, group_text}
+use Rattle.number_text.proofs.Decimals.{decimal_below_written}
+use Rattle.number_text.proofs.HexText.{hex_written}
+use Rattle.number_text.proofs.Ipv4Text.{ipv4_written}
+use Rattle.number_text.proofs.Ipv6Text.{ipv6_written}
 use Rattle.dns_name.specs.Names.{is_name}
 use Rattle.dns_name.specs.NameText.{three_digits, byte_text, label_text, name_text}
 use Rattle.dns_name.specs.TextItems.{items_of}

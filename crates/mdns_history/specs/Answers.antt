@@ -2,7 +2,7 @@
 use Rattle.std.specs.Prelude.{ℕ, ◌==◌, ◌&&◌, Bool, true, false, List, [], ◌∷◌, ◌++◌, map, filter, Option, Some, None, if◌then◌else◌}
 use Rattle.std.specs.List.{list_any, flat_map, filter_map, find}
 use Rattle.std.specs.Option.{option_map_or}
-use Rattle.dns_name.specs.Lists.{ordered}
+use Rattle.lists.specs.Lists.{ordered}
 use Rattle.dns_record.specs.declared.record.Rdata.{Rdata}
 use Rattle.dns_record.specs.declared.record.Rdata.TheVariants.{Ptr, Srv, Txt}
 use Rattle.dns_record.specs.declared.record.Rr.{Rr}

@@ -6,7 +6,7 @@ use Rattle.mdns_base.specs.declared.host.Host.{Host}
 use Rattle.mdns_base.specs.declared.host.Dest.{Dest}
 use Rattle.mdns_base.specs.declared.host.Dest.TheVariants.{All, One}
 use Rattle.mdns_base.specs.Hosts.{mdns_port, host_eq, dest_eq}
-use Rattle.dns_name.specs.Lists.{each_once, count_up}
+use Rattle.lists.specs.Lists.{each_once, count_up}
 use Rattle.dns_name.specs.Names.{folded_eq}
 use Rattle.dns_record.specs.declared.record.Rdata.TheVariants.{Nsec}
 use Rattle.dns_record.specs.declared.record.Rr.{Rr}

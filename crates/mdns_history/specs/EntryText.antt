@@ -2,7 +2,7 @@
 use Rattle.std.specs.Prelude.{ℕ, Bool, true, false, List, [], ◌∷◌, ◌++◌, length, decimal, codes, Option, Some, None}
 use Rattle.std.specs.List.{flat_map}
 use Rattle.std.specs.Fmt.{signed_decimal}
-use Rattle.mdns_base.specs.Digits.{hex_text, ipv4_text, ipv6_text}
+use Rattle.number_text.specs.Digits.{hex_text, ipv4_text, ipv6_text}
 use Rattle.mdns_base.specs.declared.host.Host.{Host}
 use Rattle.mdns_base.specs.declared.host.Dest.{Dest}
 use Rattle.mdns_base.specs.declared.host.Dest.TheVariants.{All, One}

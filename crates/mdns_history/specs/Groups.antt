@@ -2,7 +2,7 @@
 use Rattle.std.specs.Prelude.{ℕ, ◌+◌, ◌==◌, Bool, true, false, not, ◌||◌, List, [], ◌∷◌, ◌++◌, map, length, filter, slice_get, Option, Some, None, if◌then◌else◌}
 use Rattle.std.specs.List.{filter_map, find, list_any, flat_map}
 use Rattle.std.specs.Option.{option_map, option_and_then, unwrap_or, option_to_list, option_or, is_some}
-use Rattle.dns_name.specs.Lists.{ordered, count_where, count_up}
+use Rattle.lists.specs.Lists.{ordered, count_where, count_up}
 use Rattle.dns_name.specs.Names.{folded_eq}
 use Rattle.dns_record.specs.declared.record.Rdata.{Rdata}
 use Rattle.dns_record.specs.declared.record.Rdata.TheVariants.{A, Aaaa, Ptr, Srv, Txt}

@@ -5,7 +5,7 @@ use Rattle.std.specs.Option.{option_and_then}
 use Rattle.mdns_base.specs.declared.host.Host.{Host}
 use Rattle.mdns_base.specs.declared.host.Dest.TheVariants.{All, One}
 use Rattle.mdns_base.specs.Hosts.{mdns_port}
-use Rattle.dns_name.specs.Lists.{ordered, without, each_once}
+use Rattle.lists.specs.Lists.{ordered, without, each_once}
 use Rattle.dns_name.specs.Names.{folded_eq}
 use Rattle.dns_record.specs.declared.record.Rdata.{Rdata}
 use Rattle.dns_record.specs.declared.record.Rdata.TheVariants.{Ptr, Srv}

@@ -4,7 +4,7 @@ use Rattle.std.specs.List.{list_any, flat_map, find}
 use Rattle.std.specs.Option.{option_map, option_map_or, unwrap_or, is_some}
 use Rattle.std.specs.Ordering.{int_eq, nat_cmp}
 use Rattle.std.specs.declared.cmp.Ordering.{Ordering}
-use Rattle.dns_name.specs.Lists.{insert_by, count_where, count_up}
+use Rattle.lists.specs.Lists.{insert_by, count_where, count_up}
 use Rattle.sd_call.specs.declared.request.Request.{Request}
 use Rattle.sd_call.specs.declared.request.Request.TheVariants as request
 use Rattle.sd_call.specs.Requests.{no_error, with_txt}

@@ -1,6 +1,7 @@
 // An event and all that it did.
-use crate::{Event, Gifts, Items, Marks, Sends};
+use crate::{Event, Marks};
 use dns_message::Message;
+use lists::List;
 use mdns_base::Dest;
 use sd_call::Item;
 
@@ -11,12 +12,21 @@ pub struct Sent {
     pub message: Message,
 }
 
+/// Messages that an entry sends, in their order.
+pub type Sends = List<Sent>;
+
 /// An item that an entry gives to a session.
 #[derive(Drop)]
 pub struct Given {
     pub session: u64,
     pub item: Item,
 }
+
+/// Items that an entry gives, with their sessions.
+pub type Gifts = List<Given>;
+
+/// A list of items.
+pub type Items = List<Item>;
 
 /// How an event went.
 #[derive(Drop)]

@@ -1,5 +1,6 @@
 // What an entry notes beside what it sends and gives.
 use dns_record::Key;
+use lists::List;
 
 /// Why a question counts as asked.
 #[derive(Clone, Copy, Debug, PartialEq, Eq)]
@@ -34,3 +35,6 @@ pub enum Mark {
     /// A session's queue passed its limit: it is given nothing more.
     Cut { session: u64 },
 }
+
+/// The marks of an entry, in their order.
+pub type Marks = List<Mark>;

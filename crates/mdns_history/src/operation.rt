@@ -1,6 +1,7 @@
 // Operations of sessions.
 ghost use Rattle.std.specs.Prelude.{◌≡◌, IfOk};
 
+use lists::List;
 use sd_call::Request;
 use std::alloc::{AllocError, Global};
 
@@ -11,6 +12,9 @@ pub struct Operation {
     pub op: u32,
     pub request: Request,
 }
+
+/// A list of operations.
+pub type Operations = List<Operation>;
 
 impl Operation {
     /// An equal operation. Refused only for want of memory.

@@ -8,7 +8,7 @@ use crate::print_sent::put_sends;
 use crate::{Cause, Entry, Given, Mark, Outcome};
 use bytes::Bytes;
 use dns_record::{Key, put_kind, put_name};
-use mdns_base::put_decimal;
+use number_text::put_decimal;
 use sd_call::{Item, put_code, put_item};
 use std::alloc::{AllocError, Global};
 

@@ -3,7 +3,8 @@ ghost use Rattle.std.specs.Prelude.{◌≡◌, ◌++◌, OnOk};
 ghost use Rattle.mdns_history.specs.EntryText.{event_text, host_text, v6_text, from_text};
 
 use crate::{Event, HostConfig};
-use mdns_base::{Host, put_decimal, put_hex, put_ipv4, put_ipv6};
+use mdns_base::Host;
+use number_text::{put_decimal, put_hex, put_ipv4, put_ipv6};
 use sd_call::{Request, put_label, put_request};
 use std::alloc::AllocError;
 

@@ -7,7 +7,8 @@ use crate::Sent;
 use crate::print_event::put_from;
 use dns_message::Message;
 use dns_record::{Question, Rr, put_kind, put_name, put_record};
-use mdns_base::{Dest, put_decimal};
+use mdns_base::Dest;
+use number_text::put_decimal;
 use std::alloc::AllocError;
 
 /// Puts the lines of the messages that an entry sends. Refused only for want of memory.

@@ -1,7 +1,7 @@
 -- Packets that reach one daemon after another.
 use Rattle.std.proofs.Common.{◌≡◌, ℕ, zero, suc, ◌+◌, ◌-◌, ◌<◌, Bool, true, false, cond, not, ◌&&◌, ◌==◌, List, [], ◌∷◌, length, get_or, drop, map, filter, Option, Some, None, refl, ap, sym, ◌∙◌, arith}
 use Rattle.std.specs.Option.{is_some, option_map, option_map_or}
-use Rattle.dns_name.specs.Lists.{count_up}
+use Rattle.lists.specs.Lists.{count_up}
 use Rattle.mdns_hub.specs.declared.delivery.Delivery.{Delivery}
 use Rattle.mdns_hub.specs.declared.delivery.Parted.{Parted}
 use Rattle.mdns_hub.specs.declared.link.Packet.{Packet}

@@ -1,7 +1,7 @@
 -- The order of packets under way.
 use Rattle.std.specs.Coded.{×_prop, Unit-prop, le_prop, Coded-set, coded_bool}
 use Rattle.std.specs.Prelude.{◌≡◌, ℕ, ◌≤◌, nat_le, ⊤, Bool, true, List, [], ◌∷◌, Option, Some, None}
-use Rattle.dns_name.specs.Lists.{count_where}
+use Rattle.lists.specs.Lists.{count_where}
 use Rattle.mdns_hub.specs.declared.delivery.Delivery.{Delivery}
 
 -- No packet is heard before a moment, nor before the one in front of it, and each is on its way to a daemon that is kept.

@@ -8,7 +8,7 @@ use Rattle.std.proofs.lemmas.List.{take_more, map-append}
 use Rattle.std.proofs.lemmas.List.Elements.{All-head, All-tail, filter-append, filter_passes}
 use Rattle.std.proofs.lemmas.List.Sorted.{IsPermutation-sym}
 use Rattle.std.proofs.lemmas.Bool.{and_from, and_parts, not-true, or_from, or_parts}
-use Rattle.dns_name.specs.Lists.{insert_by, sorted_by, each_once}
+use Rattle.lists.specs.Lists.{insert_by, sorted_by, each_once}
 use Rattle.dns_record.specs.declared.record.Rr.{Rr}
 use Rattle.dns_record.specs.declared.record.Key.{Key}
 use Rattle.dns_record.specs.Records.{matches, same, record_cmp}
@@ -20,8 +20,8 @@ use Rattle.mdns_history.specs.Lifetimes.{is_uncut, is_live_at, held_from, renewa
 use Rattle.mdns_history.specs.Asking.{is_half_fresh, listed, fits_alone, fresh_matches, known_answers}
 use Rattle.mdns_known.specs.Known.{is_listed, known_of, stand_once}
 use Rattle.mdns_known.specs.Laws.{IsOfLiveRecords, IsOrderFree}
-use Rattle.mdns_base.proofs.Permutations.{along_permutation}
-use Rattle.dns_name.proofs.InOrder.{none-filter, tied-turned, insert-swapped}
+use Rattle.lists.proofs.Permutations.{along_permutation}
+use Rattle.lists.proofs.InOrder.{none-filter, tied-turned, insert-swapped}
 use Rattle.mdns_pack.proofs.Found.{same-tied}
 
 -- ---- sameness and record order

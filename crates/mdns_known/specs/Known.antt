@@ -1,7 +1,7 @@
 -- The known answers of a question, over records that are held. (RFC 6762 7.1)
 use Rattle.std.specs.Prelude.{ℕ, Bool, true, not, ◌&&◌, List, [], ◌∷◌, map, filter}
 use Rattle.std.specs.List.{list_any, flat_map}
-use Rattle.dns_name.specs.Lists.{sorted_by, ordered}
+use Rattle.lists.specs.Lists.{sorted_by, ordered}
 use Rattle.dns_record.specs.declared.record.Rr.{Rr}
 use Rattle.dns_record.specs.declared.record.Key.{Key}
 use Rattle.dns_record.specs.Records.{matches, same, record_cmp}

@@ -11,7 +11,7 @@ use Rattle.std.proofs.lemmas.Bool.Decides.{nat_tests}
 use Rattle.std.proofs.lemmas.Str.{is_utf8-from_IsUtf8, IsUtf8-from_ascii}
 use Rattle.std.proofs.lemmas.Str.Ascii.{IsAscii-nil, IsAscii-cons}
 use Rattle.hex.specs.Hex.{encode_with, encode_lower, lower_digits}
-use Rattle.mdns_base.specs.Digits.{hex_text, ipv4_text, ipv6_text, ipv6_half_text, four_text, group_text}
+use Rattle.number_text.specs.Digits.{hex_text, ipv4_text, ipv6_text, ipv6_half_text, four_text, group_text}
 use Rattle.dns_name.specs.Names.{is_name}
 use Rattle.dns_name.specs.NameText.{three_digits, byte_text, label_text, name_text}
 use Rattle.dns_record.specs.Records.{kind_of, is_rdata}

@@ -2,14 +2,14 @@
 use Rattle.std.proofs.Common.{◌≡◌, ℕ, ◌+◌, ◌^◌, ◌<◌, true, false, eqb, List, [], ◌∷◌, ◌++◌, Option, Some, None, refl, ap, ◌∙◌, arith, append_assoc, append-nil, codes}
 use Rattle.std.specs.Prelude.{decimal, nat_le}
 use Rattle.std.proofs.lemmas.Bool.{and_parts, or_parts, leb-true}
-use Rattle.mdns_base.specs.Cut.{cut_of}
-use Rattle.mdns_base.specs.Digits.{decimal_of, decimal_below, ipv4_text, ipv6_text, hex_text}
+use Rattle.number_text.specs.Cut.{cut_of}
+use Rattle.number_text.specs.Digits.{decimal_of, decimal_below, ipv4_text, ipv6_text, hex_text}
 use Rattle.mdns_base.specs.declared.host.Host.{Host}
-use Rattle.mdns_base.proofs.Decimals.{decimal_written, decimal_below_written}
-use Rattle.mdns_base.proofs.HexText.{hex_written}
-use Rattle.mdns_base.proofs.Ipv4Text.{ipv4_written}
-use Rattle.mdns_base.proofs.Ipv6Text.{ipv6_written}
-use Rattle.mdns_base.proofs.Joined.{lacks, cut_of-joined}
+use Rattle.number_text.proofs.Decimals.{decimal_written, decimal_below_written}
+use Rattle.number_text.proofs.HexText.{hex_written}
+use Rattle.number_text.proofs.Ipv4Text.{ipv4_written}
+use Rattle.number_text.proofs.Ipv6Text.{ipv6_written}
+use Rattle.number_text.proofs.Joined.{lacks, cut_of-joined}
 use Rattle.dns_name.specs.Names.{is_label}
 use Rattle.dns_record.specs.RecordText.{space}
 use Rattle.dns_message.specs.Writing.{is_below, are_bytes}

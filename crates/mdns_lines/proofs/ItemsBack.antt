@@ -5,10 +5,10 @@ use Rattle.std.specs.Fmt.{signed_decimal, digits}
 use Rattle.std.specs.Str.{bytes_eq}
 use Rattle.std.proofs.lemmas.Bool.{and_parts}
 use Rattle.std.proofs.lemmas.Slice.Eq.{bytes_eq-Decides}
-use Rattle.mdns_base.specs.Cut.{cut_of}
-use Rattle.mdns_base.specs.Digits.{hex_text}
-use Rattle.mdns_base.proofs.HexText.{hex_written}
-use Rattle.mdns_base.proofs.Joined.{lacks, cut_of-joined}
+use Rattle.number_text.specs.Cut.{cut_of}
+use Rattle.number_text.specs.Digits.{hex_text}
+use Rattle.number_text.proofs.HexText.{hex_written}
+use Rattle.number_text.proofs.Joined.{lacks, cut_of-joined}
 use Rattle.dns_name.specs.NameText.{name_text}
 use Rattle.dns_record.specs.Records.{kind_of}
 use Rattle.dns_record.specs.ReadRecord.{kind_read, numbered_kind}

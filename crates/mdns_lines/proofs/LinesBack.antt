@@ -5,13 +5,13 @@ use Rattle.std.specs.Fmt.{signed_decimal}
 use Rattle.std.specs.Str.{bytes_eq}
 use Rattle.std.proofs.lemmas.Bool.{and_parts}
 use Rattle.std.proofs.lemmas.Slice.Eq.{bytes_eq-Decides}
-use Rattle.mdns_base.specs.Cut.{cut_of}
-use Rattle.mdns_base.specs.Digits.{◌>>=◌, ipv4_of, four_of, ipv4_text}
+use Rattle.number_text.specs.Cut.{cut_of}
+use Rattle.number_text.specs.Digits.{◌>>=◌, ipv4_of, four_of, ipv4_text}
 use Rattle.mdns_base.specs.declared.host.Host.{Host}
 use Rattle.mdns_base.specs.declared.host.Dest.{Dest}
 use Rattle.mdns_base.specs.declared.host.Dest.TheVariants.{All, One}
-use Rattle.mdns_base.proofs.Ipv4Text.{ipv4_written}
-use Rattle.mdns_base.proofs.Joined.{cut_of-joined}
+use Rattle.number_text.proofs.Ipv4Text.{ipv4_written}
+use Rattle.number_text.proofs.Joined.{cut_of-joined}
 use Rattle.dns_name.specs.NameText.{name_text}
 use Rattle.dns_record.specs.RecordText.{space, kind_text, record_text}
 use Rattle.dns_record.specs.declared.record.Question.{Question}

@@ -4,8 +4,8 @@ use Rattle.std.specs.Prelude.{decimal, nat_le}
 use Rattle.std.specs.Fmt.{signed_decimal}
 use Rattle.std.proofs.lemmas.Bool.{and_parts, lt-ltb, leb-true}
 use Rattle.std.proofs.lemmas.Bool.Decides.{nat_tests}
-use Rattle.mdns_base.specs.Cut.{cut_of}
-use Rattle.mdns_base.proofs.Joined.{lacks, cut_of-joined}
+use Rattle.number_text.specs.Cut.{cut_of}
+use Rattle.number_text.proofs.Joined.{lacks, cut_of-joined}
 use Rattle.dns_name.specs.NameText.{name_text}
 use Rattle.dns_record.specs.RecordText.{space, kind_text, record_text}
 use Rattle.dns_record.specs.declared.record.Question.{Question}

@@ -3,8 +3,8 @@ use Rattle.std.proofs.Common.{◌≡◌, ℕ, ◌^◌, Bool, true, false, cond, 
 use Rattle.std.specs.Option.{option_map}
 use Rattle.std.specs.Str.{bytes_eq}
 use Rattle.std.proofs.lemmas.Bool.{and_from}
-use Rattle.mdns_base.specs.Cut.{cut_of}
-use Rattle.mdns_base.specs.Digits.{◌>>=◌, decimal_of, decimal_below, hex_of}
+use Rattle.number_text.specs.Cut.{cut_of}
+use Rattle.number_text.specs.Digits.{◌>>=◌, decimal_of, decimal_below, hex_of}
 use Rattle.dns_record.specs.ReadRecord.{kind_read}
 use Rattle.dns_message.specs.Writing.{is_below, is_spellable_name}
 use Rattle.sd_call.specs.declared.answer.Answer.{Answer}

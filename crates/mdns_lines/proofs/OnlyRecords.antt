@@ -5,8 +5,8 @@ use Rattle.std.specs.List.{list_any}
 use Rattle.std.specs.Option.{option_map}
 use Rattle.std.specs.Result.{result_ok}
 use Rattle.std.proofs.lemmas.Bool.{and_from, and_parts}
-use Rattle.mdns_base.specs.Cut.{cut_of}
-use Rattle.mdns_base.specs.Digits.{decimal_below, ipv4_of, ipv6_of, hex_of}
+use Rattle.number_text.specs.Cut.{cut_of}
+use Rattle.number_text.specs.Digits.{decimal_below, ipv4_of, ipv6_of, hex_of}
 use Rattle.dns_name.specs.ReadName.{read_name}
 use Rattle.dns_record.specs.Records.{is_rdata}
 use Rattle.dns_record.specs.ReadRecord.{name_read, srv_read, nsec_read, raw_read, rdata_read, flush_read, kind_read, head_read, record_read}

@@ -4,8 +4,8 @@ use Rattle.std.specs.Prelude.{nat_le}
 use Rattle.std.specs.Option.{option_map, option_or}
 use Rattle.std.specs.Str.{bytes_eq, is_utf8}
 use Rattle.std.proofs.lemmas.Bool.{lt-ltb, leb-true, and_from, and_parts}
-use Rattle.mdns_base.specs.Cut.{cut_of}
-use Rattle.mdns_base.specs.Digits.{decimal_below, hex_of}
+use Rattle.number_text.specs.Cut.{cut_of}
+use Rattle.number_text.specs.Digits.{decimal_below, hex_of}
 use Rattle.dns_record.specs.ReadRecord.{kind_read}
 use Rattle.dns_message.specs.Writing.{is_below, are_bytes, is_spellable_name}
 use Rattle.sd_call.specs.declared.request.Request.{Request}

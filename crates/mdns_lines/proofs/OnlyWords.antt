@@ -7,10 +7,10 @@ use Rattle.std.specs.Str.{bytes_eq, is_utf8}
 use Rattle.std.proofs.lemmas.Bool.{lt-ltb, leb-true, and_from, and_parts}
 use Rattle.std.proofs.lemmas.List.Folds.{list_all-append}
 use Rattle.std.proofs.lemmas.List.{take-append-drop}
-use Rattle.mdns_base.specs.Cut.{cut_of}
-use Rattle.mdns_base.specs.Digits.{◌>>=◌, decimal_below, ipv4_of}
+use Rattle.number_text.specs.Cut.{cut_of}
+use Rattle.number_text.specs.Digits.{◌>>=◌, decimal_below, ipv4_of}
 use Rattle.mdns_base.specs.declared.host.Host.{Host}
-use Rattle.mdns_base.proofs.Joined.{cut_of-parts}
+use Rattle.number_text.proofs.Joined.{cut_of-parts}
 use Rattle.dns_name.specs.Names.{is_label}
 use Rattle.dns_name.specs.ReadName.{read_name}
 use Rattle.dns_name.specs.TextItems.{items_of, bytes_spelled, label_read}

@@ -6,11 +6,11 @@ use Rattle.std.specs.Fmt.{digits}
 use Rattle.std.specs.Str.{bytes_eq, is_utf8}
 use Rattle.std.proofs.lemmas.Bool.{and_from, and_parts, eqb-true}
 use Rattle.std.proofs.lemmas.Slice.Eq.{bytes_eq-Decides}
-use Rattle.mdns_base.specs.Cut.{cut_of}
-use Rattle.mdns_base.specs.Digits.{hex_text}
-use Rattle.mdns_base.proofs.Decimals.{decimal_below_written}
-use Rattle.mdns_base.proofs.HexText.{hex_written}
-use Rattle.mdns_base.proofs.Joined.{lacks, cut_of-joined}
+use Rattle.number_text.specs.Cut.{cut_of}
+use Rattle.number_text.specs.Digits.{hex_text}
+use Rattle.number_text.proofs.Decimals.{decimal_below_written}
+use Rattle.number_text.proofs.HexText.{hex_written}
+use Rattle.number_text.proofs.Joined.{lacks, cut_of-joined}
 use Rattle.dns_name.specs.NameText.{name_text}
 use Rattle.dns_record.specs.RecordText.{space, kind_text}
 use Rattle.dns_record.proofs.KindTexts.{kind_written}

@@ -6,10 +6,10 @@ use Rattle.std.specs.Fmt.{signed_decimal}
 use Rattle.std.specs.Str.{bytes_eq}
 use Rattle.std.proofs.lemmas.Bool.{and_parts, lt-ltb, le-leb, leb-true, eqb-true}
 use Rattle.std.proofs.lemmas.Slice.Eq.{bytes_eq-Decides}
-use Rattle.mdns_base.specs.Digits.{ipv4_text}
+use Rattle.number_text.specs.Digits.{ipv4_text}
 use Rattle.mdns_base.specs.declared.host.Host.{Host}
-use Rattle.mdns_base.proofs.Decimals.{decimal_below_written}
-use Rattle.mdns_base.proofs.Ipv4Text.{ipv4_written}
+use Rattle.number_text.proofs.Decimals.{decimal_below_written}
+use Rattle.number_text.proofs.Ipv4Text.{ipv4_written}
 use Rattle.dns_name.specs.Names.{is_label}
 use Rattle.dns_name.specs.NameText.{name_text}
 use Rattle.dns_name.proofs.ReadBack.{read_name-name_text}

@@ -2,8 +2,8 @@
 use Rattle.std.specs.Prelude.{ℕ, ◌^◌, Bool, List, ◌++◌, Option, Some, None, codes, if◌then◌else◌}
 use Rattle.std.specs.Option.{option_map, option_or}
 use Rattle.std.specs.Str.{bytes_eq}
-use Rattle.mdns_base.specs.Cut.{cut_of}
-use Rattle.mdns_base.specs.Digits.{◌>>=◌, decimal_below, hex_of}
+use Rattle.number_text.specs.Cut.{cut_of}
+use Rattle.number_text.specs.Digits.{◌>>=◌, decimal_below, hex_of}
 use Rattle.dns_record.specs.ReadRecord.{kind_read}
 use Rattle.sd_call.specs.declared.request.Request.{Request}
 use Rattle.sd_call.specs.declared.request.Request.TheVariants as request

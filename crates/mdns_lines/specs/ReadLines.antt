@@ -2,8 +2,8 @@
 use Rattle.std.specs.Prelude.{ℕ, ◌^◌, Bool, true, false, List, Option, Some, None, codes, if◌then◌else◌}
 use Rattle.std.specs.Option.{option_map}
 use Rattle.std.specs.Str.{bytes_eq}
-use Rattle.mdns_base.specs.Cut.{cut_of}
-use Rattle.mdns_base.specs.Digits.{◌>>=◌, decimal_below}
+use Rattle.number_text.specs.Cut.{cut_of}
+use Rattle.number_text.specs.Digits.{◌>>=◌, decimal_below}
 use Rattle.mdns_base.specs.declared.host.Dest.{Dest}
 use Rattle.mdns_base.specs.declared.host.Dest.TheVariants.{All, One}
 use Rattle.dns_record.specs.declared.record.Question.{Question}

@@ -3,7 +3,7 @@ use Rattle.std.specs.Prelude.{ℕ, ◌-◌, ◌^◌, nat_lt, nat_le, ◌&&◌, L
 use Rattle.std.specs.Result.{result_ok}
 use Rattle.std.specs.Str.{bytes_eq}
 use Rattle.mdns_base.specs.declared.host.Host.{Host}
-use Rattle.mdns_base.specs.Digits.{◌>>=◌, decimal_below, ipv4_of}
+use Rattle.number_text.specs.Digits.{◌>>=◌, decimal_below, ipv4_of}
 use Rattle.dns_name.specs.Names.{is_label}
 use Rattle.dns_name.specs.ReadName.{read_name}
 use Rattle.dns_name.specs.TextItems.{label_read}

@@ -8,7 +8,7 @@ use crate::tokens::{characters, name};
 use bytes::Bytes;
 use dns_name::Name;
 use dns_record::{RecordError, Rr};
-use mdns_base::{cut_at, is_same, read_decimal_u16, read_hex};
+use number_text::{cut_at, is_same, read_decimal_u16, read_hex};
 use sd_call::Answer;
 use std::alloc::{AllocError, Global};
 

@@ -6,8 +6,8 @@ ghost use Rattle.mdns_lines.specs.ReadItems.{verb_in, reply_in, change_in, item_
 use crate::answers::answer;
 use crate::tokens::signed;
 use crate::{Ending, Line};
-use mdns_base::{cut_at, is_same, read_decimal, read_decimal_u32};
 use mdns_history::Given;
+use number_text::{cut_at, is_same, read_decimal, read_decimal_u32};
 use sd_call::{Answer, Item, Verb};
 use std::alloc::{AllocError, Global};
 

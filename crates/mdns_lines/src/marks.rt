@@ -1,13 +1,13 @@
 // Marks read from text.
 ghost use Rattle.std.specs.Prelude.{◌≡◌, ◌^◌};
 ghost use Rattle.std.specs.Option.{option_map};
-ghost use Rattle.mdns_base.specs.Digits.{decimal_below};
+ghost use Rattle.number_text.specs.Digits.{decimal_below};
 ghost use Rattle.mdns_lines.specs.ReadItems.{cause_in, asked_in, renamed_in, mark_of_words, mark_of_group, mark_in};
 
 use crate::tokens::name;
 use dns_record::{Key, read_kind};
-use mdns_base::{cut_at, is_same, read_decimal, read_decimal_u8, read_decimal_u32};
 use mdns_history::{Cause, Mark};
+use number_text::{cut_at, is_same, read_decimal, read_decimal_u8, read_decimal_u32};
 
 /// The mark that a text spells.
 pub(crate) fn mark(text: &[u8]) -> Option<Mark>

@@ -6,8 +6,9 @@ use crate::print_event::{put_event, put_from};
 use crate::print_mark::{put_mark, put_numbered, put_word};
 use crate::{Ending, Line, Section};
 use dns_record::{Question, Rr, put_kind, put_name, put_record};
-use mdns_base::{Dest, put_decimal};
+use mdns_base::Dest;
 use mdns_history::{Event, Given, Mark};
+use number_text::put_decimal;
 use sd_call::{Item, put_code, put_item};
 use std::alloc::{AllocError, Global};
 

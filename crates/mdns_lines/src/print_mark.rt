@@ -3,8 +3,8 @@ ghost use Rattle.std.specs.Prelude.{◌≡◌, ◌++◌, decimal, OnOk};
 ghost use Rattle.mdns_history.specs.EntryText.{mark_text, cause_text};
 
 use dns_record::{Key, put_kind, put_name};
-use mdns_base::put_decimal;
 use mdns_history::{Cause, Mark};
+use number_text::put_decimal;
 use std::alloc::AllocError;
 
 /// Puts the text of a mark. Refused only for want of memory.

@@ -10,7 +10,7 @@ use crate::marks::mark;
 use crate::sent::{question, sent};
 use crate::tokens::after;
 use crate::{Line, Section, print_line};
-use mdns_base::is_same;
+use number_text::is_same;
 use std::alloc::{AllocError, Global};
 
 /// The line whose print a text is, which stands without its line feed; `None` where it is the print of none. The text is read, and what was

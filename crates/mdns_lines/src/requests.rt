@@ -4,15 +4,15 @@ ghost use Rattle.std.specs.Option.{option_map};
 ghost use Rattle.mdns_script.specs.Lines.{line_of};
 ghost use Rattle.mdns_script.specs.Requests.{norename_of, families_of};
 ghost use Rattle.mdns_lines.specs.ReadCalls.{called, scripted, query_in, families_in, address_in, instance_of, instance_in, register_words, register_in, request_of_words, request_in};
-ghost use Rattle.mdns_base.specs.Digits.{hex_of};
+ghost use Rattle.number_text.specs.Digits.{hex_of};
 ghost use Rattle.mdns_lines.specs.Words.{if_word};
 
 use crate::tokens::name;
 use bytes::Bytes;
 use dns_record::read_kind;
-use mdns_base::{cut_at, is_same, read_decimal_u8, read_decimal_u16, read_hex};
 use mdns_history::Event;
 use mdns_script::{Command, Line, read_line};
+use number_text::{cut_at, is_same, read_decimal_u8, read_decimal_u16, read_hex};
 use sd_call::{Request, Text};
 use std::alloc::{AllocError, Global};
 

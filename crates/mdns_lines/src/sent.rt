@@ -5,7 +5,8 @@ ghost use Rattle.mdns_lines.specs.ReadLines.{id_in, way_in, way_words, to_host, 
 use crate::Line;
 use crate::tokens::{host, name};
 use dns_record::{Question, read_kind};
-use mdns_base::{Dest, cut_at, is_same, read_decimal_u16};
+use mdns_base::Dest;
+use number_text::{cut_at, is_same, read_decimal_u16};
 
 /// The first line of a sent message, behind its sign.
 pub(crate) fn sent(text: &[u8]) -> Option<Line>

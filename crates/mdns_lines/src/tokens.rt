@@ -6,7 +6,8 @@ ghost use Rattle.mdns_lines.specs.Words.{after, name_in, label_in, host_in, sign
 
 use arrayvec::ArrayVec;
 use dns_name::{Label, Name, read_label};
-use mdns_base::{Host, is_same, read_decimal_u16, read_decimal_u32, read_ipv4};
+use mdns_base::Host;
+use number_text::{is_same, read_decimal_u16, read_decimal_u32, read_ipv4};
 
 /// What follows a word at the front of a text.
 pub(crate) fn after<'a>(text: &'a [u8], word: &[u8]) -> Option<&'a [u8]>

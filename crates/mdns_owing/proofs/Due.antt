@@ -9,8 +9,8 @@ use Rattle.std.proofs.lemmas.List.Concat.{flat_map-append}
 use Rattle.std.proofs.lemmas.List.Elements.{All-head, All-tail, filter-append}
 use Rattle.mdns_base.specs.declared.host.Dest.TheVariants.{All}
 use Rattle.mdns_base.specs.Hosts.{dest_eq}
-use Rattle.dns_name.specs.Lists.{least, least_of}
-use Rattle.dns_name.proofs.Least.{least_of-append}
+use Rattle.lists.specs.Lists.{least, least_of}
+use Rattle.lists.proofs.Least.{least_of-append}
 use Rattle.dns_record.specs.declared.record.Rr.{Rr}
 use Rattle.dns_record.specs.Records.{same}
 use Rattle.mdns_history.specs.Hearings.{counted_records, query_of}

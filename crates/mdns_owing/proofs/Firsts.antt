@@ -4,8 +4,8 @@ use Rattle.std.proofs.Math.Seq.{drop-cons}
 use Rattle.std.specs.List.{flat_map}
 use Rattle.std.proofs.lemmas.List.{take_more}
 use Rattle.std.proofs.lemmas.List.Concat.{flat_map-append}
-use Rattle.dns_name.specs.Lists.{least, least_of}
-use Rattle.dns_name.proofs.Least.{least_of-min}
+use Rattle.lists.specs.Lists.{least, least_of}
+use Rattle.lists.proofs.Least.{least_of-min}
 
 pub one_more : {X : Type 0} (f : X → List ℕ) (xs : List X) (n : ℕ) (x : X) (first then_first next : Option ℕ) → n < length xs → x ≡ get_or xs n x → next ≡ least (f x) →
     first ≡ least (flat_map f (take n xs)) → ((ones others : List ℕ) → first ≡ least ones → next ≡ least others → then_first ≡ least (ones ++ others)) → then_first ≡ least (flat_map f (take (n + 1) xs))

@@ -5,8 +5,8 @@ use Rattle.std.specs.List.{list_any}
 use Rattle.std.specs.Ordering.{is_eq}
 use Rattle.std.specs.Cmp.{both_ways}
 use Rattle.std.proofs.Common.{Ordering, Less, Equal, Greater}
-use Rattle.dns_name.specs.Lists.{ordered}
-use Rattle.dns_name.proofs.InOrder.{any-ordered}
+use Rattle.lists.specs.Lists.{ordered}
+use Rattle.lists.proofs.InOrder.{any-ordered}
 use Rattle.dns_record.specs.declared.record.Rr.{Rr}
 use Rattle.dns_record.specs.Records.{same, record_cmp}
 use Rattle.dns_record.proofs.Same.{same_tells, record_cmp_equal, record_cmp_total}

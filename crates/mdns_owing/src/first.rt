@@ -1,6 +1,6 @@
 // The first moment from which on some of what queries are owed may be sent.
 ghost use Rattle.std.specs.Prelude.{◌≡◌, ℕ, ◌<◌, ◌≤◌, ◌++◌, List, length, slice_index_or, IfNone, IfSome};
-ghost use Rattle.dns_name.specs.Lists.{least};
+ghost use Rattle.lists.specs.Lists.{least};
 ghost use Rattle.mdns_debts.specs.Following.{next_reply};
 ghost use Rattle.mdns_owing.specs.Owing.{last_in, moments_of, AreNoSooner};
 

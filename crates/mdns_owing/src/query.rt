@@ -1,7 +1,7 @@
 // A heard query that is owed something.
 ghost use Rattle.std.specs.Prelude.{◌≡◌, ◌++◌, ◌<◌, ◌≤◌, ◌^◌, map, not, filter, nat_le, IfOk};
 ghost use Rattle.std.specs.List.{list_all};
-ghost use Rattle.dns_name.specs.Lists.{least, ordered};
+ghost use Rattle.lists.specs.Lists.{least, ordered};
 ghost use Rattle.mdns_claims.specs.Owned.{is_ours};
 ghost use Rattle.mdns_debts.specs.Queries.{is_to_all, records_for};
 ghost use Rattle.mdns_debts.specs.Following.{has_owed, leaves, left_by, moment_of};

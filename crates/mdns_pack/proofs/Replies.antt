@@ -5,8 +5,8 @@ use Rattle.std.specs.List.{list_any, flat_map}
 use Rattle.std.proofs.lemmas.List.{take_more, drop_more}
 use Rattle.std.proofs.lemmas.Grind.{flat_map-append}
 use Rattle.std.proofs.lemmas.List.Folds.{list_any-append}
-use Rattle.dns_name.specs.Lists.{ordered, without}
-use Rattle.dns_name.proofs.InOrder.{any-ordered}
+use Rattle.lists.specs.Lists.{ordered, without}
+use Rattle.lists.proofs.InOrder.{any-ordered}
 use Rattle.dns_record.proofs.Same.{record_cmp_total}
 use Rattle.mdns_pack.proofs.Found.{same-tied}
 use Rattle.dns_record.specs.declared.record.Rr.{Rr}

@@ -8,8 +8,8 @@ use Rattle.std.specs.Cmp.{IsTotalOrder}
 use Rattle.std.proofs.lemmas.Bool.{or_from, or_parts}
 use Rattle.std.proofs.lemmas.Cmp.{alike_right}
 use Rattle.std.proofs.lemmas.List.Sorted.{ranks_by, sorted_far}
-use Rattle.dns_name.specs.Lists.{insert_by, sorted_by}
-use Rattle.dns_name.proofs.InOrder.{any-insert, tied-turned, tied-along, tied-itself}
+use Rattle.lists.specs.Lists.{insert_by, sorted_by}
+use Rattle.lists.proofs.InOrder.{any-insert, tied-turned, tied-along, tied-itself}
 
 module _ {X : Type 0} (cmp : X → X → Ordering) (o : IsTotalOrder cmp) where
   abbrev tied : X → X → Bool

@@ -2,7 +2,7 @@
 ghost use Rattle.std.specs.Prelude.{◌≡◌, ◌≤◌, [], length, map, take, nat_lt, false, IfOk};
 ghost use Rattle.dns_message.specs.Packing.{is_within_length, fits, parts_of, first_part, plain_question, plain_record, legacy_reply, pack_legacy};
 
-use crate::lists::PACKET_LENGTH;
+use crate::messages::PACKET_LENGTH;
 use dns_message::{Draft, Message, Questions, Rrs};
 use dns_record::{Question, Rr};
 use std::alloc::{AllocError, Global};

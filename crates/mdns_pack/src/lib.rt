@@ -2,7 +2,7 @@
 #![tactic(auto)]
 
 mod legacy;
-mod lists;
+mod messages;
 mod order;
 mod plain;
 mod query;
@@ -10,7 +10,7 @@ mod reply;
 mod wanting;
 
 pub use legacy::pack_legacy;
-pub use lists::Messages;
+pub use messages::Messages;
 pub use order::{Ordered, in_order, sorted};
 pub use plain::pack_plain;
 pub use query::pack_query;

@@ -1,7 +1,7 @@
 // Records put into record order.
 ghost use Rattle.std.specs.Prelude.{◌≡◌, IfOk};
 ghost use Rattle.std.specs.List.{list_any};
-ghost use Rattle.dns_name.specs.Lists.{sorted_by, ordered};
+ghost use Rattle.lists.specs.Lists.{sorted_by, ordered};
 ghost use Rattle.dns_record.specs.Records.{record_cmp, same};
 
 use dns_message::Rrs;

@@ -4,7 +4,7 @@ ghost use Rattle.dns_message.specs.Packing.{fits, bare_reply, pack_plain};
 ghost use Rattle.dns_message.specs.Drafting.{with_answer};
 
 use crate::Messages;
-use crate::lists::PACKET_LENGTH;
+use crate::messages::PACKET_LENGTH;
 use dns_message::Draft;
 use dns_record::Rr;
 use std::alloc::{AllocError, Global};

@@ -4,7 +4,7 @@ ghost use Rattle.dns_message.specs.Packing.{fits, parts_of, query_with, bare_que
 ghost use Rattle.dns_message.specs.Drafting.{with_answer};
 
 use crate::Messages;
-use crate::lists::PACKET_LENGTH;
+use crate::messages::PACKET_LENGTH;
 use dns_message::{Draft, Rrs};
 use dns_record::{Key, Question, Rr, matches_any};
 use std::alloc::{AllocError, Global};

@@ -1,12 +1,12 @@
 // Replies with additional records.
 ghost use Rattle.std.specs.Prelude.{◌≡◌, ◌<◌, ◌≤◌, List, [], ◌∷◌, ◌++◌, map, length, take, drop, not, IfOk, OnOk};
 ghost use Rattle.std.specs.List.{list_any, flat_map};
-ghost use Rattle.dns_name.specs.Lists.{ordered, without};
+ghost use Rattle.lists.specs.Lists.{ordered, without};
 ghost use Rattle.dns_record.specs.Records.{record_cmp, same};
 ghost use Rattle.dns_message.specs.declared.message.Message.{Message};
 ghost use Rattle.dns_message.specs.Packing.{fits, parts_of, bare_reply, reply_with, fitting_additional, answers_in, wanted_in, pack_reply};
 
-use crate::lists::PACKET_LENGTH;
+use crate::messages::PACKET_LENGTH;
 use crate::order::{Ordered, in_order};
 use crate::{Messages, Wanting};
 use dns_message::{Draft, Message, Rrs};

@@ -5,7 +5,7 @@ use Rattle.std.specs.List.{list_any, flat_map, filter_map}
 use Rattle.std.specs.Option.{option_and_then}
 use Rattle.std.proofs.lemmas.List.Folds.{list_any-append}
 use Rattle.mdns_base.specs.Hosts.{mdns_port}
-use Rattle.dns_name.specs.Lists.{without, each_once, ordered}
+use Rattle.lists.specs.Lists.{without, each_once, ordered}
 use Rattle.dns_name.specs.Names.{folded_eq}
 use Rattle.dns_record.specs.declared.record.Rr.{Rr}
 use Rattle.dns_record.specs.declared.record.Key.{Key}
@@ -30,7 +30,7 @@ use Rattle.mdns_history.specs.Sending.{to_all, to_one, probe_message, sent_probe
 use Rattle.mdns_history.specs.Fitting.{next_entry}
 use Rattle.mdns_probe.proofs.Settling.{and_false}
 use Rattle.dns_name.proofs.Folding.{folded_eq-tells}
-use Rattle.dns_name.proofs.InOrder.{none-filter}
+use Rattle.lists.proofs.InOrder.{none-filter}
 use Rattle.std.proofs.lemmas.List.{map-append}
 use Rattle.std.proofs.lemmas.List.Elements.{filter-append}
 use Rattle.mdns_probe.proofs.Distinct.{AreApart, neither, taken-append, turned_about}

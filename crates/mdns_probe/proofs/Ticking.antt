@@ -6,7 +6,7 @@ use Rattle.std.specs.Option.{option_or, option_map, option_map_or, option_and_th
 use Rattle.std.proofs.lemmas.List.Folds.{list_any-append}
 use Rattle.std.proofs.lemmas.List.Elements.{filter-append}
 use Rattle.std.proofs.lemmas.Bool.{ne_eqb, eq-eqb, false≢true, leb-true}
-use Rattle.dns_name.proofs.InOrder.{none-filter}
+use Rattle.lists.proofs.InOrder.{none-filter}
 use Rattle.mdns_history.specs.declared.config.Config.{Config}
 use Rattle.mdns_history.specs.declared.config.HostConfig.{HostConfig}
 use Rattle.mdns_history.specs.declared.event.Event.TheVariants as event

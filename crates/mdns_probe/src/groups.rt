@@ -2,7 +2,7 @@
 ghost use Rattle.std.specs.Prelude.{◌≡◌, ◌≤◌, ◌+◌, ◌^◌, ◌∷◌, ◌++◌, [], ℕ, List, map, true, false, slice_get, vec_len, vec_capacity, OnOk, OnErr, IfOk, IfSome, IsOk, is_some};
 ghost use Rattle.std.specs.List.{list_any, flat_map, find, position};
 ghost use Rattle.std.specs.Option.{option_map, option_map_or, option_copied};
-ghost use Rattle.dns_name.specs.Lists.{least};
+ghost use Rattle.lists.specs.Lists.{least};
 ghost use Rattle.mdns_probe.specs.Claiming.{begun, set_back, probed_if, settled_if, announced_if, replaced, after_tick, is_of, change_of, changed_of, changed_first, without_first, gone_of, has_wait, due_of, all_due, next_of};
 
 use crate::claim::{Change, Claim, Gone};

@@ -7,7 +7,7 @@ use Rattle.std.specs.Ordering.{is_eq}
 use Rattle.std.proofs.lemmas.List.{map-set, get_or-set_same, get_or_default}
 use Rattle.std.proofs.Math.Seq.{map-set_same}
 use Rattle.std.proofs.lemmas.Bool.{lt-ltb, le-ltb}
-use Rattle.dns_name.specs.Lists.{insert_by}
+use Rattle.lists.specs.Lists.{insert_by}
 use Rattle.dns_record.specs.declared.record.Key.{Key}
 use Rattle.dns_record.specs.Records.{key_cmp}
 use Rattle.mdns_history.specs.declared.mark.Cause.{Cause}

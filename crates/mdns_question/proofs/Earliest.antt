@@ -4,7 +4,7 @@ use Rattle.std.specs.Prelude.{filter, map, IfSome}
 use Rattle.std.specs.List.{list_any, flat_map, filter_map, cons_option}
 use Rattle.std.specs.Option.{option_map, option_to_list}
 use Rattle.std.proofs.lemmas.Bool.{ltb-true, ltb-false, leb-true}
-use Rattle.dns_name.specs.Lists.{least, least_of}
+use Rattle.lists.specs.Lists.{least, least_of}
 use Rattle.mdns_history.specs.declared.mark.Cause.{Cause}
 use Rattle.mdns_history.specs.declared.mark.Cause.TheVariants as cause
 use Rattle.mdns_history.specs.declared.held.Held.{Held}
@@ -14,7 +14,7 @@ use Rattle.mdns_question.specs.declared.tracked.Tracked.{Tracked}
 use Rattle.mdns_question.specs.Tracking.{active_of, is_refreshed, due_cause, due_with}
 use Rattle.mdns_question.specs.Next.{is_wanted, is_open, open_in, next_of}
 use Rattle.mdns_question.proofs.Refreshes.{refreshed_by}
-use Rattle.dns_name.proofs.Least.{least_of-append}
+use Rattle.lists.proofs.Least.{least_of-append}
 
 least_of_le : (n : ℕ) (ms : List ℕ) → least_of n ms ≤ n
 least_of_le n [] = omega arith

@@ -4,8 +4,8 @@ use Rattle.std.specs.Prelude.{filter}
 use Rattle.std.specs.List.{list_any, flat_map, AllByRecursion}
 use Rattle.std.specs.Option.{option_to_list}
 use Rattle.std.proofs.lemmas.Bool.{ltb-true, leb-true, leb-false}
-use Rattle.dns_name.specs.Lists.{least, least_of}
-use Rattle.dns_name.proofs.Least.{least_of-min, least_of-append}
+use Rattle.lists.specs.Lists.{least, least_of}
+use Rattle.lists.proofs.Least.{least_of-min, least_of-append}
 use Rattle.mdns_history.specs.declared.mark.Cause.TheVariants as cause
 use Rattle.mdns_history.specs.declared.held.Held.{Held}
 use Rattle.mdns_history.specs.Lifetimes.{is_live_at}

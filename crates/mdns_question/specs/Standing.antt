@@ -2,7 +2,7 @@
 use Rattle.std.specs.Prelude.{◌≡◌, ℕ, suc, min, List, map, take, length}
 use Rattle.std.specs.List.{flat_map, AllByRecursion}
 use Rattle.std.specs.Option.{option_to_list}
-use Rattle.dns_name.specs.Lists.{count_where}
+use Rattle.lists.specs.Lists.{count_where}
 use Rattle.dns_record.specs.declared.record.Key.{Key}
 use Rattle.dns_record.specs.Records.{key_eq}
 use Rattle.mdns_history.specs.declared.mark.Cause.{Cause}

@@ -1,7 +1,7 @@
 // The questions that have users, and which of them are due.
 ghost use Rattle.std.specs.Prelude.{◌≡◌, ◌+◌, ◌<◌, ◌≤◌, ◌^◌, [], map, length, IsOk, OnOk, OnErr, IfOk, IfNone, IfSome};
 ghost use Rattle.std.specs.List.{list_any};
-ghost use Rattle.dns_name.specs.Lists.{least};
+ghost use Rattle.lists.specs.Lists.{least};
 ghost use Rattle.mdns_timer.specs.Parts.{NoneDue, IsFirstDue};
 ghost use Rattle.mdns_question.specs.Tracking.{is_for, with_user, without_user, with_asking};
 ghost use Rattle.mdns_question.specs.Placed.{AreOfName};

@@ -1,7 +1,7 @@
 // Which questions are due by what is kept of them, refresh points too: no record is looked at. (RFC 6762 5.2)
 ghost use Rattle.std.specs.Prelude.{◌≡◌, ◌++◌, map, IfOk, OnOk};
 ghost use Rattle.std.specs.Option.{option_to_list};
-ghost use Rattle.dns_name.specs.Lists.{least, least_of};
+ghost use Rattle.lists.specs.Lists.{least, least_of};
 ghost use Rattle.mdns_question.specs.Next.{open_in};
 ghost use Rattle.mdns_question.specs.Refreshing.{first_refresh, moment_of, cause_of, with_cause, due_by_kept};
 

@@ -1,6 +1,6 @@
 // The first refresh point of a record. (RFC 6762 5.2)
 ghost use Rattle.std.specs.Prelude.{◌≡◌, filter, min, IsTrue, if◌then◌else◌};
-ghost use Rattle.dns_name.specs.Lists.{least_of};
+ghost use Rattle.lists.specs.Lists.{least_of};
 ghost use Rattle.mdns_history.specs.Asking.{refresh_points};
 ghost use Rattle.mdns_question.specs.Next.{is_wanted, is_open, open_in};
 

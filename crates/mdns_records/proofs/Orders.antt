@@ -6,10 +6,10 @@ use Rattle.std.specs.declared.cmp.Ordering.{Ordering}
 use Rattle.std.specs.declared.cmp.Ordering.TheVariants.{Less, Equal, Greater}
 use Rattle.std.proofs.lemmas.Bool.{and_from, and_parts}
 use Rattle.std.proofs.lemmas.List.Folds.{list_any-append, list_all-append}
-use Rattle.dns_name.specs.Lists.{ordered}
+use Rattle.lists.specs.Lists.{ordered}
 use Rattle.dns_name.specs.Names.{folded_eq, name_cmp}
 use Rattle.dns_name.proofs.Folding.{folded_eq-tells, name_cmp-equal, name_cmp-total}
-use Rattle.dns_name.proofs.InOrder.{any-ordered, all-ordered, rising-ordered, IsRising, below}
+use Rattle.lists.proofs.InOrder.{any-ordered, all-ordered, rising-ordered, IsRising, below}
 use Rattle.dns_record.specs.declared.record.Rr.{Rr}
 use Rattle.mdns_history.specs.declared.held.Held.{Held}
 use Rattle.mdns_cache.specs.Ended.{is_among, is_of_ended, HasEnded, AreOfEnded}

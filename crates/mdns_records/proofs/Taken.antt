@@ -3,7 +3,7 @@ use Rattle.std.proofs.Common.{◌≡◌, ℕ, suc, ◌+◌, ◌<◌, ◌≤◌, 
 use Rattle.std.specs.Prelude.{IfNone}
 use Rattle.std.specs.Option.{is_some}
 use Rattle.std.proofs.lemmas.List.Sorted.{length_permutation, IsPermutation-sym}
-use Rattle.mdns_base.proofs.Permutations.{IsPermutation-filter}
+use Rattle.lists.proofs.Permutations.{IsPermutation-filter}
 use Rattle.mdns_history.specs.declared.held.Held.{Held}
 use Rattle.mdns_history.specs.Lifetimes.{is_live_at}
 use Rattle.mdns_cache.specs.Lifetimes.{IsFirstEnded, AllLive}

@@ -1,6 +1,6 @@
 // The names whose records an event changes.
 ghost use Rattle.std.specs.Prelude.{◌≡◌, ◌++◌, map, IfOk, OnOk};
-ghost use Rattle.dns_name.specs.Lists.{ordered};
+ghost use Rattle.lists.specs.Lists.{ordered};
 ghost use Rattle.dns_name.specs.Names.{name_cmp};
 
 use dns_name::Name;

@@ -2,7 +2,7 @@
 use Rattle.std.proofs.Common.{◌≡◌, ℕ, ◌==◌, Bool, true, cond, ◌&&◌, List, [], ◌∷◌, ◌++◌, map, false, refl, Option, Some, None}
 use Rattle.std.specs.List.{list_all}
 use Rattle.std.specs.Option.{option_and_then, option_to_list}
-use Rattle.dns_name.proofs.InOrder.{all-ordered}
+use Rattle.lists.proofs.InOrder.{all-ordered}
 use Rattle.dns_record.proofs.Same.{record_cmp_total}
 use Rattle.dns_record.specs.declared.record.Rdata.TheVariants.{Aaaa, Ptr}
 use Rattle.dns_record.specs.declared.record.Rr.{Rr}

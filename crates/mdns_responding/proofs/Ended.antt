@@ -4,7 +4,7 @@ use Rattle.std.specs.Prelude.{filter}
 use Rattle.std.specs.List.{list_any, flat_map}
 use Rattle.std.proofs.lemmas.List.Folds.{list_any-append}
 use Rattle.dns_message.specs.Packing.{pack_plain}
-use Rattle.dns_name.specs.Lists.{ordered, without}
+use Rattle.lists.specs.Lists.{ordered, without}
 use Rattle.dns_record.specs.declared.record.Rr.{Rr}
 use Rattle.dns_record.specs.Records.{same, record_cmp}
 use Rattle.mdns_history.specs.Groups.{Group}

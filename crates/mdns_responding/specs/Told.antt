@@ -2,7 +2,7 @@
 -- something, as they are kept. (RFC 6762 5.4, 6, 6.7, 8.3, 8.4 and 10.1, RFC 6763 12)
 use Rattle.std.specs.Prelude.{ℕ, Bool, List, [], ◌++◌, map, filter, if◌then◌else◌}
 use Rattle.std.specs.List.{flat_map}
-use Rattle.dns_name.specs.Lists.{ordered}
+use Rattle.lists.specs.Lists.{ordered}
 use Rattle.dns_record.specs.declared.record.Rr.{Rr}
 use Rattle.dns_record.specs.Records.{record_cmp}
 use Rattle.dns_message.specs.Packing.{pack_reply}

@@ -1,7 +1,7 @@
 // The goodbyes of groups that end. (RFC 6762 10.1)
 ghost use Rattle.std.specs.Prelude.{IfOk, OnOk, [], ◌∷◌, map, ◌++◌, ◌≡◌};
 ghost use Rattle.std.specs.List.{list_any};
-ghost use Rattle.dns_name.specs.Lists.{ordered};
+ghost use Rattle.lists.specs.Lists.{ordered};
 ghost use Rattle.dns_record.specs.Records.{record_cmp, same};
 ghost use Rattle.mdns_claims.specs.Behind.{ends_by};
 ghost use Rattle.mdns_claims.specs.Owned.{own_in};

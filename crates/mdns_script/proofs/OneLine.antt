@@ -4,7 +4,7 @@ use Rattle.std.specs.Prelude.{decimal, nat_le}
 use Rattle.std.specs.List.{flat_map}
 use Rattle.std.specs.Str.{bytes_eq, is_utf8}
 use Rattle.std.proofs.lemmas.Bool.{and_parts, leb-true, lt-ltb, and_from}
-use Rattle.mdns_base.specs.Digits.{ipv4_text, ipv6_text, hex_text}
+use Rattle.number_text.specs.Digits.{ipv4_text, ipv6_text, hex_text}
 use Rattle.dns_name.specs.Names.{is_label}
 use Rattle.dns_record.specs.RecordText.{space}
 use Rattle.dns_message.specs.Writing.{is_below, are_bytes, is_spellable_name}

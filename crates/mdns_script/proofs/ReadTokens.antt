@@ -7,11 +7,11 @@ use Rattle.std.specs.Result.{result_ok}
 use Rattle.std.specs.Str.{bytes_eq, is_utf8}
 use Rattle.std.proofs.lemmas.Bool.{lt-ltb, le-leb, leb-true, and_from, and_parts}
 use Rattle.std.proofs.lemmas.List.Folds.{list_all-append}
-use Rattle.mdns_base.specs.Digits.{◌>>=◌, decimal_of, decimal_below, ipv4_of, ipv6_of, hex_of}
-use Rattle.mdns_base.proofs.Decimals.{decimal_exact}
-use Rattle.mdns_base.proofs.HexText.{hex_shown}
-use Rattle.mdns_base.proofs.Ipv4Text.{ipv4_of-read}
-use Rattle.mdns_base.proofs.Ipv6Text.{ipv6_shown}
+use Rattle.number_text.specs.Digits.{◌>>=◌, decimal_of, decimal_below, ipv4_of, ipv6_of, hex_of}
+use Rattle.number_text.proofs.Decimals.{decimal_exact}
+use Rattle.number_text.proofs.HexText.{hex_shown}
+use Rattle.number_text.proofs.Ipv4Text.{ipv4_of-read}
+use Rattle.number_text.proofs.Ipv6Text.{ipv6_shown}
 use Rattle.dns_name.specs.Names.{is_label}
 use Rattle.dns_name.specs.ReadName.{read_name}
 use Rattle.dns_name.specs.TextItems.{items_of, bytes_spelled, label_read}

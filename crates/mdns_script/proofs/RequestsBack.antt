@@ -2,10 +2,10 @@
 use Rattle.std.proofs.Common.{◌≡◌, ℕ, ◌^◌, ◌<◌, Bool, true, false, eqb, List, ◌∷◌, ◌++◌, Some, refl, ap, sym, ◌∙◌, arith, append_assoc, codes, subst}
 use Rattle.std.specs.Prelude.{decimal, nat_le}
 use Rattle.std.proofs.lemmas.Bool.{and_parts, leb-true, eqb-true, eqb-false}
-use Rattle.mdns_base.specs.Cut.{cut_of}
-use Rattle.mdns_base.specs.Digits.{◌>>=◌}
-use Rattle.mdns_base.proofs.Decimals.{decimal_below_written}
-use Rattle.mdns_base.proofs.Joined.{lacks, cut_of-joined}
+use Rattle.number_text.specs.Cut.{cut_of}
+use Rattle.number_text.specs.Digits.{◌>>=◌}
+use Rattle.number_text.proofs.Decimals.{decimal_below_written}
+use Rattle.number_text.proofs.Joined.{lacks, cut_of-joined}
 use Rattle.dns_name.specs.NameText.{name_text}
 use Rattle.dns_record.specs.RecordText.{space, kind_text}
 use Rattle.dns_record.proofs.KindTexts.{kind_written}

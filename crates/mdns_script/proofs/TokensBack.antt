@@ -10,8 +10,8 @@ use Rattle.std.proofs.lemmas.List.Folds.{list_all-append}
 use Rattle.std.proofs.lemmas.Slice.Eq.{bytes_eq-Decides}
 use Rattle.std.proofs.lemmas.Str.{is_utf8-from_IsUtf8, IsUtf8-from_ascii}
 use Rattle.std.proofs.lemmas.Str.Ascii.{IsAscii-nil, IsAscii-cons}
-use Rattle.mdns_base.specs.Cut.{cut_of}
-use Rattle.mdns_base.proofs.Joined.{lacks, cut_of-joined}
+use Rattle.number_text.specs.Cut.{cut_of}
+use Rattle.number_text.proofs.Joined.{lacks, cut_of-joined}
 use Rattle.dns_name.specs.Names.{is_name, is_label}
 use Rattle.dns_name.specs.NameText.{three_digits, byte_text, label_text, name_text}
 use Rattle.dns_name.specs.TextItems.{items_of, bytes_spelled, label_read}

@@ -2,8 +2,8 @@
 use Rattle.std.specs.Prelude.{ℕ, ◌+◌, nat_le, ◌&&◌, List, Option, Some, None, codes, if◌then◌else◌}
 use Rattle.std.specs.Option.{option_map}
 use Rattle.std.specs.Str.{bytes_eq}
-use Rattle.mdns_base.specs.Cut.{cut_of}
-use Rattle.mdns_base.specs.Digits.{◌>>=◌, decimal_of, ipv4_of, ipv6_of}
+use Rattle.number_text.specs.Cut.{cut_of}
+use Rattle.number_text.specs.Digits.{◌>>=◌, decimal_of, ipv4_of, ipv6_of}
 use Rattle.mdns_history.specs.declared.config.Config.{Config}
 use Rattle.mdns_script.specs.Tokens.{when, host_label_of}
 use Rattle.mdns_script.specs.declared.command.Command.{Command}

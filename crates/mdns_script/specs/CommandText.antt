@@ -3,7 +3,7 @@
 use Rattle.std.specs.Prelude.{ℕ, List, [], ◌∷◌, ◌++◌, decimal, codes, Option, Some, None, if◌then◌else◌}
 use Rattle.std.specs.List.{flat_map}
 use Rattle.std.specs.Str.{bytes_eq}
-use Rattle.mdns_base.specs.Digits.{hex_text, ipv4_text}
+use Rattle.number_text.specs.Digits.{hex_text, ipv4_text}
 use Rattle.dns_record.specs.RecordText.{space}
 use Rattle.txt_record.specs.Strings.{strings_of}
 use Rattle.sd_call.specs.CallText.{label_token, type_token, norename_text, request_text}

@@ -2,9 +2,9 @@
 use Rattle.std.specs.Prelude.{ℕ, ◌==◌, ◌^◌, nat_le, not, ◌&&◌, Bool, false, if◌then◌else◌, List, [], ◌∷◌, Option, Some, None, codes}
 use Rattle.std.specs.Option.{option_map, option_or}
 use Rattle.std.specs.Str.{bytes_eq}
-use Rattle.mdns_base.specs.Cut.{cut_of}
+use Rattle.number_text.specs.Cut.{cut_of}
 use Rattle.mdns_base.specs.declared.host.Host.{Host}
-use Rattle.mdns_base.specs.Digits.{◌>>=◌, decimal_of, decimal_below, ipv4_of, hex_of}
+use Rattle.number_text.specs.Digits.{◌>>=◌, decimal_of, decimal_below, ipv4_of, hex_of}
 use Rattle.mdns_history.specs.declared.event.Event.TheVariants as event
 use Rattle.mdns_script.specs.Tokens.{when}
 use Rattle.mdns_script.specs.Boots.{daemon_of, daemon_command}

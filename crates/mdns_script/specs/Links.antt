@@ -1,7 +1,7 @@
 -- The lines that change the link: how long packets are under way, which are lost, and which daemons are parted.
 use Rattle.std.specs.Prelude.{ℕ, nat_le, ◌&&◌, List, Option, Some}
-use Rattle.mdns_base.specs.Cut.{cut_of}
-use Rattle.mdns_base.specs.Digits.{◌>>=◌, decimal_of}
+use Rattle.number_text.specs.Cut.{cut_of}
+use Rattle.number_text.specs.Digits.{◌>>=◌, decimal_of}
 use Rattle.mdns_script.specs.Tokens.{when}
 use Rattle.mdns_script.specs.Boots.{daemon_of}
 

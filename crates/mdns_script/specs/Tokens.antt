@@ -4,7 +4,7 @@ use Rattle.std.specs.Option.{option_map}
 use Rattle.std.specs.Result.{result_ok}
 use Rattle.std.specs.List.{list_all, slice_split}
 use Rattle.std.specs.Str.{bytes_eq, is_utf8}
-use Rattle.mdns_base.specs.Digits.{◌>>=◌}
+use Rattle.number_text.specs.Digits.{◌>>=◌}
 use Rattle.dns_name.specs.Names.{is_label}
 use Rattle.dns_name.specs.ReadName.{read_name}
 use Rattle.dns_name.specs.TextItems.{items_of, label_read}

@@ -4,8 +4,8 @@ ghost use Rattle.mdns_script.specs.Boots.{daemon_of, daemon_command, plain_comma
 
 use crate::Command;
 use crate::tokens::host_label;
-use mdns_base::{cut_at, is_same, read_decimal, read_ipv4, read_ipv6};
 use mdns_history::{Config, HostConfig};
+use number_text::{cut_at, is_same, read_decimal, read_ipv4, read_ipv6};
 
 /// The address of daemon K without a host is this and K: 10.0.0.K.
 const NETWORK: u32 = 167_772_160;

@@ -1,6 +1,6 @@
 ghost use Rattle.std.specs.Prelude.{◌≡◌, ◌^◌, Ok, IfOk};
 ghost use Rattle.std.specs.Option.{option_map};
-ghost use Rattle.mdns_base.specs.Digits.{decimal_of, decimal_below};
+ghost use Rattle.number_text.specs.Digits.{decimal_of, decimal_below};
 ghost use Rattle.mdns_script.specs.Lines.{line_of, is_read, command_of, command_of_words, setting_of_words, event_of_words, close_command, take_command, max_of, hear_command, hear_words, call_command, call_words};
 ghost use Rattle.mdns_script.specs.Boots.{daemon_of};
 
@@ -9,10 +9,11 @@ use crate::link::{delay_command, lose_command, meet_command, part_command};
 use crate::requests::request;
 use crate::{Command, Line};
 use bytes::Bytes;
-use mdns_base::{
-    Host, cut_at, is_same, read_decimal, read_decimal_u16, read_decimal_u32, read_hex, read_ipv4,
-};
+use mdns_base::Host;
 use mdns_history::Event;
+use number_text::{
+    cut_at, is_same, read_decimal, read_decimal_u16, read_decimal_u32, read_hex, read_ipv4,
+};
 use std::alloc::{AllocError, Global};
 
 /// What a line asks for. The line is without its line feed and the carriage return before it. Only want of memory is an

@@ -5,7 +5,7 @@ ghost use Rattle.mdns_script.specs.Links.{number_in, two_daemons};
 
 use crate::Command;
 use crate::boot::daemon_number;
-use mdns_base::{cut_at, read_decimal};
+use number_text::{cut_at, read_decimal};
 
 /// What follows `delay`: 1 to 10,000 milliseconds.
 pub(crate) fn delay_command(text: &[u8]) -> Option<Command>

@@ -10,8 +10,8 @@ ghost use Rattle.mdns_script.specs.Writable.{is_writable, is_one_line};
 use crate::Command;
 use crate::print_event::put_event;
 use bytes::Bytes;
-use mdns_base::{put_decimal, put_ipv4, put_ipv6};
 use mdns_history::{Config, HostConfig};
+use number_text::{put_decimal, put_ipv4, put_ipv6};
 use sd_call::put_label;
 use std::alloc::{AllocError, Global};
 

@@ -5,8 +5,9 @@ ghost use Rattle.mdns_script.specs.CommandText.{said_event};
 
 use crate::print::{put_numbered, put_word};
 use crate::print_request::put_request;
-use mdns_base::{Host, put_hex, put_ipv4};
+use mdns_base::Host;
 use mdns_history::Event;
+use number_text::{put_hex, put_ipv4};
 use sd_call::Request;
 use std::alloc::AllocError;
 

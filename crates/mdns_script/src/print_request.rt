@@ -7,7 +7,7 @@ ghost use Rattle.sd_call.specs.CallText.{label_token, type_token, norename_text}
 ghost use Rattle.mdns_script.specs.CommandText.{string_word, txt_words, said_request};
 
 use crate::print::{put_numbered, put_word};
-use mdns_base::is_same;
+use number_text::is_same;
 use sd_call::{Request, Text, put_label, put_type};
 use std::alloc::AllocError;
 

@@ -6,7 +6,7 @@ ghost use Rattle.mdns_script.specs.Requests.{query_of, resolve_of, families_of, 
 
 use crate::tokens::{label, name, regtype, txt};
 use dns_record::read_kind;
-use mdns_base::{cut_at, is_same, read_decimal_u16};
+use number_text::{cut_at, is_same, read_decimal_u16};
 use sd_call::Request;
 use std::alloc::{AllocError, Global};
 

@@ -8,7 +8,7 @@ ghost use Rattle.mdns_script.specs.Tokens.{text_of, is_whole, is_token, token_of
 use arrayvec::ArrayVec;
 use bytes::Bytes;
 use dns_name::{Label, Name, TextItem, TextItems, read_label};
-use mdns_base::{cut_at, is_same};
+use number_text::{cut_at, is_same};
 use sd_call::Text;
 use std::alloc::{AllocError, Global};
 

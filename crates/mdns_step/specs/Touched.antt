@@ -1,7 +1,7 @@
 -- What an entry touches: the names whose records it may change or must tell, and how many questions, names and records that are.
 use Rattle.std.specs.Prelude.{ℕ, ◌+◌, Bool, not, ◌&&◌, List, [], ◌∷◌, ◌++◌, map, filter, length, Option, Some, None}
 use Rattle.std.specs.List.{list_any, filter_map}
-use Rattle.dns_name.specs.Lists.{each_once}
+use Rattle.lists.specs.Lists.{each_once}
 use Rattle.dns_name.specs.Names.{folded_eq}
 use Rattle.dns_record.specs.declared.record.Rr.{Rr}
 use Rattle.dns_record.specs.Records.{same}

@@ -1,6 +1,6 @@
 -- The least number of a list is what no number is less than, and one is.
 use Rattle.std.proofs.Common.{◌≡◌, ℕ, zero, suc, ◌+◌, ◌-◌, ◌*◌, ◌<◌, ◌≤◌, ◌^◌, ◌==◌, false, List, [], ◌∷◌, length, get_or, Some, ap, arith}
-use Rattle.dns_name.specs.Lists.{least, least_of}
+use Rattle.lists.specs.Lists.{least, least_of}
 use Rattle.mdns_timer.specs.Tree.{moment_at, least_at, width, IsKept}
 use Rattle.mdns_timer.proofs.Parted.{lower, reached}
 

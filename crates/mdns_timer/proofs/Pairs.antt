@@ -6,7 +6,7 @@ use Rattle.std.specs.List.Sorted.{IsBinarySearchResult, IsPartitionPoint}
 use Rattle.std.specs.Ordering.{nat_cmp, ordering_then, ordering_reverse, is_eq}
 use Rattle.std.specs.Cmp.{IsTotalOrder}
 use Rattle.std.proofs.lemmas.Cmp.{on_total, then_total, nat_cmp_total, ranked, by_ranked}
-use Rattle.dns_name.specs.Lists.{insert_by, least, least_of}
+use Rattle.lists.specs.Lists.{insert_by, least, least_of}
 use Rattle.mdns_timer.specs.Strict.{IsStrict}
 use Rattle.mdns_timer.specs.Timing.{pair_cmp, has_pair, with_pair, without_pair, first_moment}
 use Rattle.mdns_timer.proofs.Placed.{found_any, found_filter, searchable, apart, none_any, none_filter, inserted, strict_inserted, strict_filter}

@@ -6,7 +6,7 @@ use Rattle.std.specs.List.Sorted.{IsSortedBy, IsNonDecreasingBy}
 use Rattle.std.specs.Ordering.{is_lt, is_eq, ordering_reverse, ordering_index}
 use Rattle.std.specs.Cmp.{IsTotalOrder}
 use Rattle.std.proofs.lemmas.List.Sorted.{searchable_from_sorted}
-use Rattle.dns_name.specs.Lists.{insert_by}
+use Rattle.lists.specs.Lists.{insert_by}
 use Rattle.mdns_timer.specs.Strict.{IsStrict}
 
 -- what holds of each holds of what the keys of each give

@@ -3,7 +3,7 @@ use Rattle.std.specs.Prelude.{ℕ, nat_le, Bool, not, List, [], ◌∷◌, filte
 use Rattle.std.specs.List.{list_any}
 use Rattle.std.specs.Ordering.{nat_cmp, ordering_then, is_eq}
 use Rattle.std.specs.declared.cmp.Ordering.{Ordering}
-use Rattle.dns_name.specs.Lists.{insert_by}
+use Rattle.lists.specs.Lists.{insert_by}
 
 -- the moments with what is due then, by moment and then by what, each pair once; and how many more there is room for
 pub record Timing : Type 0 where

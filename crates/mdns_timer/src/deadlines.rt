@@ -1,7 +1,7 @@
 // Moments by place, with the least of them.
 ghost use Rattle.std.specs.Prelude.{◌≡◌, ◌+◌, ◌<◌, ◌≤◌, [], ◌∷◌, ◌++◌, map, length, slice_set, IsOk, OnOk, IfNone, IfSome, vec_capacity};
 ghost use Rattle.std.specs.List.{insert, remove};
-ghost use Rattle.dns_name.specs.Lists.{least};
+ghost use Rattle.lists.specs.Lists.{least};
 ghost use Rattle.mdns_timer.specs.Parts.{NoneDue, IsFirstDue};
 
 use crate::part::Part;

@@ -1,6 +1,6 @@
 // Pairs of a moment and what is due then.
 ghost use Rattle.std.specs.Prelude.{◌≡◌, ◌+◌, ◌≤◌, [], map, IsOk, OnOk, OnErr, IsSome, IsTrue};
-ghost use Rattle.dns_name.specs.Lists.{least};
+ghost use Rattle.lists.specs.Lists.{least};
 ghost use Rattle.mdns_timer.specs.Timing.{has_pair, with_pair, without_pair, first_moment, first_due, without_due};
 
 use std::alloc::{AllocError, Global};

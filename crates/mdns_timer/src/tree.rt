@@ -1,6 +1,6 @@
 // The least of several moments: a tree over the places of a list.
 ghost use Rattle.std.specs.Prelude.{◌≡◌, ℕ, ◌+◌, ◌*◌, ◌<◌, ◌≤◌, ◌^◌, length, min, IfOk, IfNone, IfSome};
-ghost use Rattle.dns_name.specs.Lists.{least};
+ghost use Rattle.lists.specs.Lists.{least};
 ghost use Rattle.mdns_timer.specs.Tree.{least_at, moment_at, IsTree, IsTreeBut, IsWidth, IsKept};
 ghost use Rattle.mdns_timer.specs.Parts.{IsPart, NoneDue, IsFirstDue};
 

@@ -2,7 +2,7 @@
 use Rattle.std.proofs.Common.{◌≡◌, ◌≢◌, ℕ, suc, ◌+◌, ◌-◌, ◌<◌, true, false, List, [], ◌∷◌, ◌++◌, map, length, Some, None, ap, sym, ◌∙◌, inl, inr, arith, subst, append-nil}
 use Rattle.std.specs.List.{list_all}
 use Rattle.std.proofs.lemmas.Bool.{cases_lt}
-use Rattle.mdns_base.specs.Cut.{cut_of}
+use Rattle.number_text.specs.Cut.{cut_of}
 use Rattle.mdns_history.specs.EntryText.{line}
 use Rattle.mdns_lines.specs.declared.line.Line.{Line}
 use Rattle.mdns_lines.specs.ReadLines.{line_read}

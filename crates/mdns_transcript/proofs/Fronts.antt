@@ -1,7 +1,7 @@
 -- The first lines of a text, and of the print of lines.
 use Rattle.std.proofs.Common.{◌≡◌, ℕ, zero, suc, ◌<◌, ◌≤◌, true, List, [], ◌∷◌, ◌++◌, map, length, Some, None, refl, ap, sym, ◌∙◌, arith, append_assoc}
 use Rattle.std.proofs.lemmas.Bool.{and_parts}
-use Rattle.mdns_base.specs.Cut.{cut_of}
+use Rattle.number_text.specs.Cut.{cut_of}
 use Rattle.mdns_script.proofs.ReadTokens.{come_of, some_same}
 use Rattle.mdns_lines.specs.declared.line.Line.{Line}
 use Rattle.mdns_lines.specs.LineText.{line_text}

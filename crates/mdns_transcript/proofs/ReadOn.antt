@@ -2,9 +2,9 @@
 use Rattle.std.proofs.Common.{◌≡◌, ◌≢◌, ℕ, eqb, arith, ◌+◌, true, false, List, [], ◌∷◌, ◌++◌, length, Option, Some, None, refl, ap, sym, ◌∙◌, append_assoc, append-nil, length-append}
 use Rattle.std.proofs.lemmas.Bool.{and_from, and_parts, eqb-true, eqb-false}
 use Rattle.std.proofs.lemmas.List.Folds.{list_all-append}
-use Rattle.mdns_base.specs.Cut.{cut_of}
-use Rattle.mdns_base.specs.Digits.{◌>>=◌}
-use Rattle.mdns_base.proofs.Joined.{cut_of-parts}
+use Rattle.number_text.specs.Cut.{cut_of}
+use Rattle.number_text.specs.Digits.{◌>>=◌}
+use Rattle.number_text.proofs.Joined.{cut_of-parts}
 use Rattle.dns_message.specs.Writing.{is_below, are_bytes}
 use Rattle.mdns_history.specs.EntryText.{line}
 use Rattle.mdns_lines.specs.declared.line.Line.{Line}

@@ -3,7 +3,7 @@ use Rattle.std.proofs.Common.{◌≡◌, ℕ, suc, ◌-◌, ◌≤◌, true, fal
 use Rattle.std.specs.Prelude.{nat_le}
 use Rattle.std.specs.List.{flat_map}
 use Rattle.std.proofs.lemmas.Bool.{le-leb, and_from}
-use Rattle.mdns_base.specs.Digits.{◌>>=◌}
+use Rattle.number_text.specs.Digits.{◌>>=◌}
 use Rattle.dns_record.specs.declared.record.Question.{Question}
 use Rattle.dns_record.specs.declared.record.Rr.{Rr}
 use Rattle.dns_message.specs.declared.message.Message.{Message}

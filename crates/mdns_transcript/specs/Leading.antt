@@ -1,8 +1,8 @@
 -- Which texts are no transcript's, and where that is seen: the lines with which a text begins, and with which prints of rows begin.
 use Rattle.std.specs.Prelude.{◌≡◌, ℕ, zero, suc, ◌-◌, ◌<◌, true, List, [], ◌∷◌, Option, Some, Result, Ok, Err}
 use Rattle.std.specs.List.{list_all}
-use Rattle.mdns_base.specs.Cut.{cut_of}
-use Rattle.mdns_base.specs.Digits.{◌>>=◌}
+use Rattle.number_text.specs.Cut.{cut_of}
+use Rattle.number_text.specs.Digits.{◌>>=◌}
 use Rattle.mdns_transcript.specs.declared.read.TranscriptError.{TranscriptError}
 use Rattle.mdns_transcript.specs.declared.read.TranscriptError.TheVariants.{BadText, NoMemory}
 use Rattle.mdns_transcript.specs.declared.row.Row.{Row}

@@ -1,6 +1,6 @@
 -- Which line may follow the lines of an entry that were read: for the contracts of private functions, and for their proofs.
 use Rattle.std.specs.Prelude.{ℕ, ◌-◌, ◌==◌, nat_le, Bool, true, ◌&&◌, List, [], ◌∷◌, Option, Some, None, if◌then◌else◌}
-use Rattle.mdns_base.specs.Digits.{◌>>=◌}
+use Rattle.number_text.specs.Digits.{◌>>=◌}
 use Rattle.mdns_lines.specs.declared.line.Section.{Section}
 use Rattle.mdns_lines.specs.declared.line.Section.TheVariants.{Answers, Authority, Additional}
 use Rattle.mdns_lines.specs.declared.line.Line.{Line}

@@ -5,7 +5,7 @@ ghost use Rattle.mdns_transcript.specs.Leading.{IfBadText, IsBadAt};
 
 use crate::Transcript;
 use crate::reading::Reading;
-use mdns_base::cut_at;
+use number_text::cut_at;
 use std::alloc::{AllocError, Global};
 
 /// Why a text isn't read as a transcript.

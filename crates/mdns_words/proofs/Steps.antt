@@ -1,6 +1,6 @@
 -- What one step through the words comes to.
 use Rattle.std.proofs.Common.{◌≡◌, ◌∙◌, ℕ, Bool, true, false, List, [], ◌∷◌, ap, Option, Some, None, if◌then◌else◌}
-use Rattle.mdns_base.specs.Digits.{◌>>=◌}
+use Rattle.number_text.specs.Digits.{◌>>=◌}
 use Rattle.mdns_words.specs.declared.options.Options.{Options}
 use Rattle.mdns_words.specs.Options.{is_option, put_option, put_peer, options_from}
 

@@ -3,7 +3,7 @@ use Rattle.std.specs.Prelude.{ℕ, ◌^◌, ◌==◌, Bool, false, ◌&&◌, Lis
 use Rattle.std.specs.Str.{bytes_eq}
 use Rattle.std.specs.Global.{Global}
 use Rattle.std.specs.String.{string_bytes}
-use Rattle.mdns_base.specs.Digits.{◌>>=◌, decimal_below, ipv4_of}
+use Rattle.number_text.specs.Digits.{◌>>=◌, decimal_below, ipv4_of}
 use Rattle.mdns_words.specs.HostLabels.{host_label_of}
 use Rattle.mdns_words.specs.declared.options.Options.{Options}
 

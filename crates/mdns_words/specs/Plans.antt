@@ -1,6 +1,6 @@
 -- What the words of `serve` ask for.
 use Rattle.std.specs.Prelude.{ℕ, List, Option, Some, None}
-use Rattle.mdns_base.specs.Digits.{◌>>=◌}
+use Rattle.number_text.specs.Digits.{◌>>=◌}
 use Rattle.mdns_words.specs.declared.options.Options.{Options}
 use Rattle.mdns_words.specs.declared.plan.Asked.{Asked}
 use Rattle.mdns_words.specs.Options.{no_options, options_from}

@@ -3,8 +3,8 @@ ghost use Rattle.std.specs.Prelude.{◌≡◌, ◌++◌, ◌∷◌, [], None, So
 ghost use Rattle.mdns_words.specs.Options.{no_options, put_option, put_peer, put_once, port_of};
 
 use crate::HostLabel;
-use mdns_base::{read_decimal_u16, read_decimal_u32, read_ipv4};
 use mdns_outside::{PathText, Ports};
+use number_text::{read_decimal_u16, read_decimal_u32, read_ipv4};
 use std::alloc::{AllocError, Global};
 
 /// What options and peers have been given.

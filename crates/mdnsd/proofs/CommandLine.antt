@@ -4,7 +4,7 @@ use Rattle.std.proofs.lemmas.Slice.Eq.{bytes_eq-Decides}
 use Rattle.std.specs.Prelude.{codes, take}
 use Rattle.std.specs.Str.{bytes_eq}
 use Rattle.std.specs.Io.KnownBytes.{Appends}
-use Rattle.mdns_base.specs.Digits.{◌>>=◌}
+use Rattle.number_text.specs.Digits.{◌>>=◌}
 use Rattle.mdns_server.specs.Serving.{plan_of}
 use Rattle.std.proofs.Common.{◌≡◌, ◌≢◌, ℕ, length, List, [], ◌∷◌, ◌++◌, Option, None, Some, Bool, true, false, if◌then◌else◌, Result, Ok, Err, String, Global, map, drop, refl, sym, ap, ◌∙◌, arith}
 use Rattle.std.specs.String.{string_bytes}

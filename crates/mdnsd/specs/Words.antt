@@ -8,7 +8,7 @@ use Rattle.std.specs.declared.vec.IntoIter.{IntoIter}
 use Rattle.std.specs.IoError.{error_kind}
 use Rattle.std.specs.declared.io.Error.{Error}
 use Rattle.std.specs.declared.io.ErrorKind.TheVariants.{OutOfMemory}
-use Rattle.mdns_base.specs.Digits.{◌>>=◌, decimal_of}
+use Rattle.number_text.specs.Digits.{◌>>=◌, decimal_of}
 use Rattle.mdns_outside.specs.declared.plan.ServePlan.{ServePlan}
 use Rattle.mdns_server.specs.Serving.{plan_of}
 

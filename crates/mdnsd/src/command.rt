@@ -5,7 +5,7 @@ ghost use Rattle.mdns_words.specs.Options.{texts};
 ghost use Rattle.mdnsd.specs.Words.{AreNoCommand, LackMemory, told, script_words, names_script, behind_serve, count_of, gen_number};
 
 use crate::stop::{NO_MEMORY, USAGE};
-use mdns_base::read_decimal;
+use number_text::read_decimal;
 use std::alloc::{AllocError, Global};
 use std::env::Args;
 use std::io;

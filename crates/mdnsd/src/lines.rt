@@ -3,7 +3,7 @@ ghost use Rattle.std.specs.Prelude.{◌≡◌, [], MatchOption};
 ghost use Rattle.mdnsd.specs.Scripts.{lines_of, without_return};
 ghost use Rattle.mdnsd.specs.Lines.{TakesLine};
 
-use mdns_base::cut_at;
+use number_text::cut_at;
 
 /// The first line of a text, without its line feed and one carriage return before that, and what follows. `None`
 /// exactly where the text is empty.

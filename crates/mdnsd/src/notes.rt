@@ -1,7 +1,7 @@
 // What is said on standard error: what can be typed, and which word of a line was wanted. No clause speaks of it.
 use crate::lines::next_line;
-use mdns_base::{cut_at, is_same};
 use mdns_script::{Line, read_line};
+use number_text::{cut_at, is_same};
 use std::alloc::{AllocError, Global};
 
 /// The lines of a script.

@@ -3,7 +3,8 @@ ghost use Rattle.std.specs.Prelude.{◌≡◌, ◌<◌, ◌≤◌, IfOk, length}
 ghost use Rattle.std.specs.Io.KnownBytes.{WriteAppends};
 ghost use Rattle.mdns_base.specs.Outside.{HasCause};
 
-use mdns_base::{Failed, Sink, Source, cut_at, read_decimal};
+use mdns_base::{Failed, Sink, Source};
+use number_text::{cut_at, read_decimal};
 use std::alloc::Global;
 use std::io::{ErrorKind, Read, Write};
 

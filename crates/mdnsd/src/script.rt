@@ -13,10 +13,11 @@ use crate::input::{ReadError, read_all};
 use crate::lines::next_line;
 use crate::stop::{NO_MEMORY, READ_FAULT, Stop, TOO_LARGE, status_of};
 use mdns_asserts::assertions_are_earned;
-use mdns_base::{Sink, Source, put_decimal};
+use mdns_base::{Sink, Source};
 use mdns_history::{good_calls_succeed, items_replay};
 use mdns_hub::Hub;
 use mdns_script::{Line, read_line};
+use number_text::put_decimal;
 use std::alloc::{AllocError, Global};
 
 /// Reads the script to its end and runs it line by line. The answer is the status of the program:

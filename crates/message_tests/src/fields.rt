@@ -3,7 +3,7 @@
 use crate::error::RowError;
 use dns_name::Name;
 use dns_record::{RecordError, Rr};
-use mdns_base::read_hex;
+use number_text::read_hex;
 use std::alloc::{AllocError, Global};
 
 /// The first word of a row, and what stands behind it, which may be nothing.

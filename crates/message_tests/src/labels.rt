@@ -7,7 +7,7 @@ use crate::names::put_name;
 use crate::told::{put_bytes, put_comma, put_numbered, put_text, yes_word};
 use arrayvec::ArrayString;
 use dns_name::{Label, Name, TextItem, TextItems, read_label, write_label_byte};
-use mdns_base::put_hex;
+use number_text::put_hex;
 
 /// `label ..`: the bytes of a label's text, its text items, and a byte as text.
 pub fn label_row(out: &mut Vec<u8>, row: &str) -> Result<(), RowError> {

@@ -3,7 +3,8 @@
 use crate::error::RowError;
 use crate::fields::{first_word, two_parts};
 use crate::told::put_text;
-use mdns_base::{MemSink, MemSource, Sink, Source, put_decimal, put_hex};
+use mdns_base::{MemSink, MemSource, Sink, Source};
+use number_text::{put_decimal, put_hex};
 use std::alloc::Global;
 
 /// `source ..`: a source that is made and read from, two bytes at a time.

@@ -6,7 +6,7 @@ use crate::packets::{put_filled, put_rewritten, put_write_faults};
 use crate::told::{put_comma, put_numbered, put_text};
 use dns_message::{Message, MessageError, Questions, Rrs, read};
 use dns_record::{put_kind, put_name, put_record};
-use mdns_base::put_decimal;
+use number_text::put_decimal;
 use std::alloc::{AllocError, Global};
 
 /// `message ..`: what a packet is read as, its prefixes, packets at the limits, and what a message is written as.

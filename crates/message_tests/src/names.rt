@@ -6,7 +6,7 @@ use crate::told::{
     order_word, put_bytes, put_comma, put_numbered, put_text, standing_word, yes_word,
 };
 use dns_name::{Label, Name, NameError};
-use mdns_base::{put_decimal, put_hex};
+use number_text::{put_decimal, put_hex};
 
 /// `name ..`: what a text is read as, a name's wire form, labels, parent and child, and how two names stand to each other.
 pub fn name_row(out: &mut Vec<u8>, row: &str) -> Result<(), RowError> {

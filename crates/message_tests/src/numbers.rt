@@ -3,7 +3,7 @@
 use crate::error::RowError;
 use crate::fields::{bytes_of, first_word, text_of, two_parts};
 use crate::told::{put_comma, put_text, yes_word};
-use mdns_base::{
+use number_text::{
     cut_at, is_same, put_decimal, put_hex, put_ipv4, put_ipv6, read_decimal, read_decimal_u8,
     read_decimal_u16, read_decimal_u32, read_hex, read_ipv4, read_ipv6,
 };

@@ -6,7 +6,7 @@ use crate::messages::message_of;
 use crate::told::{put_comma, put_numbered, put_text};
 use bytes::Bytes;
 use dns_message::{Message, WriteError, write};
-use mdns_base::{put_decimal, put_hex};
+use number_text::{put_decimal, put_hex};
 use std::alloc::{AllocError, Global};
 
 /// What a message is written as, `None` where that passes the limit, which is at most 8972. Want of memory is passed on.

@@ -11,8 +11,8 @@ use bytes::Bytes;
 use dns_message::{Message, Rrs};
 use dns_name::Name;
 use dns_record::{Key, Question, Rdata, Rr};
-use mdns_base::{put_decimal, put_hex};
 use mdns_pack::{Messages, Wanting, pack_legacy, pack_plain, pack_query, pack_reply};
+use number_text::{put_decimal, put_hex};
 use std::alloc::Global;
 
 /// `pack ..`: the messages of a query, of replies, of goodbyes, and of a reply in the old way.

@@ -7,7 +7,7 @@ use bytes::Bytes;
 use dns_record::{
     Key, Rdata, RecordError, Rr, matches, put_kind, rdata_cmp, read_kind, record_cmp,
 };
-use mdns_base::put_decimal;
+use number_text::put_decimal;
 use std::alloc::{AllocError, Global};
 
 /// `record ..`: what a text is read as, types, how two records stand to each other, and which a question asks for.

@@ -1,7 +1,7 @@
 // What came of a row, as words.
 
 use crate::error::RowError;
-use mdns_base::{put_decimal, put_hex};
+use number_text::{put_decimal, put_hex};
 use std::cmp::Ordering;
 
 /// Appends a text.

@@ -6,10 +6,10 @@ use crate::read::{Packet, moment, number, records, when};
 use crate::told::Told;
 use dns_name::Name;
 use dns_record::{Rr, put_record};
-use mdns_base::put_decimal;
 use mdns_cache::{Cache, HearError, Steps};
 use mdns_happened::When;
 use mdns_history::Held;
+use number_text::put_decimal;
 use std::alloc::AllocError;
 use std::sync::ledger::Ledger;
 

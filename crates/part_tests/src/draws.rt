@@ -3,8 +3,8 @@
 use crate::error::RowError;
 use crate::read::number;
 use crate::told::Told;
-use mdns_base::put_hex;
 use mdns_draw::{SeedWords, Words};
+use number_text::put_hex;
 
 /// A row of random words: `seed` and `same` say where they come from, `take` takes one, in hexadecimal.
 pub fn draw_row(told: &mut Told, words: &mut Words, row: &[&str]) -> Result<(), RowError> {

@@ -5,10 +5,10 @@ use crate::numbered::of_names;
 use crate::read::{Packet, number};
 use crate::told::Told;
 use dns_name::Name;
-use mdns_base::put_decimal;
 use mdns_cache::Steps;
 use mdns_history::Held;
 use mdns_records::Records;
+use number_text::put_decimal;
 use std::sync::ledger::Ledger;
 
 // The word of which the key of the names is made.

@@ -4,9 +4,9 @@ use crate::error::RowError;
 use crate::read::{held, key, moment, number, when};
 use crate::told::Told;
 use dns_record::{Key, put_name};
-use mdns_base::put_decimal;
 use mdns_history::{Cause, Held};
 use mdns_question::{Asker, first_refresh};
+use number_text::put_decimal;
 use std::alloc::Global;
 
 /// The questions, and the records that are held.

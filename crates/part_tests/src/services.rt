@@ -8,8 +8,8 @@ use crate::told::Told;
 use bytes::Bytes;
 use dns_name::{Label, Name};
 use dns_record::{Rdata, Rr, put_name, put_record};
-use mdns_base::{read_hex, read_ipv4, read_ipv6};
 use mdns_history::{Config, HostConfig};
+use number_text::{read_hex, read_ipv4, read_ipv6};
 use sd_name::RegType;
 use sd_service::{
     Service, host_name, host_records, is_nsec_of, nsec_of, service_name, service_records,

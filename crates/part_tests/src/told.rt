@@ -2,8 +2,8 @@
 
 use crate::error::RowError;
 use dns_record::{Rr, put_record};
-use mdns_base::put_decimal;
 use mdns_history::Cause;
+use number_text::put_decimal;
 use std::alloc::Global;
 
 /// What came of a row, as text.

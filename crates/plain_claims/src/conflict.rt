@@ -1,6 +1,6 @@
 // The conflicts of a history. (RFC 6762 8.1 and 9)
 ghost use Rattle.std.specs.Prelude.{◌≡◌, ◌++◌, ◌∷◌, replicate, IfOk, OnOk};
-ghost use Rattle.dns_name.specs.Lists.{count_where};
+ghost use Rattle.lists.specs.Lists.{count_where};
 ghost use Rattle.dns_record.specs.Conflicts.{is_stormy, is_within};
 ghost use Rattle.mdns_history.specs.Probing.{conflict_moments, is_conflict};
 ghost use Rattle.std.specs.Option.{option_copied};

@@ -3,7 +3,7 @@ use Rattle.std.proofs.Common.{◌≡◌, ℕ, ◌+◌, ◌<◌, not, List, [], �
 use Rattle.std.specs.Prelude.{filter}
 use Rattle.std.specs.List.{list_any}
 use Rattle.std.proofs.lemmas.List.{take_more}
-use Rattle.dns_name.specs.Lists.{each_once}
+use Rattle.lists.specs.Lists.{each_once}
 use Rattle.mdns_history.specs.declared.entry.Entry.{Entry}
 use Rattle.mdns_history.specs.Debts.{Debt, debts_made, is_ours, standing_debts, stays_open}
 use Rattle.plain_history.proofs.Onces.{once_more}

@@ -3,7 +3,7 @@ ghost use Rattle.std.specs.Prelude.{◌≡◌, ◌<◌, ◌^◌, ◌&&◌, filte
 ghost use Rattle.std.specs.List.{list_any};
 ghost use Rattle.mdns_base.specs.declared.host.Dest.TheVariants.{All};
 ghost use Rattle.mdns_base.specs.Hosts.{dest_eq};
-ghost use Rattle.dns_name.specs.Lists.{ordered};
+ghost use Rattle.lists.specs.Lists.{ordered};
 ghost use Rattle.dns_record.specs.Records.{record_cmp, same};
 ghost use Rattle.mdns_history.specs.Multicasts.{due_multicasts, due_unicasts, may_go, released_records};
 

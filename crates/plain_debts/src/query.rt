@@ -1,7 +1,7 @@
 // What a query is owed. (RFC 6762 6, 6.3, 7.1 and 7.2)
 ghost use Rattle.std.specs.Prelude.{◌≡◌, ◌<◌, ◌^◌, ◌++◌, Some, length, map, not, filter, IfOk, OnOk};
 ghost use Rattle.std.specs.List.{flat_map, list_all, list_any};
-ghost use Rattle.dns_name.specs.Lists.{each_once};
+ghost use Rattle.lists.specs.Lists.{each_once};
 ghost use Rattle.plain_history.specs.Kept.{kept_if};
 ghost use Rattle.mdns_history.specs.Debts.{debt_of, debts_from, debts_made, is_struck, is_unique, owed_by, owed_eq, owed_for, owed_to};
 

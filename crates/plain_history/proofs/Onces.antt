@@ -3,7 +3,7 @@ use Rattle.std.proofs.Common.{◌≡◌, ℕ, Bool, true, false, not, ◌&&◌, 
 use Rattle.std.specs.Prelude.{filter, map}
 use Rattle.std.specs.List.{list_any}
 use Rattle.std.proofs.lemmas.List.Elements.{filter-append}
-use Rattle.dns_name.specs.Lists.{each_once, count_up}
+use Rattle.lists.specs.Lists.{each_once, count_up}
 use Rattle.plain_history.specs.Kept.{kept_if}
 
 filter_kept : {X : Type 0} (p : X → Bool) (b : Bool) (x : X) → filter p (kept_if b x) ≡ kept_if (b && p x) x

@@ -1,8 +1,8 @@
 -- The live records of some hearings, where one more hearing stands behind them.
 use Rattle.std.proofs.Common.{◌≡◌, ℕ, ◌+◌, ◌<◌, nat_lt, Bool, true, false, ◌&&◌, cond, min, arith, List, [], ◌∷◌, ◌++◌, length, take, get_or, ap, sym, ◌∙◌}
 use Rattle.std.specs.Prelude.{filter, map, if◌then◌else◌}
-use Rattle.dns_name.specs.Lists.{least_of, until}
-use Rattle.dns_name.proofs.Least.{least_of-min}
+use Rattle.lists.specs.Lists.{least_of, until}
+use Rattle.lists.proofs.Least.{least_of-min}
 use Rattle.std.proofs.lemmas.List.{take_more, map-append}
 use Rattle.std.proofs.lemmas.List.Elements.{filter-append}
 use Rattle.dns_record.specs.Records.{same}

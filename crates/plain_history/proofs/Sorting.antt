@@ -4,7 +4,7 @@ use Rattle.std.specs.List.{prefix_len}
 use Rattle.std.proofs.Math.Numerals.{one-add}
 use Rattle.std.specs.Ordering.{is_lt}
 use Rattle.std.specs.declared.cmp.Ordering.{Ordering}
-use Rattle.dns_name.specs.Lists.{insert_by, sorted_by}
+use Rattle.lists.specs.Lists.{insert_by, sorted_by}
 use Rattle.plain_history.specs.Sorting.{sorted_onto}
 
 -- the last element goes in first

@@ -4,7 +4,7 @@ use mathlib.Core.List.{reverse-cons}
 use Rattle.std.specs.Prelude.{filter, map}
 use Rattle.std.specs.List.{list_all, flat_map}
 use Rattle.std.proofs.lemmas.Bool.{and_from, and_parts}
-use Rattle.dns_name.specs.Lists.{each_once}
+use Rattle.lists.specs.Lists.{each_once}
 use Rattle.dns_record.specs.declared.record.Rr.{Rr}
 use Rattle.mdns_history.specs.declared.entry.Entry.{Entry}
 use Rattle.mdns_history.specs.declared.held.Held.{Held}

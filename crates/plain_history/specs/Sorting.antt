@@ -1,7 +1,7 @@
 -- Lists put in order one by one.
 use Rattle.std.specs.Prelude.{List, [], ◌∷◌}
 use Rattle.std.specs.declared.cmp.Ordering.{Ordering}
-use Rattle.dns_name.specs.Lists.{insert_by}
+use Rattle.lists.specs.Lists.{insert_by}
 
 -- elements put into others that are in order, the last one first
 abbrev pub sorted_onto : {X : Type 0} → (X → X → Ordering) → List X → List X → List X

@@ -1,7 +1,7 @@
 // How long records live, and which are live at a moment. (RFC 6762 10, 10.1 and 10.2)
 ghost use Rattle.std.specs.Prelude.{◌≡◌, ℕ, true, ◌≤◌, ◌^◌, ◌&&◌, ◌+◌, ◌++◌, ◌∷◌, [], nat_lt, not, IfOk, OnOk, if◌then◌else◌};
 ghost use Rattle.std.specs.List.{list_any};
-ghost use Rattle.dns_name.specs.Lists.{until};
+ghost use Rattle.lists.specs.Lists.{until};
 ghost use Rattle.plain_history.specs.Kept.{kept_if};
 ghost use Rattle.plain_history.specs.Last.{are_by, are_held_by, is_last_renewal};
 ghost use Rattle.mdns_history.specs.Lifetimes.{renews, takes_back, flushes, cuts, end_from, held_from, is_live_at, live_of, live_records};

@@ -2,7 +2,7 @@
 ghost use Rattle.std.specs.Prelude.{◌≡◌, ◌≤◌, length, IfOk};
 ghost use Rattle.std.specs.List.{prefix_len};
 ghost use Rattle.std.specs.Ordering.{is_lt};
-ghost use Rattle.dns_name.specs.Lists.{ordered, sorted_by};
+ghost use Rattle.lists.specs.Lists.{ordered, sorted_by};
 ghost use Rattle.dns_record.specs.Records.{key_cmp, key_eq, record_cmp};
 
 use dns_record::{Key, Rr, record_cmp};

@@ -2,7 +2,7 @@
 ghost use Rattle.std.specs.Prelude.{◌≡◌, ◌≤◌, not, map, filter, length, IsTrue, IfOk};
 ghost use Rattle.sd_call.specs.Requests.{well_formed, with_txt};
 ghost use Rattle.txt_record.specs.Strings.{is_txt};
-ghost use Rattle.dns_name.specs.Lists.{insert_by};
+ghost use Rattle.lists.specs.Lists.{insert_by};
 ghost use Rattle.mdns_history.specs.Sessions.{after_request, updated, has_op, by_op};
 ghost use Rattle.plain_history.specs.Places.{count_below};
 

@@ -1,6 +1,6 @@
 -- What becomes of the answers of an operation between two histories.
 use Rattle.std.specs.Prelude.{ℕ, List, map}
-use Rattle.dns_name.specs.Lists.{without}
+use Rattle.lists.specs.Lists.{without}
 use Rattle.sd_call.specs.Answers.{answer_eq}
 use Rattle.sd_call.specs.declared.item.Item.{Item}
 use Rattle.sd_call.specs.declared.item.Item.TheVariants.{Add, Remove}

@@ -2,7 +2,7 @@
 ghost use Rattle.std.specs.Prelude.{◌≡◌, ◌<◌, ◌^◌, ◌++◌, [], map, length, IfOk};
 ghost use Rattle.std.specs.List.{flat_map, list_any};
 ghost use Rattle.std.specs.Option.{option_to_list};
-ghost use Rattle.dns_name.specs.Lists.{without};
+ghost use Rattle.lists.specs.Lists.{without};
 ghost use Rattle.sd_call.specs.Answers.{answer_eq};
 ghost use Rattle.sd_call.specs.declared.item.Item.TheVariants.{Add, Remove};
 ghost use Rattle.mdns_history.specs.Sessions.{operations_of};

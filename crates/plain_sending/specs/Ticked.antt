@@ -1,7 +1,7 @@
 -- What the last entry of a history sends, told by the history with the entry and the one before it.
 use Rattle.std.specs.Prelude.{ℕ, Bool, true, not, List, [], ◌∷◌, ◌++◌, map, filter}
 use Rattle.std.specs.List.{flat_map}
-use Rattle.dns_name.specs.Lists.{ordered, without}
+use Rattle.lists.specs.Lists.{ordered, without}
 use Rattle.dns_record.specs.declared.record.Rr.{Rr}
 use Rattle.dns_record.specs.Records.{record_cmp, same}
 use Rattle.dns_message.specs.Packing.{pack_plain, pack_reply}

@@ -1,7 +1,7 @@
 // Goodbyes. (RFC 6762 10.1)
 ghost use Rattle.std.specs.Prelude.{◌≡◌, ◌<◌, ◌^◌, filter, length, map, not, IfOk};
 ghost use Rattle.std.specs.List.{flat_map};
-ghost use Rattle.dns_name.specs.Lists.{ordered, without};
+ghost use Rattle.lists.specs.Lists.{ordered, without};
 ghost use Rattle.dns_record.specs.Records.{record_cmp, same};
 ghost use Rattle.mdns_history.specs.Groups.{group_records, is_group};
 ghost use Rattle.mdns_history.specs.Sureness.{own_records, sure_groups};

@@ -2,7 +2,7 @@
 ghost use Rattle.std.specs.Prelude.{◌≡◌, ◌==◌, ◌<◌, ◌+◌, ◌-◌, ◌^◌, ◌++◌, [], ◌∷◌, filter, length, slice_get, map, not, IfOk, OnOk};
 ghost use Rattle.std.specs.List.{flat_map, list_any};
 ghost use Rattle.std.specs.Option.{option_and_then, option_copied};
-ghost use Rattle.dns_name.specs.Lists.{each_once, ordered};
+ghost use Rattle.lists.specs.Lists.{each_once, ordered};
 ghost use Rattle.dns_record.specs.Records.{record_cmp};
 ghost use Rattle.dns_message.specs.Packing.{pack_legacy};
 ghost use Rattle.mdns_history.specs.Hearings.{heard_in};

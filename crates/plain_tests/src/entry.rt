@@ -4,8 +4,9 @@ use crate::row_error::RowError;
 use crate::words::{count, name, number};
 use bytes::Bytes;
 use dns_name::Label;
-use mdns_base::{Host, read_hex};
+use mdns_base::Host;
 use mdns_history::{Config, Entry, Event, Gifts, HostConfig, Marks, Outcome, Sends};
+use number_text::read_hex;
 use sd_call::{Request, Text};
 use std::alloc::Global;
 

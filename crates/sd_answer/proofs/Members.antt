@@ -10,7 +10,7 @@ use Rattle.std.proofs.lemmas.Bool.{and_from, and_parts}
 use Rattle.std.proofs.lemmas.Map.Text.{is_eq-slice_cmp}
 use Rattle.std.proofs.lemmas.Slice.Eq.{bytes_eq-Decides}
 use Rattle.dns_name.specs.Names.{folded_eq}
-use Rattle.dns_name.specs.Lists.{ordered}
+use Rattle.lists.specs.Lists.{ordered}
 use Rattle.dns_record.specs.declared.record.Rdata.{Rdata}
 use Rattle.dns_record.specs.declared.record.Rdata.TheVariants.{Ptr, Srv, Txt}
 use Rattle.dns_record.specs.declared.record.Rr.{Rr}
@@ -27,7 +27,7 @@ use Rattle.mdns_history.specs.Questions.{keys_of, key_of, address_keys, browse_k
 use Rattle.mdns_history.specs.Answers.{matching, datum_of, found_in, resolved_with, answers_from, answers_over}
 use Rattle.sd_answer.specs.Laws.{have_data, IsOrderFree, IsCountFree, HaveOneName, IsOfItsName, IsOfOneName, IsNothingUnasked}
 use Rattle.dns_name.proofs.Folding.{folded_eq-equivalence}
-use Rattle.dns_name.proofs.InOrder.{all-filter, any-filter, same-ordered}
+use Rattle.lists.proofs.InOrder.{all-filter, any-filter, same-ordered}
 use Rattle.sd_answer.proofs.Puts.{answer_cmp-total}
 use Rattle.sd_answer.proofs.Known.{answer_told}
 

@@ -2,16 +2,21 @@
 ghost use Rattle.std.specs.Prelude.{◌≡◌, [], ◌∷◌, ◌++◌, IfOk, OnOk};
 ghost use Rattle.std.specs.List.{filter_map, flat_map};
 ghost use Rattle.std.specs.List.Sorted.{IsSorted};
+ghost use Rattle.lists.specs.Lists.{ordered};
 ghost use Rattle.sd_call.specs.Answers.{answer_cmp};
 ghost use Rattle.mdns_history.specs.Questions.{keys_of};
 ghost use Rattle.mdns_history.specs.Answers.{matching, datum_of, found_in, resolved_with, resolved_pairs, answers_from, answers_over};
 ghost use Rattle.sd_answer.specs.Known.{rrs_in};
 
-use crate::{Answers, KnownRecords};
+use crate::KnownRecords;
 use bytes::Bytes;
 use dns_record::{Key, Rdata, Rr, matches_any};
-use sd_call::{Answer, Request};
+use lists::List;
+use sd_call::{Answer, Request, answer_cmp};
 use std::alloc::{AllocError, Global};
+
+/// The answers of an operation.
+pub type Answers = List<Answer>;
 
 /// The answers that known records, held or own, give to a request with its questions, each once and in the order of their bytes.
 /// Two answers are the same exactly where their bytes in a frame are. A Query and an Address are answered by the type and data of each
@@ -30,8 +35,16 @@ pub fn answers_of(
 {
     let mut answers = Answers::new(alloc);
     put_answers(&mut answers, request, questions, known)?;
-    answers.order()?;
-    Ok(answers)
+    ordered_once(answers.into_vec())
+}
+
+// Answers in order, of those of the same bytes the first alone. Refused only for want of memory.
+fn ordered_once(mut answers: Vec<Answer>) -> Result<Answers, AllocError>
+    ensures { IfOk result (λ ordered. ordered ≡ ordered answer_cmp answers.items) }
+{
+    answers.sort_by(|left, right| answer_cmp(left, right))?;
+    answers.dedup_by(|later, kept| answer_cmp(later, kept).is_eq());
+    Ok(Answers::from_vec(answers))
 }
 
 /// The type SRV. (RFC 2782)

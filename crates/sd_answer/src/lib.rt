@@ -4,12 +4,10 @@
 mod agree;
 mod answers;
 mod laws;
-mod lists;
 mod questions;
 mod records;
 
-pub use answers::answers_of;
+pub use answers::{Answers, answers_of};
 pub use laws::{answers_are_in_order, only_matching_records_matter, order_of_records_is_free};
-pub use lists::Answers;
 pub use questions::{questions_of, touches};
 pub use records::KnownRecords;

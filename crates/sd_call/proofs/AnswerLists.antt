@@ -7,8 +7,8 @@ use Rattle.std.specs.Ordering.{nat_cmp, is_lt, is_eq, eq_by_cmp}
 use Rattle.std.specs.Cmp.{eq_by_cmp_equiv, Equal-is}
 use Rattle.std.specs.Cmp.Lexicographic.{slice_cmp, nat_list_cmp_total}
 use Rattle.std.specs.FinSet as set
-use Rattle.dns_name.specs.Lists.{each_once, insert_by, sorted_by, ordered, without}
-use Rattle.dns_name.proofs.InOrder.{none-filter, any-insert, any-sorted}
+use Rattle.lists.specs.Lists.{each_once, insert_by, sorted_by, ordered, without}
+use Rattle.lists.proofs.InOrder.{none-filter, any-insert, any-sorted}
 use Rattle.sd_call.specs.declared.answer.Answer.{Answer}
 use Rattle.sd_call.specs.Answers.{answer_bytes, answer_cmp, answer_eq}
 

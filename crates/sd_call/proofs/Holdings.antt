@@ -11,7 +11,7 @@ use Rattle.std.specs.FinMap as fin
 use Rattle.std.specs.FinSet as set
 use Rattle.std.proofs.lemmas.List.Folds.{list_any-append}
 use Rattle.std.proofs.lemmas.Bool.{and_parts, not-true, or_parts}
-use Rattle.dns_name.proofs.InOrder.{any-filter, none-filter}
+use Rattle.lists.proofs.InOrder.{any-filter, none-filter}
 use Rattle.sd_call.specs.declared.answer.Answer.{Answer}
 use Rattle.sd_call.specs.declared.replayed.Kept.{Kept}
 use Rattle.sd_call.specs.declared.item.Item.TheVariants.{Add, Remove}

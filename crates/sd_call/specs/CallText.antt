@@ -2,7 +2,7 @@
 use Rattle.std.specs.Prelude.{ℕ, ◌==◌, Bool, true, false, List, [], ◌∷◌, ◌++◌, decimal, codes, if◌then◌else◌}
 use Rattle.std.specs.List.{flat_map}
 use Rattle.std.specs.Fmt.{signed_decimal}
-use Rattle.mdns_base.specs.Digits.{hex_text}
+use Rattle.number_text.specs.Digits.{hex_text}
 use Rattle.dns_name.specs.NameText.{name_text, label_text, byte_text}
 use Rattle.dns_record.specs.Records.{kind_of}
 use Rattle.dns_record.specs.RecordText.{space, kind_text, data_text, srv_text}

@@ -8,7 +8,7 @@ use crate::{Answer, Item, Request, Text, Verb, put_label, put_type};
 use dns_name::Name;
 use dns_record::{put_kind, put_name, put_rdata, put_srv};
 use itoa::Buffer;
-use mdns_base::{put_decimal, put_hex};
+use number_text::{put_decimal, put_hex};
 use std::alloc::AllocError;
 
 /// Appends the text of a request, with TXT data in hexadecimal. Refused only for want of memory.

@@ -3,7 +3,7 @@ use Rattle.std.proofs.Common.{◌≡◌, eqb, Bool, true, false, cond, List, [],
 use Rattle.std.specs.List.{list_any}
 use Rattle.std.proofs.lemmas.Bool.{and_parts, and_from, eqb-true, eq-eqb}
 use Rattle.std.proofs.lemmas.List.Sorted.{IsPermutation-refl, IsPermutation-trans, IsPermutation-cons, IsPermutation-append_left, IsPermutation-append_comm}
-use Rattle.mdns_base.proofs.Permutations.{along_permutation}
+use Rattle.lists.proofs.Permutations.{along_permutation}
 use Rattle.sd_index.specs.declared.asker.Asker.{Asker}
 use Rattle.sd_index.specs.Asked.{asker_eq}
 

@@ -5,7 +5,7 @@ use Rattle.std.specs.Str.{bytes_eq}
 use Rattle.std.proofs.lemmas.Bool.{and_parts, and_from, ne_eqb}
 use Rattle.std.proofs.lemmas.List.{length-map, append_cancel_left, append_cancel_right}
 use Rattle.std.proofs.lemmas.Slice.Eq.{bytes_eq-Decides}
-use Rattle.dns_name.specs.Lists.{count_up}
+use Rattle.lists.specs.Lists.{count_up}
 use Rattle.dns_name.specs.Names.{wire_of, is_name}
 use Rattle.dns_name.proofs.Folding.{same_tests}
 use Rattle.dns_record.specs.declared.record.Rdata.{Rdata}

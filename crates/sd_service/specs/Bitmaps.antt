@@ -1,7 +1,7 @@
 -- Which records have types that stand in a bitmap. (RFC 4034 4.1.2)
 use Rattle.std.specs.Prelude.{ℕ, ◌+◌, ◌/◌, nat_lt, max, Bool, ◌&&◌, List, map, fold, IsTrue}
 use Rattle.std.specs.List.{list_all}
-use Rattle.dns_name.specs.Lists.{count_up}
+use Rattle.lists.specs.Lists.{count_up}
 use Rattle.dns_record.specs.declared.record.Rr.{Rr}
 use Rattle.dns_record.specs.Records.{kind_of}
 use Rattle.mdns_history.specs.declared.entry.Entry.{Entry}

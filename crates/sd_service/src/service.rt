@@ -1,6 +1,6 @@
 // The records of a service.
 ghost use Rattle.std.specs.Prelude.{◌≡◌, ◌≤◌, ◌∷◌, ◌++◌, [], List, length, map, take, true, false, OnOk, IfOk};
-ghost use Rattle.dns_name.specs.Lists.{ordered};
+ghost use Rattle.lists.specs.Lists.{ordered};
 ghost use Rattle.dns_record.specs.declared.record.Rr.{Rr};
 ghost use Rattle.dns_record.specs.declared.record.Rdata.TheVariants as rdata;
 ghost use Rattle.dns_record.specs.Records.{record_cmp};

@@ -182,7 +182,7 @@ module _ (numbers : List ℕ) (around : Around) (before : List Operation) where
         (h none).1,
       )
 
-  covered-insert : (o : Operation) (os : List Operation) → has_one numbers o.op ≡ true → AllByRecursion Covered os → AllByRecursion Covered (Rattle.dns_name.specs.Lists.insert_by Rattle.mdns_history.specs.Sessions.by_op o os)
+  covered-insert : (o : Operation) (os : List Operation) → has_one numbers o.op ≡ true → AllByRecursion Covered os → AllByRecursion Covered (Rattle.lists.specs.Lists.insert_by Rattle.mdns_history.specs.Sessions.by_op o os)
   covered-insert o os has all = all-insert Covered o os (λ none. absurd (true≢false (sym has ∙ none))) all
 
   -- The operations that a call leaves are covered where it is.

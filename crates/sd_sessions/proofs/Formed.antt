@@ -6,7 +6,7 @@ use Rattle.sd_sessions.specs.Answered.{Answering}
 use Rattle.sd_sessions.specs.Sessions.{Session}
 use Rattle.std.specs.Prelude.{filter, IsTrue, ◌==◌}
 use Rattle.std.specs.Ordering.{is_lt}
-use Rattle.dns_name.specs.Lists.{insert_by}
+use Rattle.lists.specs.Lists.{insert_by}
 use Rattle.sd_call.specs.declared.request.Request.{Request}
 use Rattle.sd_call.specs.declared.request.Request.TheVariants as request
 use Rattle.sd_name.specs.ServiceTypes.{service_type, is_service_label}

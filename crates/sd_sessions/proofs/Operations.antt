@@ -4,7 +4,7 @@ use Rattle.std.specs.Prelude.{filter, nat_lt}
 use Rattle.std.specs.List.{list_all, find}
 use Rattle.std.specs.Ordering.{int_eq, is_lt}
 use Rattle.std.proofs.Common.{Less, Equal, Greater}
-use Rattle.dns_name.specs.Lists.{insert_by, count_up}
+use Rattle.lists.specs.Lists.{insert_by, count_up}
 use Rattle.sd_call.specs.declared.request.Request.{Request}
 use Rattle.sd_call.specs.declared.request.Request.TheVariants as request
 use Rattle.sd_call.specs.Requests.{no_error, is_start}

@@ -3,7 +3,7 @@ use Rattle.std.proofs.Common.{◌≡◌, ℕ, ◌<◌, ◌==◌, Bool, true, fal
 use Rattle.std.specs.Prelude.{nat_lt}
 use Rattle.std.specs.List.{find, list_all, AllByRecursion}
 use Rattle.std.specs.Ordering.{is_lt}
-use Rattle.dns_name.specs.Lists.{insert_by}
+use Rattle.lists.specs.Lists.{insert_by}
 use Rattle.dns_record.specs.declared.record.Key.{Key}
 use Rattle.dns_record.specs.declared.record.Rr.{Rr}
 use Rattle.sd_call.specs.declared.request.Request.{Request}

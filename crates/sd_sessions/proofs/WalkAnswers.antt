@@ -7,7 +7,7 @@ use Rattle.std.proofs.lemmas.List.Elements.{filter-append}
 use Rattle.std.proofs.lemmas.Map.Text.{is_eq-slice_cmp}
 use Rattle.std.proofs.lemmas.Slice.Eq.{bytes_eq-Decides}
 use Rattle.dns_name.specs.Names.{folded_eq}
-use Rattle.dns_name.specs.Lists.{without}
+use Rattle.lists.specs.Lists.{without}
 use Rattle.dns_name.proofs.Folding.{folded_eq-equivalence}
 use Rattle.dns_record.specs.declared.record.Key.{Key}
 use Rattle.dns_record.specs.declared.record.Rr.{Rr}

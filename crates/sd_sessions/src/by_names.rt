@@ -3,7 +3,7 @@ ghost use Rattle.std.specs.Prelude.{◌≡◌, ◌||◌, ◌++◌, [], List, map
 ghost use Rattle.std.specs.List.{AllByRecursion};
 ghost use Rattle.std.specs.List.Sorted.{IsSorted};
 ghost use Rattle.std.specs.Option.{option_copied, option_to_list};
-ghost use Rattle.dns_name.specs.Lists.{without};
+ghost use Rattle.lists.specs.Lists.{without};
 ghost use Rattle.sd_call.specs.declared.answer.Answer.{Answer};
 ghost use Rattle.sd_call.specs.declared.item.Item.TheVariants as item;
 ghost use Rattle.sd_call.specs.Answers.{answer_cmp, answer_eq};

@@ -2,7 +2,7 @@
 ghost use Rattle.std.specs.Prelude.{◌≡◌, ◌++◌, map, OnOk};
 ghost use Rattle.std.specs.List.{list_any};
 ghost use Rattle.std.specs.List.Sorted.{IsSorted};
-ghost use Rattle.dns_name.specs.Lists.{without};
+ghost use Rattle.lists.specs.Lists.{without};
 ghost use Rattle.sd_call.specs.declared.item.Item.TheVariants as item;
 ghost use Rattle.sd_call.specs.Answers.{answer_cmp, answer_eq};
 

@@ -1,7 +1,7 @@
 // What a call makes of the operations of its session.
 ghost use Rattle.std.specs.Prelude.{◌≡◌, ◌<◌, ◌≤◌, not, map, filter, length, position, true, vec_len, vec_capacity};
 ghost use Rattle.std.specs.Option.{is_some};
-ghost use Rattle.dns_name.specs.Lists.{insert_by};
+ghost use Rattle.lists.specs.Lists.{insert_by};
 ghost use Rattle.sd_call.specs.Requests.{with_txt};
 ghost use Rattle.mdns_history.specs.Sessions.{after_request, updated, has_op, by_op};
 ghost use Rattle.sd_sessions.specs.Kept.{AreRising};

@@ -2,13 +2,11 @@
 #![tactic(auto)]
 
 mod error;
-mod octets;
 mod pair;
 mod strings;
 mod txt;
 
 pub use error::TxtError;
-pub use octets::Octets;
-pub use pair::{Found, Pair};
+pub use pair::{Found, Octets, Pair};
 pub use strings::{Strings, is_txt};
 pub use txt::Txt;

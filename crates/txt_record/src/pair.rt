@@ -3,9 +3,13 @@ ghost use Rattle.std.specs.List.{list_all};
 ghost use Rattle.txt_record.specs.Strings.{txt_data};
 ghost use Rattle.txt_record.specs.Pairs.{is_equals, is_key, is_key_byte, key_of, value_of, has_key, entry_of, is_entry, entries_of, pairs_refusal};
 
+use crate::TxtError;
 use crate::strings::MAX_LEN;
-use crate::{Octets, TxtError};
+use lists::List;
 use std::alloc::AllocError;
+
+/// A list of bytes.
+pub type Octets = List<u8>;
 
 /// A key, and the value that stands behind its `=`, if it has one. (RFC 6763 section 6.4)
 #[derive(Drop)]

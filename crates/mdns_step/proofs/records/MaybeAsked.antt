@@ -5,7 +5,7 @@ use Rattle.std.specs.List.{list_any, flat_map}
 use Rattle.std.specs.Option.{is_some, option_to_list}
 use Rattle.std.proofs.lemmas.Bool.{and_parts, or_left, or_right}
 use Rattle.dns_name.specs.Names.{folded_eq}
-use Rattle.dns_name.specs.Lists.{least}
+use Rattle.lists.specs.Lists.{least}
 use Rattle.dns_record.specs.Records.{matches, any_kind, kind_of}
 use Rattle.mdns_base.specs.Hosts.{mdns_port}
 use Rattle.mdns_history.specs.declared.held.Held.{Held}

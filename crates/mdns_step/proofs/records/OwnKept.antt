@@ -5,9 +5,9 @@ use Rattle.std.proofs.lemmas.Bool.{and_from, and_parts}
 use Rattle.std.proofs.lemmas.List.{map-append}
 use Rattle.std.proofs.lemmas.List.Elements.{Contains-append_left, Contains-append_right, Contains-append_cases, Contains-push_cases}
 use Rattle.dns_name.specs.Names.{folded_eq}
-use Rattle.dns_name.specs.Lists.{ordered}
+use Rattle.lists.specs.Lists.{ordered}
 use Rattle.dns_name.proofs.Folding.{folded_eq-equivalence}
-use Rattle.dns_name.proofs.InOrder.{all-filter}
+use Rattle.lists.proofs.InOrder.{all-filter}
 use Rattle.dns_record.specs.declared.record.Rr.{Rr}
 use Rattle.dns_record.specs.declared.record.Key.{Key}
 use Rattle.dns_record.specs.Records.{identity_of, matches, any_kind, kind_of, same}

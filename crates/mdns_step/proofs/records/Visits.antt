@@ -4,7 +4,7 @@ use Rattle.std.specs.Prelude.{filter}
 use Rattle.std.specs.List.{sum_by, AllByRecursion, IsDistinct}
 use Rattle.std.proofs.lemmas.List.Sums.{sum_by-cons}
 use Rattle.std.proofs.lemmas.Map.Made.{length-le_from_is_member, is_member-filter}
-use Rattle.dns_name.specs.Lists.{each_once}
+use Rattle.lists.specs.Lists.{each_once}
 use Rattle.dns_name.specs.Names.{folded_eq}
 use Rattle.dns_name.proofs.Folding.{folded_eq-equivalence}
 use Rattle.mdns_history.specs.declared.held.Held.{Held}

@@ -4,11 +4,11 @@ use Rattle.std.specs.List.{flat_map, list_all}
 use Rattle.std.specs.List.Sorted.{IsPermutation}
 use Rattle.std.specs.Option.{option_map}
 use Rattle.std.proofs.lemmas.List.Sorted.{IsPermutation-map, IsPermutation-trans}
-use Rattle.dns_name.specs.Lists.{least, least_of}
-use Rattle.dns_name.proofs.Least.{least_of-min, least_of-append}
+use Rattle.lists.specs.Lists.{least, least_of}
+use Rattle.lists.proofs.Least.{least_of-min, least_of-append}
 use Rattle.dns_message.specs.Writing.{is_spellable_data}
 use Rattle.dns_record.specs.declared.record.Rr.{Rr}
-use Rattle.mdns_base.proofs.Permutations.{along_permutation}
+use Rattle.lists.proofs.Permutations.{along_permutation}
 use Rattle.mdns_history.specs.declared.held.Held.{Held}
 use Rattle.mdns_history.specs.declared.entry.Entry.{Entry}
 use Rattle.mdns_history.specs.History.{now}

@@ -27,7 +27,7 @@ use Rattle.mdns_step.specs.State.{State, Stands, reply_moments, due_of}
 use Rattle.sd_sessions.specs.Sessions.{Session, session_in}
 use Rattle.sd_sessions.specs.Codes.{has_number}
 use Rattle.mdns_question.specs.Next.{next_of}
-use Rattle.dns_name.specs.Lists.{least}
+use Rattle.lists.specs.Lists.{least}
 use Rattle.mdns_step.proofs.ticks.Due.{due-held}
 use Rattle.mdns_step.proofs.ticks.Quiet.{is_idle-kept}
 use Rattle.mdns_claims.specs.State.{Contents}

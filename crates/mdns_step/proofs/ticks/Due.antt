@@ -6,7 +6,7 @@ use Rattle.std.specs.Prelude.{filter, nat_lt}
 use Rattle.std.specs.List.{list_any, list_all}
 use Rattle.std.specs.List.Sorted.{IsPermutation}
 use Rattle.std.specs.Option.{option_map}
-use Rattle.dns_name.specs.Lists.{least, least_of}
+use Rattle.lists.specs.Lists.{least, least_of}
 use Rattle.mdns_history.specs.declared.held.Held.{Held}
 use Rattle.mdns_history.specs.declared.entry.Entry.{Entry}
 use Rattle.mdns_history.specs.History.{now}
@@ -15,7 +15,7 @@ use Rattle.mdns_history.specs.Lifetimes.{is_live_at, live_records}
 use Rattle.mdns_history.specs.Asking.{tick_askings}
 use Rattle.mdns_history.specs.Due.{is_nothing, ends_none, is_idle, NextDue}
 use Rattle.mdns_history.proofs.LifetimeSteps.{live_of-later}
-use Rattle.mdns_base.proofs.Permutations.{IsPermutation-filter}
+use Rattle.lists.proofs.Permutations.{IsPermutation-filter}
 use Rattle.mdns_question.specs.declared.tracked.Tracked.{Tracked}
 use Rattle.mdns_question.specs.Tracking.{due_at}
 use Rattle.mdns_question.specs.Next.{next_of}

@@ -5,7 +5,7 @@ use Rattle.std.proofs.Math.Bool.{and-false}
 use Rattle.std.specs.Prelude.{filter, nat_lt, zip}
 use Rattle.std.specs.List.{flat_map}
 use Rattle.dns_message.specs.Packing.{pack_query, pack_reply, parts_from, fits, bare_reply, answers_in as part_answers, replies_of, Wanting}
-use Rattle.dns_name.specs.Lists.{ordered}
+use Rattle.lists.specs.Lists.{ordered}
 use Rattle.dns_record.specs.declared.record.Rr.{Rr}
 use Rattle.dns_record.specs.Records.{record_cmp}
 use Rattle.sd_call.specs.Answers.{frames_len}

@@ -1,6 +1,6 @@
 use Rattle.std.proofs.Common.{◌≡◌, take}
 use Rattle.std.specs.List.{flat_map}
-use Rattle.dns_name.specs.Lists.{least}
+use Rattle.lists.specs.Lists.{least}
 use Rattle.mdns_claimants.specs.Due.{next_in}
 use Rattle.mdns_claimants.proofs.moment.first_due.Given as goal
 

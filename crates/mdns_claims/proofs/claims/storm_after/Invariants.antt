@@ -1,5 +1,5 @@
 use Rattle.std.proofs.Common.{◌≡◌, drop}
-use Rattle.dns_name.specs.Lists.{count_where}
+use Rattle.lists.specs.Lists.{count_where}
 use Rattle.mdns_history.specs.Probing.{is_conflict}
 use Rattle.mdns_claims.specs.Behind.{noted_times}
 use Rattle.mdns_claims.proofs.claims.storm_after.Given as goal

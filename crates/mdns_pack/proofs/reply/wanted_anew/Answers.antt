@@ -2,7 +2,7 @@ use Rattle.std.proofs.Common.{◌∙◌, ap, ◌++◌, List, rules}
 use Rattle.std.proofs.lemmas.Fn.{filter_same}
 use Rattle.std.specs.List.{list_any}
 use Rattle.std.specs.Prelude.{not}
-use Rattle.dns_name.specs.Lists.{without}
+use Rattle.lists.specs.Lists.{without}
 use Rattle.dns_record.specs.declared.record.Rr.{Rr}
 use Rattle.dns_record.specs.Records.{same}
 use Rattle.mdns_pack.proofs.Replies.{all_added}

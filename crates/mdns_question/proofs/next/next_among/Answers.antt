@@ -1,6 +1,6 @@
 use Rattle.std.proofs.Common.{◌∙◌, ◌<◌, ◌+◌, sym, ap, subst, drop, length}
 use Rattle.std.specs.Prelude.{filter}
-use Rattle.dns_name.specs.Lists.{least_of}
+use Rattle.lists.specs.Lists.{least_of}
 use Rattle.mdns_question.specs.Next.{is_open}
 use Rattle.mdns_question.proofs.Loops.{least_of-filter_at}
 use Rattle.mdns_question.proofs.next.next_among.Goals as goal

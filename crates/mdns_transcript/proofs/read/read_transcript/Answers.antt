@@ -1,5 +1,5 @@
 use Rattle.std.proofs.Common.{◌≡◌, ℕ, ◌+◌, ◌<◌, Bool, List, [], None, length, ap, sym, ◌∙◌, subst, arith}
-use Rattle.mdns_base.specs.Cut.{cut_of}
+use Rattle.number_text.specs.Cut.{cut_of}
 use Rattle.mdns_script.proofs.ReadBytes.{bytes_from}
 use Rattle.mdns_lines.specs.ReadLines.{line_read}
 use Rattle.mdns_transcript.specs.Leading.{IsBadAt}

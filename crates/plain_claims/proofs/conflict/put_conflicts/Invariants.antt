@@ -1,6 +1,6 @@
 use Rattle.std.proofs.Common.{◌≡◌, ◌++◌, drop}
 use Rattle.std.specs.Prelude.{replicate}
-use Rattle.dns_name.specs.Lists.{count_where}
+use Rattle.lists.specs.Lists.{count_where}
 use Rattle.mdns_history.specs.Probing.{is_conflict}
 use Rattle.plain_claims.proofs.conflict.put_conflicts.Given as goal
 

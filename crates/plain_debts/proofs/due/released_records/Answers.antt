@@ -1,6 +1,6 @@
 use Rattle.std.proofs.Common.{◌∙◌, List, map, ap}
 use Rattle.std.specs.Prelude.{filter}
-use Rattle.dns_name.specs.Lists.{ordered}
+use Rattle.lists.specs.Lists.{ordered}
 use Rattle.dns_record.specs.Records.{record_cmp}
 use Rattle.mdns_history.specs.Debts.{Debt}
 use Rattle.mdns_history.specs.Multicasts.{may_go, released_records}

@@ -1,5 +1,5 @@
 use Rattle.std.proofs.Common.{◌≡◌, take}
-use Rattle.dns_name.specs.Lists.{each_once}
+use Rattle.lists.specs.Lists.{each_once}
 use Rattle.mdns_history.specs.Debts.{owed_eq}
 use Rattle.plain_debts.proofs.query.once.Given as goal
 

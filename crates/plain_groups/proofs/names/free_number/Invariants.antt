@@ -1,6 +1,6 @@
 use Rattle.std.proofs.Common.{◌≡◌, ◌+◌, ◌-◌, ◌≤◌, not, length}
 use Rattle.std.specs.List.{find}
-use Rattle.dns_name.specs.Lists.{count_up}
+use Rattle.lists.specs.Lists.{count_up}
 use Rattle.mdns_history.specs.Groups.{is_taken, numbered_name}
 use Rattle.plain_groups.proofs.names.free_number.Given as goal
 

@@ -1,5 +1,5 @@
 use Rattle.std.proofs.Common.{◌≡◌, ◌∙◌, ◌+◌, List, drop, false, ap, sym}
-use Rattle.dns_name.specs.Lists.{least_of}
+use Rattle.lists.specs.Lists.{least_of}
 use Rattle.mdns_history.specs.Hearings.{Hearing}
 use Rattle.mdns_history.specs.Lifetimes.{renews}
 use Rattle.plain_history.proofs.Onces.{drop_front}

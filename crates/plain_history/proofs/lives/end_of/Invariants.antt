@@ -1,6 +1,6 @@
 use Rattle.std.proofs.Common.{◌≡◌, ◌+◌, drop}
 use Rattle.std.specs.Prelude.{map, filter}
-use Rattle.dns_name.specs.Lists.{least_of, until}
+use Rattle.lists.specs.Lists.{least_of, until}
 use Rattle.mdns_history.specs.Hearings.{Hearing}
 use Rattle.mdns_history.specs.Lifetimes.{renews, cuts, end_from}
 use Rattle.plain_history.proofs.lives.end_of.Given as goal

@@ -1,6 +1,6 @@
 use Rattle.std.proofs.Common.{◌≡◌, ◌∙◌, ◌+◌, ◌-◌, ◌++◌, ℕ, List, ap, arith}
 use Rattle.std.specs.Prelude.{filter}
-use Rattle.dns_name.specs.Lists.{count_up}
+use Rattle.lists.specs.Lists.{count_up}
 use Rattle.mdns_history.specs.Sessions.{is_attached, opened_count}
 use Rattle.plain_history.proofs.Onces.{counted_front}
 use Rattle.plain_history.proofs.sessions.attached_sessions.Goals as goal

@@ -1,6 +1,6 @@
 use Rattle.std.proofs.Common.{◌≡◌, ◌+◌, ◌-◌, ◌++◌}
 use Rattle.std.specs.Prelude.{filter}
-use Rattle.dns_name.specs.Lists.{count_up}
+use Rattle.lists.specs.Lists.{count_up}
 use Rattle.mdns_history.specs.Sessions.{is_attached, opened_count, attached_sessions}
 use Rattle.plain_history.proofs.sessions.attached_sessions.Given as goal
 

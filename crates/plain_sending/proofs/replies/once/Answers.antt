@@ -1,7 +1,7 @@
 use Rattle.std.proofs.Common.{◌≡◌, ◌∙◌, ◌+◌, ◌<◌, ◌++◌, ◌==◌, ℕ, not, List, length, take, get_or, ap, sym}
 use Rattle.std.specs.List.{list_any}
 use Rattle.std.proofs.lemmas.List.{take_more}
-use Rattle.dns_name.specs.Lists.{each_once}
+use Rattle.lists.specs.Lists.{each_once}
 use Rattle.plain_history.proofs.Onces.{once_more}
 use Rattle.plain_history.specs.Kept.{kept_if}
 use Rattle.plain_sending.proofs.replies.once.Goals as goal

@@ -1,5 +1,5 @@
 use Rattle.std.proofs.Common.{◌≡◌, ◌==◌, ℕ, take}
-use Rattle.dns_name.specs.Lists.{each_once}
+use Rattle.lists.specs.Lists.{each_once}
 use Rattle.plain_sending.proofs.replies.once.Given as goal
 
 abbrev pub invariant-loop-index : goal.invariant-loop-index

@@ -1,5 +1,5 @@
 use Rattle.std.proofs.Common.{◌≡◌, ◌∷◌, map}
-use Rattle.dns_name.specs.Lists.{count_up}
+use Rattle.lists.specs.Lists.{count_up}
 use Rattle.mdns_history.specs.Debts.{bitmap_byte}
 use Rattle.sd_service.specs.Bitmaps.{kinds_of}
 use Rattle.sd_service.proofs.nsec.bitmap_of.Given as goal

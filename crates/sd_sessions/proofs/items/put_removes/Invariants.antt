@@ -1,5 +1,5 @@
 use Rattle.std.proofs.Common.{◌≡◌, ◌++◌, take, map}
-use Rattle.dns_name.specs.Lists.{without}
+use Rattle.lists.specs.Lists.{without}
 use Rattle.sd_call.specs.declared.item.Item.TheVariants as item
 use Rattle.sd_call.specs.Answers.{answer_eq}
 use Rattle.sd_sessions.proofs.items.put_removes.Given as goal

@@ -1,7 +1,7 @@
 use Rattle.std.proofs.Common.{◌≡◌, ◌∙◌, sym, ap, arith}
 use Rattle.std.specs.Prelude.{IsTrue, slice_get}
 use Rattle.dns_name.specs.Names.{is_label}
-use Rattle.dns_name.proofs.Places.{walked, ended, answered}
+use Rattle.lists.proofs.Places.{walked, ended, answered}
 use Rattle.dns_name.proofs.name.Name.label.Goals as goal
 
 pub loop-preserved : goal.loop-preserved

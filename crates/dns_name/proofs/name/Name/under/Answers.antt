@@ -1,7 +1,7 @@
 use Rattle.std.proofs.Common.{◌≡◌, ◌∙◌, ◌+◌, ◌-◌, sym, arith}
 use Rattle.std.specs.Prelude.{IsTrue}
 use Rattle.dns_name.specs.Names.{is_label, is_under}
-use Rattle.dns_name.proofs.Places.{stepped}
+use Rattle.lists.proofs.Places.{stepped}
 use Rattle.dns_name.proofs.Endings.{under_value, under_ends, too_short}
 use Rattle.dns_name.proofs.name.Name.under.Goals as goal
 

@@ -1,5 +1,5 @@
 use Rattle.std.proofs.Common.{◌∙◌, map, ap}
-use Rattle.dns_name.specs.Lists.{least}
+use Rattle.lists.specs.Lists.{least}
 use Rattle.mdns_question.specs.Refreshing.{moment_of}
 use Rattle.mdns_asking.specs.State.{State}
 use Rattle.mdns_asking.proofs.Timed.{moments_timed}

@@ -3,7 +3,7 @@ use Rattle.std.specs.Prelude.{ℕ}
 use Rattle.std.specs.List.{flat_map}
 use Rattle.mdns_claims.specs.Behind.{next_in}
 use Rattle.std.specs.Option.{option_map}
-use Rattle.dns_name.specs.Lists.{least}
+use Rattle.lists.specs.Lists.{least}
 use Rattle.mdns_step.specs.InForce.{in_force}
 use Rattle.mdns_history.specs.declared.held.Held.{Held}
 use Rattle.mdns_history.specs.Due.{NextDue}

@@ -1,5 +1,5 @@
 use Rattle.std.proofs.Common.{◌∙◌, sym, ap, map, drop, ◌+◌, min}
-use Rattle.dns_name.specs.Lists.{least_of}
+use Rattle.lists.specs.Lists.{least_of}
 use Rattle.mdns_debts.specs.Following.{moment_of}
 use Rattle.mdns_owing.specs.Owing.{last_in}
 use Rattle.mdns_owing.proofs.Firsts.{least_more}

@@ -1,5 +1,5 @@
 use Rattle.std.proofs.Common.{◌≡◌, map, drop}
-use Rattle.dns_name.specs.Lists.{least_of}
+use Rattle.lists.specs.Lists.{least_of}
 use Rattle.mdns_debts.specs.Following.{moment_of}
 use Rattle.mdns_owing.specs.Owing.{last_in}
 use Rattle.mdns_owing.proofs.query.Query.next_due.Given as goal

@@ -1,5 +1,5 @@
 use Rattle.std.proofs.Common.{◌≡◌, [], map}
-use Rattle.dns_name.specs.Lists.{without}
+use Rattle.lists.specs.Lists.{without}
 use Rattle.dns_record.specs.Records.{same}
 use Rattle.mdns_history.specs.Sending.{taken_back}
 use Rattle.mdns_happened.specs.Told.{told_by}

@@ -1,5 +1,5 @@
 use Rattle.std.proofs.Common.{ap, ◌∙◌, sym, map}
-use Rattle.dns_name.specs.Lists.{least}
+use Rattle.lists.specs.Lists.{least}
 use Rattle.mdns_timer.specs.Timing.{Timing}
 use Rattle.mdns_timer.proofs.Pairs.{least_moment}
 use Rattle.mdns_timer.proofs.timers.Timers.least.Goals as goal

@@ -1,0 +1,4 @@
+pub mod InOrder
+pub mod Least
+pub mod Places
+pub mod Permutations

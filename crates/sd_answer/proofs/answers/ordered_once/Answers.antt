@@ -1,0 +1,16 @@
+use Rattle.std.proofs.Common.{◌∙◌, rules, ap}
+use Rattle.std.specs.Ordering.{is_lt, is_eq}
+use Rattle.std.proofs.lemmas.Fn.{dedup_same}
+use Rattle.std.proofs.lemmas.List.Sorted.{ranks_by, answers_always}
+use Rattle.lists.specs.Lists.{ordered}
+use Rattle.sd_call.specs.Answers.{answer_cmp}
+use Rattle.lists.proofs.InOrder.{sorted-once}
+use Rattle.sd_answer.proofs.Puts.{answer_cmp-total}
+use Rattle.sd_answer.proofs.answers.ordered_once.Goals as goal
+
+pub returns : goal.returns
+returns c =
+    dedup_same _ (λ x y. is_eq (answer_cmp x y)) _ (λ x y b f' x' y' k. search rules) _ _ c.dedup_by.ensures.filtered
+    ∙ sorted-once answer_cmp answer_cmp-total _ _
+    (c.in_ok-sort_by.ensures.sorted (λ x y. is_lt (answer_cmp x y)) (ranks_by answer_cmp-total (λ x. x)) (answers_always _ _ _ (λ f a r f' k. ap is_lt (search rules))))
+    (c.in_ok-sort_by.ensures.stable (λ x y. is_lt (answer_cmp x y)) (ranks_by answer_cmp-total (λ x. x)) (answers_always _ _ _ (λ f a r f' k. ap is_lt (search rules))))
