@@ -1,4 +1,6 @@
 pub mod InOrder
+pub mod SortedOnce
+pub mod PutBehind
 pub mod Least
 pub mod Places
 pub mod Permutations

@@ -22,7 +22,8 @@ use Rattle.mdns_question.specs.Standing.{uses}
 use Rattle.sd_sessions.specs.Sessions.{sessions_in}
 use Rattle.mdns_asking.specs.Asked.{begun_keys, ended_keys}
 use Rattle.sd_sessions.proofs.Operations.{accepted-late}
-use Rattle.mdns_asking.proofs.KeyLists.{IsStrict, looked, key_eq-same, has_ordered, strict_ordered, strict_given, looked_given}
+use Rattle.mdns_asking.proofs.KeyOrder.{key_eq-same}
+use Rattle.mdns_asking.proofs.KeyLists.{IsStrict, looked, has_ordered, strict_ordered, strict_given, looked_given}
 use Rattle.mdns_asking.proofs.KeyUses.{IsMove, times, uses-next}
 
 -- a question is active where it is used

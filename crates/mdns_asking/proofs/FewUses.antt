@@ -30,7 +30,7 @@ use Rattle.mdns_question.specs.Tracking.{one_more}
 use Rattle.sd_sessions.proofs.EntryParts.{marked, entry_after}
 use Rattle.sd_sessions.proofs.Attached.{attached_sessions-next, attached-opened, attached-ended, attached-kept}
 use Rattle.sd_sessions.proofs.Operations.{operations_of-next}
-use Rattle.mdns_asking.proofs.KeyLists.{key_eq-same}
+use Rattle.mdns_asking.proofs.KeyOrder.{key_eq-same}
 use Rattle.mdns_asking.proofs.KeyUses.{times, times-append, asked_by, asked_by-append}
 
 -- a request asks each question once at most

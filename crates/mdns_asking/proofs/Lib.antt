@@ -10,6 +10,7 @@ pub mod Timed
 pub mod TimedNames
 pub mod Waiting
 pub mod Settled
+pub mod KeyOrder
 pub mod KeyLists
 pub mod KeyUses
 pub mod FewUses

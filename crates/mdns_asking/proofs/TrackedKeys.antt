@@ -13,7 +13,8 @@ use Rattle.mdns_history.specs.Questions.{Active}
 use Rattle.mdns_question.specs.declared.tracked.Tracked.{Tracked}
 use Rattle.mdns_question.specs.Tracking.{active_of, is_for, tracked_cmp, begun, one_more, used_more, used_less, is_used, with_user, without_user, with_asking, noted, asked_at}
 use Rattle.mdns_asking.specs.Asked.{all_begun, all_ended, all_asked}
-use Rattle.mdns_asking.proofs.KeyLists.{IsStrict, looked, has_key, if_passes, key_eq-itself, key_eq-same, key_eq-turned, looked_found, looked_none, looked_has, looked_same, none_same, strict_inserted, looked_inserted, strict_map, looked_map, strict_filter, looked_filter}
+use Rattle.mdns_asking.proofs.KeyOrder.{key_eq-itself, key_eq-same, key_eq-turned}
+use Rattle.mdns_asking.proofs.KeyLists.{IsStrict, looked, has_key, if_passes, looked_found, looked_none, looked_has, looked_same, none_same, strict_inserted, looked_inserted, strict_map, looked_map, strict_filter, looked_filter}
 use Rattle.mdns_asking.proofs.KeyUses.{times}
 
 -- the question of a tracked one

@@ -21,7 +21,8 @@ use Rattle.mdns_history.specs.Asking.{is_half_fresh, listed, fits_alone, fresh_m
 use Rattle.mdns_known.specs.Known.{is_listed, known_of, stand_once}
 use Rattle.mdns_known.specs.Laws.{IsOfLiveRecords, IsOrderFree}
 use Rattle.lists.proofs.Permutations.{along_permutation}
-use Rattle.lists.proofs.InOrder.{none-filter, tied-turned, insert-swapped}
+use Rattle.lists.proofs.InOrder.{none-filter, tied-turned}
+use Rattle.lists.proofs.PutBehind.{insert-swapped}
 use Rattle.mdns_pack.proofs.Found.{same-tied}
 
 -- ---- sameness and record order

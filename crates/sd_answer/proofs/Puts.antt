@@ -19,7 +19,7 @@ use Rattle.mdns_history.specs.declared.held.Held.{Held}
 use Rattle.mdns_history.specs.Questions.{keys_of}
 use Rattle.sd_answer.specs.Known.{rrs_of}
 use Rattle.mdns_history.specs.Answers.{resolved_with, answers_from, answers_over, matching}
-use Rattle.lists.proofs.InOrder.{sorted-ordered}
+use Rattle.lists.proofs.SortedOnce.{sorted-ordered}
 
 -- the order of answers is a total order
 pub answer_cmp-total : IsTotalOrder answer_cmp

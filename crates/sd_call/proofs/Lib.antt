@@ -4,3 +4,4 @@ pub mod AnswerLists
 pub mod ReplayLaws
 pub mod ReplayRuns
 pub mod Holdings
+pub mod KeptLists

@@ -114,7 +114,7 @@ impl Replayed {
         }
     }
 
-    #[tactic(auto, using(crate::proofs::Holdings::once_kept))]
+    #[tactic(auto, using(crate::proofs::KeptLists::once_kept))]
     fn start(&mut self, op: u32)
         requires { 1 ≤ self.old.spare }
         ensures sets { held_sets self.new ≡ insert (held_sets self.old) op set.empty }
@@ -127,7 +127,7 @@ impl Replayed {
         }
     }
 
-    #[tactic(auto, using(crate::proofs::Holdings::once_kept))]
+    #[tactic(auto, using(crate::proofs::KeptLists::once_kept))]
     fn stop(&mut self, op: u32)
         ensures sets { held_sets self.new ≡ remove (held_sets self.old) op }
         ensures spare { self.old.spare ≤ self.new.spare }
@@ -136,7 +136,7 @@ impl Replayed {
         drop_operation(&mut self.operations, op);
     }
 
-    #[tactic(auto, using(crate::proofs::Holdings::add_away, crate::proofs::Holdings::add_there, crate::proofs::Holdings::added, crate::proofs::Holdings::once_added))]
+    #[tactic(auto, using(crate::proofs::Holdings::add_away, crate::proofs::Holdings::add_there, crate::proofs::Holdings::added, crate::proofs::KeptLists::once_added))]
     fn add(&mut self, op: u32, answer: Answer) -> bool
         requires { 1 ≤ self.old.spare }
         ensures done { IsTrue result → replay_item (Item.Add op answer) (held_sets self.old) ≡ Some (held_sets self.new) }
@@ -151,7 +151,7 @@ impl Replayed {
         true
     }
 
-    #[tactic(auto, using(crate::proofs::Holdings::remove_away, crate::proofs::Holdings::remove_missing, crate::proofs::Holdings::removed, crate::proofs::Holdings::once_kept))]
+    #[tactic(auto, using(crate::proofs::Holdings::remove_away, crate::proofs::Holdings::remove_missing, crate::proofs::Holdings::removed, crate::proofs::KeptLists::once_kept))]
     fn remove(&mut self, op: u32, answer: &Answer) -> bool
         ensures done { IsTrue result → replay_item (Item.Remove op answer.now) (held_sets self.old) ≡ Some (held_sets self.new) }
         ensures refused { result ≡ false → (replay_item (Item.Remove op answer.now) (held_sets self.old) ≡ None) × (self.new ≡ self.old) }

@@ -4,7 +4,7 @@ use Rattle.std.proofs.lemmas.Fn.{dedup_same}
 use Rattle.std.proofs.lemmas.List.Sorted.{ranks_by, answers_always}
 use Rattle.dns_name.specs.Names.{name_cmp}
 use Rattle.dns_name.proofs.Folding.{name_cmp-total}
-use Rattle.lists.proofs.InOrder.{sorted-once}
+use Rattle.lists.proofs.SortedOnce.{sorted-once}
 use Rattle.mdns_records.proofs.names.in_order.Goals as goal
 
 pub returns : goal.returns

@@ -3,7 +3,7 @@ use Rattle.std.specs.Ordering.{is_lt, is_eq}
 use Rattle.std.proofs.lemmas.Fn.{dedup_same}
 use Rattle.std.proofs.lemmas.List.Sorted.{ranks_by, answers_always}
 use Rattle.dns_record.specs.Records.{key_cmp}
-use Rattle.lists.proofs.InOrder.{sorted-once}
+use Rattle.lists.proofs.SortedOnce.{sorted-once}
 use Rattle.plain_history.proofs.KeyOrder.{key_cmp_total}
 use Rattle.plain_history.proofs.order.ordered_keys.Goals as goal
 

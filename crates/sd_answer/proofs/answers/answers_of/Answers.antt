@@ -1,7 +1,7 @@
 use Rattle.std.proofs.Common.{sym, subst}
 use Rattle.std.specs.List.Sorted.{IsSorted}
 use Rattle.sd_call.specs.Answers.{answer_cmp}
-use Rattle.lists.proofs.InOrder.{sorted-ordered}
+use Rattle.lists.proofs.SortedOnce.{sorted-ordered}
 use Rattle.sd_answer.proofs.Puts.{answer_cmp-total}
 use Rattle.sd_answer.proofs.answers.answers_of.Goals as goal
 

@@ -2,9 +2,8 @@ use Rattle.std.proofs.Common.{◌∙◌, rules, ap}
 use Rattle.std.specs.Ordering.{is_lt, is_eq}
 use Rattle.std.proofs.lemmas.Fn.{dedup_same}
 use Rattle.std.proofs.lemmas.List.Sorted.{ranks_by, answers_always}
-use Rattle.lists.specs.Lists.{ordered}
 use Rattle.sd_call.specs.Answers.{answer_cmp}
-use Rattle.lists.proofs.InOrder.{sorted-once}
+use Rattle.lists.proofs.SortedOnce.{sorted-once}
 use Rattle.sd_answer.proofs.Puts.{answer_cmp-total}
 use Rattle.sd_answer.proofs.answers.ordered_once.Goals as goal
 

@@ -1,7 +1,7 @@
 use Rattle.std.proofs.Common.{◌≡◌, ◌==◌, ◌∙◌, ap, sym, take, length, filter, eq-eqb, List, arith}
 use Rattle.std.proofs.lemmas.List.{take_all}
 use Rattle.sd_call.specs.declared.replayed.Kept.{Kept}
-use Rattle.sd_call.proofs.Holdings.{place_found, past_end}
+use Rattle.sd_call.proofs.KeptLists.{place_found, past_end}
 use Rattle.sd_call.proofs.replayed.kept_at.Goals as goal
 
 pub returns-then-before-place : goal.returns-then-before-place

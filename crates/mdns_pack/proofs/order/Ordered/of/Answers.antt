@@ -2,7 +2,7 @@ use Rattle.std.proofs.Common.{sym, subst, List}
 use Rattle.std.specs.List.Sorted.{IsSorted}
 use Rattle.dns_record.specs.declared.record.Rr.{Rr}
 use Rattle.dns_record.specs.Records.{record_cmp}
-use Rattle.lists.proofs.InOrder.{sorted-ordered}
+use Rattle.lists.proofs.SortedOnce.{sorted-ordered}
 use Rattle.dns_record.proofs.Same.{record_cmp_total}
 use Rattle.mdns_pack.proofs.order.Ordered.of.Goals as goal
 
