@@ -1,5 +1,5 @@
 -- What a client holds that replays its items: for each operation the set of its answers, each known by the bytes of its frame.
-use Rattle.std.specs.Prelude.{ℕ, Bool, true, List, [], ◌∷◌, Option, Some, None, if◌then◌else◌}
+use Rattle.std.specs.Prelude.{ℕ, Bool, true, false, ◌&&◌, List, [], ◌∷◌, Option, Some, None, if◌then◌else◌}
 use Rattle.std.specs.Option.{option_and_then}
 use Rattle.std.specs.Ordering.{int_eq, nat_cmp}
 use Rattle.std.specs.Cmp.Lexicographic.{slice_cmp}
@@ -48,6 +48,17 @@ abbrev pub replay_item : Item → AnswerSets → Option AnswerSets
 replay_item (Reply op verb code) sets = Some (replay_reply op verb (int_eq code no_error) sets)
 replay_item (Add op answer) sets = change_at op (put_answer (answer_bytes answer)) sets
 replay_item (Remove op answer) sets = change_at op (take_answer (answer_bytes answer)) sets
+
+-- whether an operation begins with it
+abbrev pub begins : Verb → Bool
+begins verb.Start = true
+begins _ = false
+
+-- whether an item may take room: a start that was answered with code 0, and an answer that is added
+abbrev pub takes_room : Item → Bool
+takes_room (Reply op verb code) = begins verb && int_eq code no_error
+takes_room (Add op answer) = true
+takes_room (Remove op answer) = false
 
 -- items replayed one by one from what is held
 abbrev pub replay_from : Option AnswerSets → List Item → Option AnswerSets

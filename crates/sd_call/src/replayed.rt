@@ -5,7 +5,7 @@ ghost use Rattle.std.specs.Option.{option_copied};
 ghost use Rattle.std.specs.Vec.{vec_len, vec_capacity};
 ghost use Rattle.std.specs.FinMap.{empty, insert, remove};
 ghost use Rattle.std.specs.FinSet as set;
-ghost use Rattle.sd_call.specs.Replay.{replay_item, replay_reply};
+ghost use Rattle.sd_call.specs.Replay.{replay_item, replay_reply, begins, takes_room};
 ghost use Rattle.sd_call.specs.Holding.{has, is_it, are_once, answers_of, answer_at, held_sets};
 
 use crate::{Answer, Item, Verb, answer_cmp};
@@ -74,6 +74,8 @@ impl Replayed {
         ensures done { IsTrue result → replay_item item (held_sets self.old) ≡ Some (held_sets self.new) }
         ensures refused { result ≡ false → (replay_item item (held_sets self.old) ≡ None) × (self.new ≡ self.old) }
         ensures spare { self.old.spare ≤ self.new.spare + 1 }
+        // Other items than a start and an answer that is added take no room.
+        ensures kept { takes_room item ≡ false → self.old.spare ≤ self.new.spare }
     {
         match item {
             Item::Reply { op, verb, code } => {
@@ -106,6 +108,7 @@ impl Replayed {
         requires { 1 ≤ self.old.spare }
         ensures sets { held_sets self.new ≡ replay_reply op verb true (held_sets self.old) }
         ensures spare { self.old.spare ≤ self.new.spare + 1 }
+        ensures kept { begins verb ≡ false → self.old.spare ≤ self.new.spare }
     {
         match verb {
             Verb::Start => self.start(op),
