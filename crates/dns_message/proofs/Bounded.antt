@@ -3,10 +3,13 @@ use Rattle.std.proofs.Common.{◌≡◌, ◌-◌, ◌||◌, not, eqb, leb, ◌�
 use Rattle.std.specs.List.{slice_get, slice_range}
 use Rattle.std.proofs.lemmas.Bool.{le-leb}
 use Rattle.dns_record.specs.declared.record.Rdata.TheVariants.{A, Aaaa, Ptr, Cname, Txt, Raw}
+use Rattle.dns_pointers.specs.declared.fault.NameFault.{NameFault}
+use Rattle.dns_pointers.specs.declared.fault.NameFault.TheVariants as name_fault
 use Rattle.dns_message.specs.declared.message.Message.{Message}
 use Rattle.dns_message.specs.declared.message.MessageError.{MessageError}
-use Rattle.dns_message.specs.declared.message.MessageError.TheVariants.{Truncated, BadPointer, BadLabel, LongName, BadRdata, TooLong}
-use Rattle.dns_message.specs.Reading.{◌>>=◌, holds_or, byte_at, byte_or_end, label_at, target_at, labels_at, name_at, name_within, name_up_to, srv_at, ns_at, nsec_at, u16_in, u32_in, u128_in, class_in, top_bit_in, mx_at, soa_at, rdata_at, data_end_at, record_at, question_at, all_at, sections_at, spelled, IsReadAs}
+use Rattle.dns_message.specs.declared.message.MessageError.TheVariants.{Truncated, BadRdata, TooLong}
+use Rattle.dns_pointers.specs.Reading.{◌>>=◌, NameAt, name_at, u16_in, u32_in, u128_in}
+use Rattle.dns_message.specs.Reading.{holds_or, message_fault, of_name, name_within, name_up_to, srv_at, ns_at, nsec_at, class_in, top_bit_in, mx_at, soa_at, rdata_at, data_end_at, record_at, question_at, all_at, sections_at, spelled, IsReadAs}
 
 -- the result is no fault of length
 pub record IsOther {X : Type 0} (result : Result X MessageError) : Type 0 where
@@ -33,32 +36,19 @@ test : (b : Bool) (fault : MessageError) → (fault ≡ TooLong → ⊥) → IsO
 test true fault h = ok tt
 test false fault h = err fault h
 
-byte : (bytes : List ℕ) (at : ℕ) → IsOther (byte_at bytes at)
-byte bytes at = found (slice_get bytes at)
+-- a name has no fault of length
+of_fault : (fault : NameFault) → message_fault fault ≡ TooLong → ⊥
+of_fault name_fault.Truncated e = cc
+of_fault name_fault.BadPointer e = cc
+of_fault name_fault.BadLabel e = cc
+of_fault name_fault.LongName e = cc
+
+name : (bytes : List ℕ) (at : ℕ) → IsOther (of_name (name_at bytes at))
+name bytes at = part (name_at bytes at)
   where
-    found : (o : Option ℕ) → IsOther (byte_or_end o)
-    found None = err Truncated (λ e. cc)
-    found (Some b) = ok b
-
-label : (bytes : List ℕ) (at size used : ℕ) → IsOther (label_at bytes at size used)
-unfolding label_at
-label bytes at size used = either _ _ _ (err Truncated (λ e. cc)) (either _ _ _ (err LongName (λ e. cc)) (ok _))
-
-target : (bytes : List ℕ) (start at : ℕ) → IsOther (target_at bytes start at)
-unfolding target_at
-target bytes start at = next _ _ (byte bytes (at + 1)) (λ low. either _ _ _ (ok _) (err BadPointer (λ e. cc)))
-
-labels : (turns : ℕ) (bytes : List ℕ) (start at used : ℕ) → IsOther (labels_at turns bytes start at used)
-unfolding labels_at
-labels zero bytes start at used = err Truncated (λ e. cc)
-labels (suc turns) bytes start at used =
-    next _ _ (byte bytes at) (λ first. either _ _ _ (ok _)
-    (either _ _ _ (next _ _ (label bytes (at + 1) first used) (λ l. next _ _ (labels turns bytes start (at + 1 + first) (used + 1 + first)) (λ rest. ok _)))
-    (either _ _ _ (err BadLabel (λ e. cc)) (next _ _ (target bytes start at) (λ t. next _ _ (labels turns bytes t t used) (λ rest. ok _))))))
-
-name : (bytes : List ℕ) (at : ℕ) → IsOther (name_at bytes at)
-unfolding name_at
-name bytes at = labels _ bytes at at 0
+    part : (r : Result NameAt NameFault) → IsOther (of_name r)
+    part (Ok n) = ok n
+    part (Err fault) = err (message_fault fault) (of_fault fault)
 
 inner : (bytes : List ℕ) (at stop : ℕ) → IsOther (name_within bytes at stop)
 unfolding name_within

@@ -5,10 +5,12 @@ use Rattle.std.specs.Int.{to_be_bytes, w16, w32, w128}
 use Rattle.std.proofs.lemmas.Bool.{le-leb}
 use Rattle.dns_name.specs.Names.{wire_of, is_name}
 use Rattle.dns_record.specs.declared.record.Rdata.TheVariants.{A, Aaaa, Ptr, Cname, Srv, Txt, Nsec}
-use Rattle.dns_message.specs.Reading.{name_at, srv_at, nsec_at, rdata_at}
-use Rattle.dns_message.proofs.Standing.{Stands, first_part, last_part, ranged, u16_is, u32_is}
-use Rattle.dns_message.proofs.Wide.{u128_is}
-use Rattle.dns_message.proofs.NamesRead.{whole_read, up_to, inside}
+use Rattle.dns_pointers.specs.Reading.{name_at}
+use Rattle.dns_message.specs.Reading.{srv_at, nsec_at, rdata_at}
+use Rattle.dns_pointers.proofs.Standing.{Stands, first_part, last_part, ranged, u16_is, u32_is}
+use Rattle.dns_pointers.proofs.Wide.{u128_is}
+use Rattle.dns_pointers.proofs.NamesRead.{whole_read}
+use Rattle.dns_message.proofs.DataNames.{up_to, inside}
 
 pub address_again : (bytes : List ℕ) (at stop n : ℕ) → n < 2 ^ 32 → stop ≡ at + 4 → Stands bytes at (to_be_bytes w32 n) → rdata_at bytes 1 at stop ≡ Ok (A n)
 unfolding rdata_at

@@ -7,10 +7,11 @@ use Rattle.dns_record.specs.Records.{kind_of, data_of, is_typed, has_raw_form, i
 use Rattle.dns_record.specs.declared.record.Rdata.{Rdata}
 use Rattle.dns_record.specs.declared.record.Rdata.TheVariants.{A, Aaaa, Ptr, Cname, Srv, Txt, Nsec, Raw}
 use Rattle.dns_message.specs.Reading.{rdata_at}
-use Rattle.dns_message.specs.Writing.{Offsets, Piece, written_name, written_data, is_below, are_bytes, is_spellable_name, is_spellable_data}
-use Rattle.dns_message.proofs.Standing.{Stands}
-use Rattle.dns_message.proofs.Tables.{IsTable, raised}
-use Rattle.dns_message.proofs.NamesRead.{IsNameRead, name_read}
+use Rattle.dns_pointers.specs.Writing.{Offsets, Piece, written_name}
+use Rattle.dns_message.specs.Writing.{written_data, is_below, are_bytes, is_spellable_name, is_spellable_data}
+use Rattle.dns_pointers.proofs.Standing.{Stands}
+use Rattle.dns_pointers.proofs.Tables.{IsTable, raised}
+use Rattle.dns_pointers.proofs.NamesRead.{IsNameRead, name_read}
 use Rattle.dns_message.proofs.DataAgain.{address_again, wide_again, ptr_again, cname_again, srv_again, txt_again, nsec_again}
 use Rattle.dns_message.proofs.RawAgain.{untyped, raw_again}
 

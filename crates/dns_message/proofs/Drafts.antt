@@ -7,7 +7,8 @@ use Rattle.std.specs.Prelude.{nat_le, Bool, true, false, cond}
 use Rattle.std.specs.Int.{to_be_bytes, w16, w32}
 use Rattle.std.proofs.lemmas.Bool.{lt-leb, leb-true, leb-false}
 use Rattle.dns_record.specs.Records.{kind_of}
-use Rattle.dns_message.specs.Writing.{Offsets, Piece, class_word, header, written_name, written_question, written_data, written_record, written_all, written_body, written}
+use Rattle.dns_pointers.specs.Writing.{Offsets, Piece, written_name}
+use Rattle.dns_message.specs.Writing.{class_word, header, written_question, written_data, written_record, written_all, written_body, written}
 use Rattle.dns_message.specs.Packing.{is_within_length}
 use Rattle.dns_message.specs.Drafting.{with_question, with_answer, records_of, written_names, IsDrafted}
 use Rattle.dns_message.proofs.Parts.{all_append}

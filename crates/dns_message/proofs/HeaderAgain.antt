@@ -3,9 +3,10 @@ use Rattle.std.proofs.Common.{◌≡◌, ℕ, ◌+◌, ◌*◌, ◌/◌, ◌%◌
 use Rattle.std.specs.Int.{to_be_bytes, w16}
 use Rattle.std.proofs.lemmas.Bool.{ne_eqb}
 use Rattle.dns_message.specs.declared.message.Message.{Message}
-use Rattle.dns_message.specs.Reading.{has_bit, u16_in, with_header}
+use Rattle.dns_pointers.specs.Reading.{u16_in}
+use Rattle.dns_message.specs.Reading.{has_bit, with_header}
 use Rattle.dns_message.specs.Writing.{bit_worth, flag_bytes, count_bytes, header}
-use Rattle.dns_message.proofs.Standing.{Stands, first_part, last_part, index_is, u16_is}
+use Rattle.dns_pointers.proofs.Standing.{Stands, first_part, last_part, index_is, u16_is}
 
 -- the first byte of the flags
 abbrev high_of : Bool → Bool → Bool → ℕ → ℕ

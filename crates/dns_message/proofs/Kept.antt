@@ -6,7 +6,8 @@ use Rattle.dns_record.specs.declared.record.Rr.{Rr}
 use Rattle.dns_record.specs.declared.record.Question.{Question}
 use Rattle.dns_record.specs.declared.record.Rdata.{Rdata}
 use Rattle.dns_record.specs.declared.record.Rdata.TheVariants.{A, Aaaa, Ptr, Cname, Srv, Txt, Nsec, Raw}
-use Rattle.dns_message.specs.Writing.{Offsets, Piece, onto, offset_of, pointer_or, written_name, written_question, written_data, written_record}
+use Rattle.dns_pointers.specs.Writing.{Offsets, Piece, onto, offset_of, pointer_or, written_name}
+use Rattle.dns_message.specs.Writing.{written_question, written_data, written_record}
 
 -- Some names stand before others.
 pub record AreBefore (names after : Offsets) : Type 0 where

@@ -1,19 +1,10 @@
 mod Rows
 pub mod Whole
 pub mod Parts
-pub mod NameParts
 pub mod Once
 pub mod Bounded
 pub mod Sequences
-pub mod Chunks
-pub mod NameTurns
-pub mod Ends
-pub mod Standing
-pub mod LabelSteps
-pub mod Tables
-pub mod NamesAgain
-pub mod NamesRead
-pub mod Wide
+pub mod DataNames
 pub mod DataAgain
 pub mod RawAgain
 pub mod DataRead
@@ -23,6 +14,5 @@ pub mod HeaderAgain
 pub mod ReadAgain
 pub mod ValidParts
 pub mod Valid
-pub mod Searching
 pub mod Drafts
 pub mod Kept

@@ -2,7 +2,8 @@
 use Rattle.std.proofs.Common.{◌≡◌, ℕ, suc, ◌+◌, ◌<◌, ◌≤◌, ◌++◌, List, [], ◌∷◌, ◌∙◌, length, drop, get_or, refl, arith, ap, sym, subst, append_assoc, append-nil, length-append, length-drop}
 use Rattle.std.proofs.Math.Seq.{drop-cons}
 use Rattle.std.proofs.lemmas.List.{nil_from_length}
-use Rattle.dns_message.specs.Writing.{Offsets, Piece, onto, written_all}
+use Rattle.dns_pointers.specs.Writing.{Offsets, Piece, onto}
+use Rattle.dns_message.specs.Writing.{written_all}
 
 -- the first things were written, and the rest are to come
 pub record ArePartWritten {X : Type 0} (written : Offsets → ℕ → X → Piece) (before : Offsets) (start : List ℕ) (all : List X) (names : Offsets) (out : List ℕ) (rest : List X) : Type 0 where

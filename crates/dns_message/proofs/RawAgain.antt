@@ -7,9 +7,11 @@ use Rattle.dns_name.specs.Names.{wire_of, labels_of, is_name}
 use Rattle.dns_record.specs.Records.{after_name, is_typed, has_raw_form, is_rdata, leaves}
 use Rattle.dns_record.proofs.RawForms.{after_name-parts}
 use Rattle.dns_record.specs.declared.record.Rdata.TheVariants.{Raw}
-use Rattle.dns_message.specs.Reading.{name_at, ns_at, mx_at, soa_at, rdata_at}
-use Rattle.dns_message.proofs.Standing.{Stands, first_part, last_part, same_piece, ranged}
-use Rattle.dns_message.proofs.NamesRead.{whole_read, up_to, inside}
+use Rattle.dns_pointers.specs.Reading.{name_at}
+use Rattle.dns_message.specs.Reading.{ns_at, mx_at, soa_at, rdata_at}
+use Rattle.dns_pointers.proofs.Standing.{Stands, first_part, last_part, same_piece, ranged}
+use Rattle.dns_pointers.proofs.NamesRead.{whole_read}
+use Rattle.dns_message.proofs.DataNames.{up_to, inside}
 
 -- bytes that are a name and so many more
 pub record IsNameAnd (bytes more : List ℕ) : Type 0 where

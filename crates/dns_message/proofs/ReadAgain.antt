@@ -5,11 +5,13 @@ use Rattle.std.proofs.lemmas.Bool.{le-leb, and_parts}
 use Rattle.dns_record.specs.declared.record.Rr.{Rr}
 use Rattle.dns_record.specs.declared.record.Question.{Question}
 use Rattle.dns_message.specs.declared.message.Message.{Message}
-use Rattle.dns_message.specs.Reading.{all_at, question_at, record_at, sections_at, spelled, u16_in}
-use Rattle.dns_message.specs.Writing.{Offsets, header, written_all, written_question, written_record, written, is_below, is_spellable_question, is_spellable_record, is_spellable, IsReadAgain}
+use Rattle.dns_pointers.specs.Reading.{u16_in}
+use Rattle.dns_message.specs.Reading.{all_at, question_at, record_at, sections_at, spelled}
+use Rattle.dns_pointers.specs.Writing.{Offsets}
+use Rattle.dns_message.specs.Writing.{header, written_all, written_question, written_record, written, is_below, is_spellable_question, is_spellable_record, is_spellable, IsReadAgain}
 use Rattle.dns_message.proofs.Whole.{questions_of, answers_at, answers_of, authority_at, authority_of, additional_at, additional_of, length-header, whole_is, count_short}
-use Rattle.dns_message.proofs.Standing.{Stands, within, first_part, last_part, moved}
-use Rattle.dns_message.proofs.Tables.{IsTable, no_names}
+use Rattle.dns_pointers.proofs.Standing.{Stands, within, first_part, last_part, moved}
+use Rattle.dns_pointers.proofs.Tables.{IsTable, no_names}
 use Rattle.dns_message.proofs.DataRead.{below}
 use Rattle.dns_message.proofs.RecordsRead.{AreRead, question_read, record_read, all_read}
 use Rattle.dns_message.proofs.HeaderAgain.{IsHeaderRead, header_read}

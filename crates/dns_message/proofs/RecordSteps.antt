@@ -3,9 +3,10 @@ use Rattle.std.proofs.Common.{◌≡◌, ℕ, ◌+◌, ◌%◌, ◌≤◌, ◌^�
 use Rattle.std.proofs.lemmas.Bool.{le-leb}
 use Rattle.dns_record.specs.declared.record.Rr.{Rr}
 use Rattle.dns_record.specs.declared.record.Question.{Question}
-use Rattle.dns_message.specs.Reading.{name_at, rdata_at, data_end_at, class_in, top_bit_in, u16_in, u32_in, record_at, question_at}
+use Rattle.dns_pointers.specs.Reading.{name_at, u16_in, u32_in}
+use Rattle.dns_message.specs.Reading.{rdata_at, data_end_at, class_in, top_bit_in, record_at, question_at}
 use Rattle.dns_message.specs.Writing.{class_word}
-use Rattle.dns_message.proofs.Standing.{Stands, u16_is}
+use Rattle.dns_pointers.proofs.Standing.{Stands, u16_is}
 
 -- the class IN and the bit above it
 pub record IsClass (bytes : List ℕ) (at : ℕ) (bit : Bool) : Type 0 where

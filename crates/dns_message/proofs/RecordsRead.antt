@@ -8,10 +8,11 @@ use Rattle.dns_record.specs.declared.record.Rr.{Rr}
 use Rattle.dns_record.specs.declared.record.Question.{Question}
 use Rattle.dns_message.specs.declared.message.MessageError.{MessageError}
 use Rattle.dns_message.specs.Reading.{record_at, question_at, all_at}
-use Rattle.dns_message.specs.Writing.{Offsets, Piece, onto, class_word, written_name, written_data, written_record, written_question, written_all, is_below, is_spellable_name, is_spellable_data, is_spellable_record, is_spellable_question}
-use Rattle.dns_message.proofs.Standing.{Stands, within, first_part, last_part, moved, u16_is, u32_is}
-use Rattle.dns_message.proofs.Tables.{IsTable, raised}
-use Rattle.dns_message.proofs.NamesRead.{IsNameRead, name_read}
+use Rattle.dns_pointers.specs.Writing.{Offsets, Piece, onto, written_name}
+use Rattle.dns_message.specs.Writing.{class_word, written_data, written_record, written_question, written_all, is_below, is_spellable_name, is_spellable_data, is_spellable_record, is_spellable_question}
+use Rattle.dns_pointers.proofs.Standing.{Stands, within, first_part, last_part, moved, u16_is, u32_is}
+use Rattle.dns_pointers.proofs.Tables.{IsTable, raised}
+use Rattle.dns_pointers.proofs.NamesRead.{IsNameRead, name_read}
 use Rattle.dns_message.proofs.DataRead.{IsDataRead, data_read, below, spellable_name, kind_is}
 use Rattle.dns_message.proofs.RecordSteps.{class_is, record_step, question_step}
 

@@ -5,8 +5,10 @@ use Rattle.dns_record.specs.declared.record.Rdata.TheVariants.{A, Ptr}
 use Rattle.dns_record.specs.declared.record.Rr.{Rr}
 use Rattle.dns_message.specs.declared.message.Message.{Message}
 use Rattle.dns_message.specs.declared.message.MessageError.TheVariants.{BadPointer}
-use Rattle.dns_message.specs.Reading.{spelled, sections_at, all_at, question_at, record_at, rdata_at, name_up_to, name_at, ns_at, labels_at, label_at, target_at}
-use Rattle.dns_message.specs.Writing.{written, written_body, header, written_all, written_record, written_data, written_question, written_name, offset_of}
+use Rattle.dns_pointers.specs.Reading.{name_at, labels_at, label_at, target_at}
+use Rattle.dns_message.specs.Reading.{spelled, sections_at, all_at, question_at, record_at, rdata_at, name_up_to, ns_at}
+use Rattle.dns_pointers.specs.Writing.{written_name, offset_of}
+use Rattle.dns_message.specs.Writing.{written, written_body, header, written_all, written_record, written_data, written_question}
 
 -- a reply with these records
 abbrev reply_of : List Rr → Message

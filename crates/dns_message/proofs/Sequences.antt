@@ -2,7 +2,8 @@
 use Rattle.std.proofs.Common.{◌≡◌, inl, inr, ℕ, suc, ◌+◌, ◌-◌, ◌<◌, ◌++◌, List, [], ◌∷◌, ◌∙◌, refl, arith, ap, sym, subst, append-nil, append_assoc, Option, Some, None, Result, Ok, Err}
 use Rattle.dns_message.specs.declared.message.MessageError.{MessageError}
 use Rattle.dns_message.specs.declared.message.MessageError.TheVariants.{NoMemory}
-use Rattle.dns_message.specs.Reading.{◌>>=◌, all_at, IsReadAs}
+use Rattle.dns_pointers.specs.Reading.{◌>>=◌}
+use Rattle.dns_message.specs.Reading.{all_at, IsReadAs}
 
 -- things that were read, and those read behind them
 abbrev pub behind : {X : Type 0} → List X → Result (List X × ℕ) MessageError → Result (List X × ℕ) MessageError

@@ -11,40 +11,43 @@ use Rattle.dns_record.specs.Records.{after_name, leaves, is_typed, has_raw_form,
 use Rattle.dns_record.proofs.RawForms.{after_name-is}
 use Rattle.dns_record.specs.declared.record.Rdata.{Rdata}
 use Rattle.dns_record.specs.declared.record.Rdata.TheVariants.{A, Aaaa, Ptr, Cname, Srv, Txt, Nsec, Raw}
+use Rattle.dns_pointers.specs.declared.fault.NameFault.{NameFault}
+use Rattle.dns_pointers.specs.declared.fault.NameFault.TheVariants as name_fault
 use Rattle.dns_message.specs.declared.message.Message.{Message}
 use Rattle.dns_message.specs.declared.message.MessageError.{MessageError}
-use Rattle.dns_message.specs.declared.message.MessageError.TheVariants.{Truncated, LongName, BadLabel, BadRdata, TooLong}
-use Rattle.dns_message.specs.Reading.{◌>>=◌, holds_or, byte_at, label_at, target_at, labels_at, name_at, NameAt, name_within, name_up_to, srv_at, ns_at, nsec_at, u16_in, u32_in, u128_in, class_in, top_bit_in, mx_at, soa_at, rdata_at, data_end_at, record_at, question_at, all_at, Sections, sections_at, with_header, spelled, Spells, IsReadAs}
+use Rattle.dns_message.specs.declared.message.MessageError.TheVariants.{Truncated, BadRdata, TooLong}
+use Rattle.dns_pointers.specs.Reading.{◌>>=◌, byte_at, label_at, target_at, labels_at, name_at, NameAt, u16_in, u32_in, u128_in}
+use Rattle.dns_message.specs.Reading.{holds_or, message_fault, of_name, name_within, name_up_to, srv_at, ns_at, nsec_at, class_in, top_bit_in, mx_at, soa_at, rdata_at, data_end_at, record_at, question_at, all_at, Sections, sections_at, with_header, spelled, Spells, IsReadAs}
 use Rattle.dns_message.specs.Writing.{is_below, are_bytes, is_spellable_name, is_spellable_data, is_spellable_record, is_spellable_question, is_spellable, HasValidParts}
 use Rattle.dns_message.proofs.ValidParts.{is_below_from, piece_bytes, piece_length, joined_bytes, u16_below, u32_below, u128_below, wire_bytes, are_bytes_from}
 
 -- what is read without a fault has a property
-pub record Gives {X : Type 0} (P : X → Type 0) (result : Result X MessageError) : Type 0 where
+pub record Gives {X E : Type 0} (P : X → Type 0) (result : Result X E) : Type 0 where
   pub each : (x : X) → result ≡ Ok x → P x
 
-ok : {X : Type 0} (P : X → Type 0) (x : X) → P x → Gives P (Ok x)
-ok {X} P x p = record { each = λ y e. subst P (same y e) p }
+ok : {X E : Type 0} (P : X → Type 0) (x : X) → P x → Gives {E = E} P (Ok x)
+ok {X} {E} P x p = record { each = λ y e. subst P (same y e) p }
   where
-    same : (y : X) → ◌≡◌ {A = Result X MessageError} (Ok x) (Ok y) → x ≡ y
+    same : (y : X) → ◌≡◌ {A = Result X E} (Ok x) (Ok y) → x ≡ y
     same y e = cc
 
-err : {X : Type 0} (P : X → Type 0) (fault : MessageError) → Gives P (Err fault)
-err {X} P fault = record { each = λ y e. absurd (never y e) }
+err : {X E : Type 0} (P : X → Type 0) (fault : E) → Gives P (Err fault)
+err {X} {E} P fault = record { each = λ y e. absurd (never y e) }
   where
-    never : (y : X) → ◌≡◌ {A = Result X MessageError} (Err fault) (Ok y) → ⊥
+    never : (y : X) → ◌≡◌ {A = Result X E} (Err fault) (Ok y) → ⊥
     never y e = cc
 
-any : {X : Type 0} (result : Result X MessageError) → Gives (λ x. Unit {0}) result
+any : {X E : Type 0} (result : Result X E) → Gives (λ x. Unit {0}) result
 any result = record { each = λ x e. tt }
 
-weaker : {X : Type 0} (P Q : X → Type 0) (result : Result X MessageError) → ((x : X) → P x → Q x) → Gives P result → Gives Q result
+weaker : {X E : Type 0} (P Q : X → Type 0) (result : Result X E) → ((x : X) → P x → Q x) → Gives P result → Gives Q result
 weaker P Q result f g = record { each = λ x e. f x (g.each x e) }
 
-next : {X Y : Type 0} (P : X → Type 0) (Q : Y → Type 0) (r : Result X MessageError) (k : X → Result Y MessageError) → Gives P r → ((x : X) → P x → Gives Q (k x)) → Gives Q (r >>= k)
+next : {X Y E : Type 0} (P : X → Type 0) (Q : Y → Type 0) (r : Result X E) (k : X → Result Y E) → Gives P r → ((x : X) → P x → Gives Q (k x)) → Gives Q (r >>= k)
 next P Q (Ok x) k g f = f x (g.each x refl)
 next P Q (Err fault) k g f = err Q fault
 
-either : {X : Type 0} (P : X → Type 0) (b : Bool) (x y : Result X MessageError) → (b ≡ true → Gives P x) → (b ≡ false → Gives P y) → Gives P (cond b x y)
+either : {X E : Type 0} (P : X → Type 0) (b : Bool) (x y : Result X E) → (b ≡ true → Gives P x) → (b ≡ false → Gives P y) → Gives P (cond b x y)
 either P true x y h k = h refl
 either P false x y h k = k refl
 
@@ -61,8 +64,8 @@ record IsLabelOf (size used : ℕ) (label : List ℕ) : Type 0 where
 label : (bytes : List ℕ) (at size used : ℕ) → are_bytes bytes ≡ true → Gives (IsLabelOf size used) (label_at bytes at size used)
 unfolding label_at
 label bytes at size used h =
-    either (IsLabelOf size used) (ltb (length bytes) (at + size)) _ _ (λ e. err _ Truncated) (λ within.
-    either (IsLabelOf size used) (ltb 255 (used + 1 + size + 1)) _ _ (λ e. err _ LongName) (λ room. ok (IsLabelOf size used) (slice_range bytes at (at + size)) (record {
+    either (IsLabelOf size used) (ltb (length bytes) (at + size)) _ _ (λ e. err _ name_fault.Truncated) (λ within.
+    either (IsLabelOf size used) (ltb 255 (used + 1 + size + 1)) _ _ (λ e. err _ name_fault.LongName) (λ room. ok (IsLabelOf size used) (slice_range bytes at (at + size)) (record {
       bytes = piece_bytes bytes at (at + size) h;
       long = piece_length bytes at (at + size) size refl (ltb-false (length bytes) (at + size) within);
       room = ltb-false 255 (used + 1 + size + 1) room;
@@ -87,7 +90,7 @@ some_from (suc n) e = omega arith
 
 labels : (turns : ℕ) (bytes : List ℕ) (start at used : ℕ) → are_bytes bytes ≡ true → used + 1 ≤ 255 → Gives (λ (n : NameAt). IsNameOf used n.0) (labels_at turns bytes start at used)
 unfolding labels_at
-labels zero bytes start at used h room = err _ Truncated
+labels zero bytes start at used h room = err _ name_fault.Truncated
 labels (suc turns) bytes start at used h room =
     next _ _ _ _ (any (byte_at bytes at)) (λ first u.
     either _ (eqb first 0) _ _ (λ e. ok _ ([], at + 1) (record { each = refl; bytes = refl; short = omega arith })) (λ some.
@@ -95,16 +98,25 @@ labels (suc turns) bytes start at used h room =
     (λ most. next _ _ _ _ (label bytes (at + 1) first used h) (λ l is.
     next _ _ _ _ (labels turns bytes start (at + 1 + first) (used + 1 + first) h is.room) (λ rest are.
     ok _ (l ∷ rest.0, rest.1) (longer used first l rest.0 (some_from first some) (let small = ltb-true first 64 most in omega arith) is are))))
-    (λ long. either _ (ltb first 192) _ _ (λ e. err _ BadLabel) (λ e. next _ _ _ _ (any (target_at bytes start at)) (λ t u.
+    (λ long. either _ (ltb first 192) _ _ (λ e. err _ name_fault.BadLabel) (λ e. next _ _ _ _ (any (target_at bytes start at)) (λ t u.
     next _ _ _ _ (labels turns bytes t t used h room) (λ rest are. ok _ (rest.0, at + 2) are))))))
 
 -- names
 is_spellable_from : (name : List (List ℕ)) → IsNameOf 0 name → is_spellable_name name ≡ true
 is_spellable_from name n = and_from (is_name name) (list_all are_bytes name) (name_is name n.each (omega (arith, n.short))) n.bytes
 
-name : (bytes : List ℕ) (at : ℕ) → are_bytes bytes ≡ true → Gives (λ (n : NameAt). is_spellable_name n.0 ≡ true) (name_at bytes at)
+spelled_name : (bytes : List ℕ) (at : ℕ) → are_bytes bytes ≡ true → Gives (λ (n : NameAt). is_spellable_name n.0 ≡ true) (name_at bytes at)
 unfolding name_at
-name bytes at h = weaker (λ (n : NameAt). IsNameOf 0 n.0) _ _ (λ n is. is_spellable_from n.0 is) (labels (length bytes + 129) bytes at at 0 h (omega arith))
+spelled_name bytes at h =
+    weaker (λ (n : NameAt). IsNameOf 0 n.0) _ _ (λ n is. is_spellable_from n.0 is) (labels (length bytes + 129) bytes at at 0 h (omega arith))
+
+-- the same, where the fault is one of a message
+name : (bytes : List ℕ) (at : ℕ) → are_bytes bytes ≡ true → Gives (λ (n : NameAt). is_spellable_name n.0 ≡ true) (of_name (name_at bytes at))
+name bytes at h = as_part (name_at bytes at) (spelled_name bytes at h)
+  where
+    as_part : (r : Result NameAt NameFault) → Gives (λ (n : NameAt). is_spellable_name n.0 ≡ true) r → Gives (λ (n : NameAt). is_spellable_name n.0 ≡ true) (of_name r)
+    as_part (Ok n) g = ok _ n (g.each n refl)
+    as_part (Err fault) g = err _ (message_fault fault)
 
 inner : (bytes : List ℕ) (at stop : ℕ) → are_bytes bytes ≡ true → Gives (λ (n : NameAt). is_spellable_name n.0 ≡ true) (name_within bytes at stop)
 unfolding name_within

@@ -8,7 +8,7 @@ use Rattle.std.specs.List.{list_all, slice_range}
 use Rattle.std.specs.Int.{from_be_bytes, w16, w32, w128}
 use Rattle.dns_name.specs.Names.{wire_of, is_label}
 use Rattle.dns_name.proofs.Wire.{label_most}
-use Rattle.dns_message.specs.Reading.{u16_in, u32_in, u128_in}
+use Rattle.dns_pointers.specs.Reading.{u16_in, u32_in, u128_in}
 use Rattle.dns_message.specs.Writing.{is_below, are_bytes}
 
 pub is_below_from : (bits n : ℕ) → n < 2 ^ bits → is_below bits n ≡ true

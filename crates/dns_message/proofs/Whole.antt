@@ -7,8 +7,8 @@ use Rattle.dns_record.specs.declared.record.Question.{Question}
 use Rattle.dns_message.specs.declared.message.Message.{Message}
 use Rattle.dns_message.specs.declared.message.WriteError.{WriteError}
 use Rattle.dns_message.specs.declared.message.WriteError.TheVariants.{TooLong, NoMemory}
-use Rattle.dns_message.specs.Writing.{Offsets, Piece, class_word, header, written_name, written_data, written_question, written_record, written_all, written_body, written}
-use Rattle.dns_message.specs.Compressing.{item_count}
+use Rattle.dns_pointers.specs.Writing.{Offsets, Piece, written_name}
+use Rattle.dns_message.specs.Writing.{class_word, header, written_data, written_question, written_record, written_all, written_body, written, item_count}
 use Rattle.dns_message.proofs.Parts.{all_append, all_count}
 
 -- the pieces of a message

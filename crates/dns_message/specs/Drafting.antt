@@ -3,7 +3,8 @@ use Rattle.std.specs.Prelude.{◌≡◌, ℕ, ◌+◌, ◌≤◌, List, [], ◌�
 use Rattle.dns_record.specs.declared.record.Rr.{Rr}
 use Rattle.dns_record.specs.declared.record.Question.{Question}
 use Rattle.dns_message.specs.declared.message.Message.{Message}
-use Rattle.dns_message.specs.Writing.{Offsets, written, written_all, written_question, written_record}
+use Rattle.dns_pointers.specs.Writing.{Offsets}
+use Rattle.dns_message.specs.Writing.{written, written_all, written_question, written_record}
 
 -- a message with one more question, behind the others
 abbrev pub with_question : Message → Question → Message

@@ -8,15 +8,12 @@ use Rattle.dns_record.specs.declared.record.Rdata.TheVariants.{A, Aaaa, Ptr, Cna
 use Rattle.dns_record.specs.declared.record.Rr.{Rr}
 use Rattle.dns_record.specs.declared.record.Question.{Question}
 use Rattle.dns_record.specs.Records.{opt_kind}
+use Rattle.dns_pointers.specs.declared.fault.NameFault.{NameFault}
+use Rattle.dns_pointers.specs.declared.fault.NameFault.TheVariants as name_fault
+use Rattle.dns_pointers.specs.Reading.{◌>>=◌, NameAt, name_at, u16_in, u32_in, u128_in}
 use Rattle.dns_message.specs.declared.message.Message.{Message}
 use Rattle.dns_message.specs.declared.message.MessageError.{MessageError}
 use Rattle.dns_message.specs.declared.message.MessageError.TheVariants.{Truncated, BadPointer, BadLabel, LongName, BadRdata, TooLong, NoMemory}
-
-infixl 10 ◌>>=◌
--- what stands behind, if what stands before has no fault
-abbrev pub ◌>>=◌ : {X Y : Type 0} → Result X MessageError → (X → Result Y MessageError) → Result Y MessageError
-(Ok x) >>= f = f x
-(Err e) >>= f = Err e
 
 -- The result is the wanted one, or memory was refused.
 abbrev pub IsReadAs : {X : Type 0} → Result X MessageError → Result X MessageError → Type 0
@@ -27,65 +24,25 @@ abbrev pub holds_or : Bool → MessageError → Result (Unit {0}) MessageError
 holds_or true e = Ok tt
 holds_or false e = Err e
 
--- the byte, Truncated where there is none
-abbrev pub byte_or_end : Option ℕ → Result ℕ MessageError
-byte_or_end None = Err Truncated
-byte_or_end (Some b) = Ok b
+-- the fault of a message that has this fault of a name
+abbrev pub message_fault : NameFault → MessageError
+message_fault name_fault.Truncated = Truncated
+message_fault name_fault.BadPointer = BadPointer
+message_fault name_fault.BadLabel = BadLabel
+message_fault name_fault.LongName = LongName
 
--- the byte at an offset, Truncated past the end
-abbrev pub byte_at : List ℕ → ℕ → Result ℕ MessageError
-byte_at bytes at = byte_or_end (slice_get bytes at)
-
--- the number of two bytes at an offset, the first of them worth most
-abbrev pub u16_in : List ℕ → ℕ → ℕ
-u16_in bytes at = from_be_bytes w16 (slice_range bytes at (at + 2))
-
--- the number of four bytes at an offset
-abbrev pub u32_in : List ℕ → ℕ → ℕ
-u32_in bytes at = from_be_bytes w32 (slice_range bytes at (at + 4))
-
--- the number of 16 bytes at an offset
-abbrev pub u128_in : List ℕ → ℕ → ℕ
-u128_in bytes at = from_be_bytes w128 (slice_range bytes at (at + 16))
-
--- a name and the offset behind it
-abbrev pub NameAt : Type 0
-NameAt = List (List ℕ) × ℕ
-
--- the label of so many bytes at an offset, behind labels that take so many bytes in wire form
-unfoldable pub label_at : List ℕ → ℕ → ℕ → ℕ → Result (List ℕ) MessageError
-label_at bytes at size used =
-    if nat_lt (length bytes) (at + size) then Err Truncated
-    else if nat_lt 255 (used + 1 + size + 1) then Err LongName
-    else Ok (slice_range bytes at (at + size))
-
--- where the pointer at an offset aims: below the start of the run of labels that it ends
-unfoldable pub target_at : List ℕ → ℕ → ℕ → Result ℕ MessageError
-target_at bytes start at = byte_at bytes (at + 1) >>= λ low.
-    let target = (slice_index bytes at - 192) * 256 + low in if nat_lt target start then Ok target else Err BadPointer
-
--- The rest of a name at an offset: labels, and the zero byte or a pointer to where the rest of it is spelled. The run of labels began at
--- start, and the labels before take so many bytes. Each turn takes a label or goes to a lesser start, so the turns never run out.
-unfoldable pub labels_at : ℕ → List ℕ → ℕ → ℕ → ℕ → Result NameAt MessageError
-labels_at zero bytes start at used = Err Truncated
-labels_at (suc turns) bytes start at used = byte_at bytes at >>= λ first.
-    if first == 0 then Ok ([], at + 1)
-    else if nat_lt first 64 then (label_at bytes (at + 1) first used >>= λ label.
-    labels_at turns bytes start (at + 1 + first) (used + 1 + first) >>= λ rest. Ok (label ∷ rest.0, rest.1))
-    else if nat_lt first 192 then Err BadLabel
-    else (target_at bytes start at >>= λ target. labels_at turns bytes target target used >>= λ rest. Ok (rest.0, at + 2))
-
--- the name at an offset
-unfoldable pub name_at : List ℕ → ℕ → Result NameAt MessageError
-name_at bytes at = labels_at (length bytes + 129) bytes at at 0
+-- what is read of a name, as a part of a message
+abbrev pub of_name : {X : Type 0} → Result X NameFault → Result X MessageError
+of_name (Ok x) = Ok x
+of_name (Err e) = Err (message_fault e)
 
 -- a name in data: it ends within the data
 unfoldable pub name_within : List ℕ → ℕ → ℕ → Result NameAt MessageError
-name_within bytes at stop = name_at bytes at >>= λ name. holds_or (nat_le name.1 stop) BadRdata >>= λ _. Ok name
+name_within bytes at stop = of_name (name_at bytes at) >>= λ name. holds_or (nat_le name.1 stop) BadRdata >>= λ _. Ok name
 
 -- a name in data that ends with them
 unfoldable pub name_up_to : List ℕ → ℕ → ℕ → Result (List (List ℕ)) MessageError
-name_up_to bytes at stop = name_at bytes at >>= λ name. holds_or (name.1 == stop) BadRdata >>= λ _. Ok name.0
+name_up_to bytes at stop = of_name (name_at bytes at) >>= λ name. holds_or (name.1 == stop) BadRdata >>= λ _. Ok name.0
 
 -- fixed bytes of data, so many, end within the data
 abbrev pub fixed_within : ℕ → ℕ → ℕ → Result (Unit {0}) MessageError
@@ -148,14 +105,14 @@ data_end_at bytes fields = holds_or (nat_le (fields + 10) (length bytes)) Trunca
 
 -- The record at an offset and the offset behind it. A record of type OPT or of another class than IN is passed over.
 unfoldable pub record_at : List ℕ → ℕ → Result (Option Rr × ℕ) MessageError
-record_at bytes at = name_at bytes at >>= λ owner. let fields = owner.1 in data_end_at bytes fields >>= λ stop.
+record_at bytes at = of_name (name_at bytes at) >>= λ owner. let fields = owner.1 in data_end_at bytes fields >>= λ stop.
     if (u16_in bytes fields == opt_kind) || not (class_in bytes (fields + 2) == 1) then Ok (None, stop)
     else (rdata_at bytes (u16_in bytes fields) (fields + 10) stop >>= λ rdata.
     Ok (Some (record { owner = owner.0; flush = top_bit_in bytes (fields + 2); ttl = u32_in bytes (fields + 4); rdata = rdata }), stop))
 
 -- The question at an offset and the offset behind it. A question of another class than IN and ANY is passed over.
 unfoldable pub question_at : List ℕ → ℕ → Result (Option Question × ℕ) MessageError
-question_at bytes at = name_at bytes at >>= λ name. let fields = name.1 in
+question_at bytes at = of_name (name_at bytes at) >>= λ name. let fields = name.1 in
     holds_or (nat_le (fields + 4) (length bytes)) Truncated >>= λ _. let class = class_in bytes (fields + 2) in
     if (class == 1) || (class == 255) then
     Ok (Some (record { name = name.0; kind = u16_in bytes fields; unicast = top_bit_in bytes (fields + 2) }), fields + 4)

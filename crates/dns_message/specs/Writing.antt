@@ -2,48 +2,15 @@
 use Rattle.std.specs.Prelude.{ℕ, ◌+◌, ◌*◌, ◌%◌, ◌^◌, Bool, true, false, List, [], ◌∷◌, ◌++◌, length, Option, Some, None, nat_lt, ◌&&◌, ◌≡◌, ◌≤◌, IsTrue, if◌then◌else◌}
 use Rattle.std.specs.List.{list_all}
 use Rattle.std.specs.Int.{to_be_bytes, w16, w32}
-use Rattle.dns_name.specs.Names.{exact_eq, is_name}
+use Rattle.dns_name.specs.Names.{is_name}
 use Rattle.dns_record.specs.Records.{kind_of, data_of, is_rdata}
 use Rattle.dns_record.specs.declared.record.Rdata.{Rdata}
 use Rattle.dns_record.specs.declared.record.Rdata.TheVariants.{A, Aaaa, Ptr, Cname, Srv, Txt, Nsec, Raw}
 use Rattle.dns_record.specs.declared.record.Rr.{Rr}
 use Rattle.dns_record.specs.declared.record.Question.{Question}
+use Rattle.dns_pointers.specs.Writing.{Offsets, Piece, onto, written_name}
 use Rattle.dns_message.specs.declared.message.Message.{Message}
 use Rattle.dns_message.specs.Reading.{Spells}
-
--- names that were written, each with the offset of its first label, the least first
-abbrev pub Offsets : Type 0
-Offsets = List (List (List ℕ) × ℕ)
-
--- a piece of a message, and the names that were written up to its end
-pub record Piece : Type 0 where
-  pub bytes : List ℕ
-  pub names : Offsets
-
--- the least offset at which a name was written
-unfoldable pub offset_of : List (List ℕ) → Offsets → Option ℕ
-offset_of name [] = None
-offset_of name (written ∷ more) = if exact_eq name written.0 then Some written.1 else offset_of name more
-
--- bytes put before a piece
-abbrev pub onto : List ℕ → Piece → Piece
-onto bytes piece = record { bytes = bytes ++ piece.bytes; names = piece.names }
-
--- a pointer to an offset
-abbrev pub pointer_to : ℕ → List ℕ
-pointer_to offset = to_be_bytes w16 (192 * 256 + offset)
-
--- a pointer to where the name was written, or the given piece
-abbrev pub pointer_or : Option ℕ → Offsets → Piece → Piece
-pointer_or (Some offset) names piece = record { bytes = pointer_to offset; names = names }
-pointer_or None names piece = piece
-
--- a name at an offset, behind names that were written
-unfoldable pub written_name : Offsets → ℕ → List (List ℕ) → Piece
-written_name names at [] = record { bytes = 0 ∷ []; names = names }
-written_name names at (label ∷ rest) =
-    let tail = written_name (names ++ (label ∷ rest, at) ∷ []) (at + 1 + length label) rest in
-    pointer_or (offset_of (label ∷ rest) names) names (onto (length label ∷ label) tail)
 
 -- the class IN with its top bit
 abbrev pub class_word : Bool → List ℕ
@@ -88,6 +55,10 @@ flag_bytes m = (bit_worth m.response 128 + m.opcode % 16 * 8 + bit_worth m.autho
 abbrev pub count_bytes : Message → List ℕ
 count_bytes m =
     to_be_bytes w16 (length m.questions) ++ to_be_bytes w16 (length m.answers) ++ to_be_bytes w16 (length m.authority) ++ to_be_bytes w16 (length m.additional)
+
+-- how many questions and records a message has
+abbrev pub item_count : Message → ℕ
+item_count m = length m.questions + length m.answers + length m.authority + length m.additional
 
 -- the header: ID, flags and counts
 unfoldable pub header : Message → List ℕ

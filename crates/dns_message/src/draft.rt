@@ -1,12 +1,13 @@
 // A message under way, that grows while it has room.
 ghost use Rattle.std.specs.Prelude.{◌≡◌, ◌+◌, ◌<◌, ◌≤◌, ℕ, [], length, take, min, nat_le, true, false, IsTrue, IfOk, OnOk, OnErr, if◌then◌else◌};
-ghost use Rattle.dns_message.specs.Writing.{Offsets, written_question, written_record, written_data};
+ghost use Rattle.dns_pointers.specs.Writing.{Offsets};
+ghost use Rattle.dns_message.specs.Writing.{written_question, written_record, written_data};
 ghost use Rattle.dns_message.specs.Packing.{is_within_length, bare_query, bare_reply};
 ghost use Rattle.dns_message.specs.Drafting.{with_question, with_answer, with_additional, records_of};
 
 use crate::writing::{put_question, put_record};
-use crate::written_names::WrittenNames;
 use crate::{Message, Questions, Rrs};
+use dns_pointers::WrittenNames;
 use dns_record::{Question, Rdata, Rr};
 use std::alloc::{AllocError, Global};
 use std::marker::Model;
@@ -26,7 +27,7 @@ pub(crate) struct Written<'a> {
 
 impl<'a> Model for Written<'a> {
     ghost use Rattle.std.specs.Prelude.{ℕ, length};
-    ghost use Rattle.dns_message.specs.Writing.{Offsets};
+    ghost use Rattle.dns_pointers.specs.Writing.{Offsets};
 
     ghost Value = { ℕ × Offsets };
 

@@ -1,18 +1,13 @@
 //! Messages of the domain name system, as Multicast DNS uses them. (RFC 1035 4.1, RFC 6762 18)
 #![tactic(auto)]
 
-mod chains;
-mod compress;
 mod data;
 mod draft;
-mod fields;
 mod law;
 mod message;
-mod names;
 mod reading;
 mod sections;
 mod writing;
-mod written_names;
 
 pub use draft::Draft;
 pub use law::{one_message_is_spelled, what_is_written_is_read_again};

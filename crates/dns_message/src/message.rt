@@ -2,7 +2,9 @@
 ghost use Rattle.std.specs.Prelude.{◌≡◌};
 ghost use Rattle.dns_message.specs.declared.message.MessageError.TheVariants as message_error;
 ghost use Rattle.dns_message.specs.declared.message.WriteError.TheVariants as write_error;
+ghost use Rattle.dns_message.specs.Reading.{message_fault};
 
+use dns_pointers::NameFault;
 use dns_record::{Question, Rr};
 use lists::List;
 use std::alloc::AllocError;
@@ -58,6 +60,19 @@ impl From<AllocError> for MessageError {
 
     fn from(_e: AllocError) -> MessageError {
         MessageError::NoMemory
+    }
+}
+
+impl From<NameFault> for MessageError {
+    ghost from_gives = { λ fault e. e ≡ message_fault fault };
+
+    fn from(fault: NameFault) -> MessageError {
+        match fault {
+            NameFault::Truncated => MessageError::Truncated,
+            NameFault::BadPointer => MessageError::BadPointer,
+            NameFault::BadLabel => MessageError::BadLabel,
+            NameFault::LongName => MessageError::LongName,
+        }
     }
 }
 

@@ -4,10 +4,9 @@ ghost use Rattle.dns_message.specs.declared.message.Message.{Message};
 ghost use Rattle.dns_message.specs.Reading.{Spells, spelled, fault, fault_number, has_bit, IsReadAs};
 ghost use Rattle.dns_message.specs.Writing.{HasValidParts};
 
-use crate::chains::Chains;
-use crate::fields::u16_at;
 use crate::sections::{read_questions, read_records};
 use crate::{Message, MessageError};
+use dns_pointers::Packet;
 use std::alloc::Global;
 
 /// The message that the bytes spell. Questions of another class than IN and ANY are left out of it, and so are records
@@ -44,14 +43,14 @@ fn read_short(alloc: Global, bytes: &[u8]) -> Result<Message, MessageError>
     if bytes.len() < 12 {
         return Err(MessageError::Truncated);
     }
-    let chains = Chains::of(alloc, bytes)?;
-    let (questions, at) = read_questions(alloc, bytes, &chains, u16_at(bytes, 4), 12)?;
-    let (answers, at) = read_records(alloc, bytes, &chains, u16_at(bytes, 6), at)?;
-    let (authority, at) = read_records(alloc, bytes, &chains, u16_at(bytes, 8), at)?;
-    let (additional, _) = read_records(alloc, bytes, &chains, u16_at(bytes, 10), at)?;
+    let packet = Packet::of(alloc, bytes)?;
+    let (questions, at) = read_questions(alloc, &packet, packet.u16_at(4), 12)?;
+    let (answers, at) = read_records(alloc, &packet, packet.u16_at(6), at)?;
+    let (authority, at) = read_records(alloc, &packet, packet.u16_at(8), at)?;
+    let (additional, _) = read_records(alloc, &packet, packet.u16_at(10), at)?;
     let (high, low) = (bytes[2], bytes[3]);
     Ok(Message {
-        id: u16_at(bytes, 0),
+        id: packet.u16_at(0),
         response: is_set(high, 7),
         authoritative: is_set(high, 2),
         truncated: is_set(high, 1),

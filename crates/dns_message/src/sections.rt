@@ -1,13 +1,10 @@
 // Questions and records, at offsets of a message. (RFC 1035 4.1.2 and 4.1.3, RFC 6762 10.2 and 18.12)
 ghost use Rattle.std.specs.Prelude.{◌≡◌, ◌+◌, ◌<◌, ◌≤◌, length, IfOk};
-ghost use Rattle.dns_message.specs.Chains.{AreEnds};
 ghost use Rattle.dns_message.specs.Reading.{question_at, record_at, data_end_at, all_at, IsReadAs};
 
-use crate::chains::Chains;
 use crate::data::read_rdata;
-use crate::fields::{u16_at, u32_at};
-use crate::names::read_name;
 use crate::{MessageError, Questions, Rrs};
+use dns_pointers::Packet;
 use dns_record::{Question, Rr};
 use std::alloc::Global;
 
@@ -23,19 +20,16 @@ const TOP_BIT: u16 = 0x8000;
 /// So many questions from an offset on, those of another class than IN and ANY left out, and the offset behind them.
 pub(crate) fn read_questions(
     alloc: Global,
-    bytes: &[u8],
-    chains: &Chains,
+    packet: &Packet<'_>,
     count: u16,
     at: usize,
 ) -> Result<(Questions, usize), MessageError>
-    requires short { length bytes.now ≤ 8972 }
-    requires ends { AreEnds bytes.now chains.now }
-    ensures { IsReadAs result (all_at (question_at bytes.now) count at) }
+    ensures { IsReadAs result (all_at (question_at packet.now) count at) }
 {
     let mut questions = Questions::new(alloc);
     let mut place = at;
     'questions: for read in 0..count {
-        let (question, end) = read_question(bytes, chains, place)?;
+        let (question, end) = read_question(packet, place)?;
         if let Some(question) = question {
             questions.push(question)?;
         }
@@ -48,19 +42,16 @@ pub(crate) fn read_questions(
 /// them.
 pub(crate) fn read_records(
     alloc: Global,
-    bytes: &[u8],
-    chains: &Chains,
+    packet: &Packet<'_>,
     count: u16,
     at: usize,
 ) -> Result<(Rrs, usize), MessageError>
-    requires short { length bytes.now ≤ 8972 }
-    requires ends { AreEnds bytes.now chains.now }
-    ensures { IsReadAs result (all_at (record_at bytes.now) count at) }
+    ensures { IsReadAs result (all_at (record_at packet.now) count at) }
 {
     let mut rrs = Rrs::new(alloc);
     let mut place = at;
     'records: for read in 0..count {
-        let (rr, end) = read_record(alloc, bytes, chains, place)?;
+        let (rr, end) = read_record(alloc, packet, place)?;
         if let Some(rr) = rr {
             rrs.push(rr)?;
         }
@@ -70,24 +61,18 @@ pub(crate) fn read_records(
 }
 
 #[tactic(auto, unfolding(crate::specs::Reading::question_at))]
-fn read_question(
-    bytes: &[u8],
-    chains: &Chains,
-    at: usize,
-) -> Result<(Option<Question>, usize), MessageError>
-    requires short { length bytes.now ≤ 8972 }
-    requires ends { AreEnds bytes.now chains.now }
-    ensures { result ≡ question_at bytes.now at }
+fn read_question(packet: &Packet<'_>, at: usize) -> Result<(Option<Question>, usize), MessageError>
+    ensures { result ≡ question_at packet.now at }
 {
-    let (name, fields) = read_name(bytes, chains, at)?;
-    if bytes.len() - fields < 4 {
+    let (name, fields) = packet.name_at(at)?;
+    if packet.bytes().len() - fields < 4 {
         return Err(MessageError::Truncated);
     }
-    let class = u16_at(bytes, fields + 2);
+    let class = packet.u16_at(fields + 2);
     let kept = class % TOP_BIT == INTERNET || class % TOP_BIT == ANY;
     let question = kept.then_some(Question {
         name,
-        kind: u16_at(bytes, fields),
+        kind: packet.u16_at(fields),
         unicast: class >= TOP_BIT,
     });
     Ok((question, fields + 4))
@@ -96,42 +81,38 @@ fn read_question(
 #[tactic(auto, unfolding(crate::specs::Reading::record_at))]
 fn read_record(
     alloc: Global,
-    bytes: &[u8],
-    chains: &Chains,
+    packet: &Packet<'_>,
     at: usize,
 ) -> Result<(Option<Rr>, usize), MessageError>
-    requires short { length bytes.now ≤ 8972 }
-    requires ends { AreEnds bytes.now chains.now }
-    ensures { IsReadAs result (record_at bytes.now at) }
+    ensures { IsReadAs result (record_at packet.now at) }
 {
-    let (owner, fields) = read_name(bytes, chains, at)?;
-    let stop = data_end(bytes, fields)?;
-    let (kind, class) = (u16_at(bytes, fields), u16_at(bytes, fields + 2));
+    let (owner, fields) = packet.name_at(at)?;
+    let stop = data_end(packet, fields)?;
+    let (kind, class) = (packet.u16_at(fields), packet.u16_at(fields + 2));
     if kind == OPT || class % TOP_BIT != INTERNET {
         return Ok((None, stop));
     }
-    let rdata = read_rdata(alloc, bytes, chains, kind, fields + 10, stop)?;
+    let rdata = read_rdata(alloc, packet, kind, fields + 10, stop)?;
     let rr = Rr {
         owner,
         flush: class >= TOP_BIT,
-        ttl: u32_at(bytes, fields + 4),
+        ttl: packet.u32_at(fields + 4),
         rdata,
     };
     Ok((Some(rr), stop))
 }
 
 // Where the data of a record end, by the fixed fields before them.
-fn data_end(bytes: &[u8], fields: usize) -> Result<usize, MessageError>
-    requires short { length bytes.now ≤ 8972 }
-    requires within { fields ≤ length bytes.now }
-    ensures end { result ≡ data_end_at bytes.now fields }
-    ensures within { IfOk result (λ end. (fields + 10 ≤ end) × (end ≤ length bytes.now)) }
+fn data_end(packet: &Packet<'_>, fields: usize) -> Result<usize, MessageError>
+    requires within { fields ≤ length packet.now }
+    ensures end { result ≡ data_end_at packet.now fields }
+    ensures within { IfOk result (λ end. (fields + 10 ≤ end) × (end ≤ length packet.now)) }
 {
-    if bytes.len() - fields < 10 {
+    if packet.bytes().len() - fields < 10 {
         return Err(MessageError::Truncated);
     }
-    let end = fields + 10 + usize::from(u16_at(bytes, fields + 8));
-    if end > bytes.len() {
+    let end = fields + 10 + usize::from(packet.u16_at(fields + 8));
+    if end > packet.bytes().len() {
         return Err(MessageError::Truncated);
     }
     Ok(end)

@@ -3,14 +3,13 @@ ghost use Rattle.std.specs.Prelude.{◌≡◌, ◌≢◌, ◌+◌, ◌<◌, ◌�
 ghost use Rattle.std.specs.Int.{to_be_bytes, w16};
 ghost use Rattle.dns_record.specs.Records.{data_of};
 ghost use Rattle.dns_message.specs.declared.message.Message.{Message};
-ghost use Rattle.dns_message.specs.Writing.{Offsets, Piece, written, written_question, written_record, written_data, written_all, header, flag_bytes, count_bytes, class_word, bit_worth};
-ghost use Rattle.dns_message.specs.Compressing.{item_count};
+ghost use Rattle.dns_pointers.specs.Writing.{Offsets, Piece};
+ghost use Rattle.dns_message.specs.Writing.{written, written_question, written_record, written_data, written_all, header, flag_bytes, count_bytes, item_count, class_word, bit_worth};
 
-use crate::compress::compress;
-use crate::written_names::WrittenNames;
 use crate::{Message, WriteError};
 use bytes::Bytes;
 use dns_name::Name;
+use dns_pointers::{WrittenNames, compress};
 use dns_record::{Question, Rdata, Rr};
 use std::alloc::{AllocError, Global};
 

@@ -5,8 +5,10 @@ use Rattle.number_text.specs.Digits.{four_text, ipv4_text, hex_text, ipv6_half_t
 use Rattle.dns_name.specs.Names.{folded_eq, exact_eq, name_cmp, is_under}
 use Rattle.dns_record.specs.Records.{data_eq, same, rdata_cmp, record_cmp, matches, key_eq, key_cmp, is_rdata}
 use Rattle.dns_record.specs.RecordText.{kind_name, kind_text, data_text, record_text}
-use Rattle.dns_message.specs.Reading.{label_at, target_at, labels_at, name_at, name_within, name_up_to, srv_at, ns_at, nsec_at, mx_at, soa_at, rdata_at, record_at, question_at, all_at, sections_at, spelled}
-use Rattle.dns_message.specs.Writing.{offset_of, written_name, written_question, written_data, written_record, written_all, header, written_body, written}
+use Rattle.dns_pointers.specs.Reading.{label_at, target_at, labels_at, name_at}
+use Rattle.dns_message.specs.Reading.{name_within, name_up_to, srv_at, ns_at, nsec_at, mx_at, soa_at, rdata_at, record_at, question_at, all_at, sections_at, spelled}
+use Rattle.dns_pointers.specs.Writing.{offset_of, written_name}
+use Rattle.dns_message.specs.Writing.{written_question, written_data, written_record, written_all, header, written_body, written}
 use Rattle.sd_name.specs.ServiceTypes.{service_type, is_service_label}
 use Rattle.sd_name.specs.Renaming.{renamed, host_renamed}
 use Rattle.sd_call.specs.Answers.{answer_cmp, answer_eq}

@@ -8,7 +8,8 @@ use Rattle.dns_record.specs.declared.record.Rr.{Rr}
 use Rattle.dns_record.specs.declared.record.Rdata.{Rdata}
 use Rattle.dns_record.specs.declared.record.Rdata.TheVariants.{A, Aaaa, Ptr, Cname, Srv, Txt, Nsec, Raw}
 use Rattle.dns_record.specs.Records.{data_of, kind_of}
-use Rattle.dns_message.specs.Writing.{Offsets, Piece, onto, offset_of, pointer_or, class_word, written_name, written_data, written_record, written_all}
+use Rattle.dns_pointers.specs.Writing.{Offsets, Piece, onto, offset_of, pointer_or, written_name}
+use Rattle.dns_message.specs.Writing.{class_word, written_data, written_record, written_all}
 use Rattle.dns_message.specs.Packing.{query_with}
 use Rattle.dns_message.proofs.Whole.{length-whole}
 use Rattle.mdns_history.specs.Asking.{fits_alone}

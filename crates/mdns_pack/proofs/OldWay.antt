@@ -8,7 +8,8 @@ use Rattle.dns_record.specs.declared.record.Rr.{Rr}
 use Rattle.dns_record.specs.declared.record.Question.{Question}
 use Rattle.dns_record.specs.Records.{kind_of}
 use Rattle.dns_message.specs.declared.message.Message.{Message}
-use Rattle.dns_message.specs.Writing.{Offsets, Piece, class_word, written_name, written_question, written_data, written_record, written_all, written}
+use Rattle.dns_pointers.specs.Writing.{Offsets, Piece, written_name}
+use Rattle.dns_message.specs.Writing.{class_word, written_question, written_data, written_record, written_all, written}
 use Rattle.dns_message.specs.Packing.{is_within_length, packet_length, parts_from, parts_of, first_part, plain_question, plain_record, legacy_reply, repeated_questions, pack_legacy}
 use Rattle.dns_message.specs.Drafting.{records_of}
 use Rattle.dns_message.proofs.Whole.{questions_of}

@@ -12,7 +12,8 @@ use Rattle.mdns_pack.proofs.Found.{same-tied}
 use Rattle.dns_record.specs.declared.record.Rr.{Rr}
 use Rattle.dns_record.specs.Records.{same, record_cmp}
 use Rattle.dns_message.specs.declared.message.Message.{Message}
-use Rattle.dns_message.specs.Writing.{Piece, written_record, written_all, written}
+use Rattle.dns_pointers.specs.Writing.{Piece}
+use Rattle.dns_message.specs.Writing.{written_record, written_all, written}
 use Rattle.dns_message.specs.Packing.{packet_length, fits, parts_from, parts_of, bare_reply, reply_with, fitting_additional, Wanting, answers_in, wanted_in, replies_of, pack_reply}
 use Rattle.dns_message.specs.Drafting.{with_answer, records_of}
 use Rattle.dns_message.proofs.Drafts.{size_is}

@@ -1,7 +1,8 @@
 use Rattle.std.proofs.Common.{◌<◌, ◌∙◌, ℕ, true≢false, ap, sym, subst, length}
 use Rattle.std.specs.Prelude.{Option, IfSome}
 use Rattle.dns_message.specs.declared.message.Message.{Message}
-use Rattle.dns_message.specs.Writing.{Offsets, written, written_question}
+use Rattle.dns_pointers.specs.Writing.{Offsets}
+use Rattle.dns_message.specs.Writing.{written, written_question}
 use Rattle.dns_message.specs.Packing.{is_within_length}
 use Rattle.dns_message.specs.Drafting.{with_question, records_of, IsDrafted}
 use Rattle.dns_message.proofs.Drafts.{next_question, asked_grown, asked, over_is, fits_is, drafted_put, yes_is, no_is}

@@ -1,6 +1,7 @@
 use Rattle.std.proofs.Common.{◌≡◌, ◌+◌, ◌∙◌, ℕ, cond, arith, ap, subst, length, length-append}
 use Rattle.std.specs.Prelude.{nat_le}
-use Rattle.dns_message.specs.Writing.{Offsets, written_record}
+use Rattle.dns_pointers.specs.Writing.{Offsets}
+use Rattle.dns_message.specs.Writing.{written_record}
 use Rattle.dns_message.proofs.Kept.{record_cut, all_or_nothing}
 use Rattle.dns_message.proofs.draft.Written.record.Goals as goal
 

@@ -1,5 +1,0 @@
-use Rattle.dns_message.proofs.Searching.{none_yet}
-use Rattle.dns_message.proofs.written_names.WrittenNames.new.Goals as goal
-
-pub invariant_of-result : goal.invariant_of-result
-invariant_of-result c = none_yet _ _ c.new.ensures.items

@@ -1,7 +1,0 @@
-use Rattle.std.proofs.Common.{◌≡◌, drop}
-use Rattle.dns_name.specs.Names.{labels_of}
-use Rattle.dns_message.specs.Writing.{offset_of}
-use Rattle.dns_message.proofs.written_names.find.Given as goal
-
-abbrev pub invariant-loop-suffix : goal.invariant-loop-suffix
-invariant-loop-suffix l = offset_of (labels_of l.wire) (drop l.suffix-index l.names) ≡ offset_of (labels_of l.wire) l.names

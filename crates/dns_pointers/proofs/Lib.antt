@@ -1,0 +1,11 @@
+pub mod NameParts
+pub mod Chunks
+pub mod NameTurns
+pub mod Ends
+pub mod Standing
+pub mod LabelSteps
+pub mod Tables
+pub mod NamesAgain
+pub mod NamesRead
+pub mod Wide
+pub mod Searching
