@@ -12,7 +12,6 @@ ghost use Rattle.mdns_step.specs.InForce.{in_force};
 ghost use Rattle.mdns_step.specs.Touched.{touched};
 ghost use Rattle.mdns_history.specs.Fitting.{Fits, FitsAt, boot_entry, is_boot, is_host_label};
 ghost use Rattle.mdns_history.specs.Due.{NextDue};
-ghost use Rattle.lists.specs.Lists.{least};
 ghost use Rattle.sd_sessions.specs.Codes.{has_number};
 
 use crate::parts::{Done, Parts};
@@ -25,6 +24,7 @@ use mdns_history::{Config, Entry, Event, Gifts, Marks, Outcome, Sends};
 use mdns_owing::Owing;
 use mdns_records::Records;
 use mdns_reply::Lasts;
+use mdns_timer::earlier;
 use sd_sessions::Sessions;
 use std::alloc::{AllocError, Global};
 use std::marker::Model;
@@ -203,15 +203,4 @@ fn not_before(last: u64, due: Option<u64>) -> Option<u64>
 {
     let due = due?;
     Some(last.max(due))
-}
-
-// The earlier of two moments that may be there.
-fn earlier(one: Option<u64>, other: Option<u64>) -> Option<u64>
-    ensures { (ones others : List ℕ) → one ≡ least ones → other ≡ least others → result ≡ least (ones ++ others) }
-{
-    match (one, other) {
-        (Some(one), Some(other)) => Some(one.min(other)),
-        (Some(one), None) => Some(one),
-        (None, other) => other,
-    }
 }

@@ -10,4 +10,4 @@ mod suppression;
 pub use all::all_known_answers;
 pub use known::known_answers;
 pub use laws::known_answers_of_live_records;
-pub use suppression::suppresses;
+pub use suppression::{is_struck, suppresses};

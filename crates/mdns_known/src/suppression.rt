@@ -1,6 +1,6 @@
 // Which listed records silence a reply.
 ghost use Rattle.std.specs.Prelude.{◌≡◌};
-ghost use Rattle.mdns_history.specs.Debts.{suppresses};
+ghost use Rattle.mdns_history.specs.Debts.{is_struck, suppresses};
 
 use dns_record::Rr;
 
@@ -9,4 +9,11 @@ pub fn suppresses(listed: &Rr, own: &Rr) -> bool
     ensures { result ≡ suppresses own.now listed.now }
 {
     own.same(listed) && u64::from(own.ttl) <= 2 * u64::from(listed.ttl)
+}
+
+/// Whether listed answers silence one's own record. (RFC 6762 7.1)
+pub fn is_struck(answers: &[Rr], own: &Rr) -> bool
+    ensures { result ≡ is_struck answers.now own.now }
+{
+    answers.iter().any(|listed| suppresses(listed, own))
 }

@@ -1,12 +1,11 @@
 // The first moment from which on some of what queries are owed may be sent.
-ghost use Rattle.std.specs.Prelude.{◌≡◌, ℕ, ◌<◌, ◌≤◌, ◌++◌, List, length, slice_index_or, IfNone, IfSome};
-ghost use Rattle.lists.specs.Lists.{least};
+ghost use Rattle.std.specs.Prelude.{◌≡◌, ◌<◌, ◌≤◌, length, slice_index_or, IfNone, IfSome};
 ghost use Rattle.mdns_debts.specs.Following.{next_reply};
 ghost use Rattle.mdns_owing.specs.Owing.{last_in, moments_of, AreNoSooner};
 
 use crate::query::Query;
 use mdns_reply::Lasts;
-use mdns_timer::Deadlines;
+use mdns_timer::{Deadlines, earlier};
 
 /// The first moment, in ms, from which on some of what these queries are owed may be sent. What is due later than one that was found isn't
 /// looked at: nothing of it may be sent before it is due. (RFC 6762 6)
@@ -34,16 +33,5 @@ fn next_sooner(deadlines: &Deadlines, first: Option<u64>, from: usize) -> Option
         Some(first) => deadlines.next_due(from, first.saturating_sub(1)),
         None if from < deadlines.len() => Some(from),
         None => None,
-    }
-}
-
-// The earlier of two moments that may be there.
-fn earlier(one: Option<u64>, other: Option<u64>) -> Option<u64>
-    ensures { (ones others : List ℕ) → one ≡ least ones → other ≡ least others → result ≡ least (ones ++ others) }
-{
-    match (one, other) {
-        (Some(one), Some(other)) => Some(one.min(other)),
-        (Some(one), None) => Some(one),
-        (None, other) => other,
     }
 }

@@ -3,7 +3,7 @@ ghost use Rattle.std.specs.Prelude.{◌≡◌, nat_le, true, ◌&&◌, IsTrue};
 ghost use Rattle.std.specs.List.{list_any};
 ghost use Rattle.dns_record.specs.Records.{same};
 ghost use Rattle.mdns_base.specs.Hosts.{host_eq};
-ghost use Rattle.mdns_history.specs.Debts.{Owed, is_struck};
+ghost use Rattle.mdns_history.specs.Debts.{Owed};
 ghost use Rattle.mdns_history.specs.Hearings.{counted_records, query_of};
 ghost use Rattle.mdns_debts.specs.Following.{strikes, meets, leaves};
 ghost use Rattle.mdns_owing.specs.Marks.{HasMark};
@@ -16,7 +16,7 @@ use crate::terms::Terms;
 use dns_record::Rr;
 use mdns_base::Host;
 use mdns_happened::{Happened, When};
-use mdns_known::suppresses;
+use mdns_known::is_struck;
 
 /// What an event tells the queries that are owed something: when it comes, what happened, and what is multicast with it.
 #[derive(Drop)]
@@ -104,13 +104,6 @@ fn says(records: &[Rr], rr: &Rr) -> bool
     ensures { result ≡ list_any (λ one. same rr.now one && nat_le rr.now.ttl one.ttl) records.now }
 {
     records.iter().any(|one| rr.same(one) && rr.ttl <= one.ttl)
-}
-
-/// Whether listed answers silence a record. (RFC 6762 7.1)
-pub fn is_struck(answers: &[Rr], rr: &Rr) -> bool
-    ensures { result ≡ is_struck answers.now rr.now }
-{
-    answers.iter().any(|listed| suppresses(listed, rr))
 }
 
 fn is_same_host(left: &Host, right: &Host) -> bool

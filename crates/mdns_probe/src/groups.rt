@@ -1,5 +1,5 @@
 // The claims of groups.
-ghost use Rattle.std.specs.Prelude.{◌≡◌, ◌≤◌, ◌+◌, ◌^◌, ◌∷◌, ◌++◌, [], ℕ, List, map, true, false, slice_get, vec_len, vec_capacity, OnOk, OnErr, IfOk, IfSome, IsOk, is_some};
+ghost use Rattle.std.specs.Prelude.{◌≡◌, ◌≤◌, ◌+◌, ◌^◌, ◌∷◌, ◌++◌, [], map, true, false, slice_get, vec_len, vec_capacity, OnOk, OnErr, IfOk, IfSome, IsOk, is_some};
 ghost use Rattle.std.specs.List.{list_any, flat_map, find, position};
 ghost use Rattle.std.specs.Option.{option_map, option_map_or, option_copied};
 ghost use Rattle.lists.specs.Lists.{least};
@@ -8,6 +8,7 @@ ghost use Rattle.mdns_probe.specs.Claiming.{begun, set_back, probed_if, settled_
 use crate::claim::{Change, Claim, Gone};
 use crate::due::Due;
 use dns_message::Rrs;
+use mdns_timer::earlier;
 use std::alloc::{AllocError, Global};
 use std::marker::Model;
 
@@ -266,15 +267,4 @@ fn first_of(claims: &[Claim], announces: bool) -> Option<u64>
         first = earlier(first, claim.next_due(announces));
     }
     first
-}
-
-// The earlier of two moments that may be there.
-fn earlier(one: Option<u64>, other: Option<u64>) -> Option<u64>
-    ensures { (ones others : List ℕ) → one ≡ least ones → other ≡ least others → result ≡ least (ones ++ others) }
-{
-    match (one, other) {
-        (Some(one), Some(other)) => Some(one.min(other)),
-        (Some(one), None) => Some(one),
-        (None, other) => other,
-    }
 }

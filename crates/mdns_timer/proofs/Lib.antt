@@ -4,3 +4,4 @@ pub mod Paths
 pub mod Trees
 pub mod Parted
 pub mod LeastOf
+pub mod LeastBoth

@@ -2,11 +2,13 @@
 #![tactic(auto)]
 
 mod deadlines;
+mod moments;
 mod part;
 mod timed;
 mod timers;
 mod tree;
 
 pub use deadlines::Deadlines;
+pub use moments::earlier;
 pub use timed::Timed;
 pub use timers::Timers;

@@ -13,7 +13,7 @@ mod ways;
 pub use debt::{OwedRecord, StandingDebt};
 pub use due::{due_multicasts, due_unicasts, may_go, released_records};
 pub use last::{is_long_ago, is_multicast, is_multicast_in, is_recent, last_multicast};
-pub use owed::{is_ours, is_struck, nsecs_of, owed_to};
+pub use owed::{is_ours, nsecs_of, owed_to};
 pub use query::{debts_made, owed_by};
 pub use standing::standing_debts;
 pub use ways::{debt_wait, dest_eq, host_eq, way_of};

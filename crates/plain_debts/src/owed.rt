@@ -1,14 +1,12 @@
 // Which records questions are owed. (RFC 6762 6, 6.1 and 7.1)
 ghost use Rattle.std.specs.Prelude.{◌≡◌, ◌<◌, ◌^◌, filter, length, IfOk};
-ghost use Rattle.std.specs.List.{list_any};
 ghost use Rattle.dns_record.specs.Records.{matches};
 ghost use Rattle.mdns_history.specs.Groups.{group_name, unique_records};
 ghost use Rattle.mdns_history.specs.Sureness.{own_records};
-ghost use Rattle.mdns_history.specs.Debts.{is_nsec, is_ours, is_struck, nsec_record, nsecs_of, owed_to};
+ghost use Rattle.mdns_history.specs.Debts.{is_nsec, is_ours, nsec_record, nsecs_of, owed_to};
 
 use dns_name::Name;
 use dns_record::{Key, Question, Rr, matches};
-use mdns_known::suppresses;
 use plain_groups::{
     LiveGroup, group_name, has_same, is_own, own_records, sure_groups, unique_records,
 };
@@ -89,13 +87,6 @@ pub fn owed_to(
         return Ok(own);
     }
     nsecs_of(alloc, &question.name, history)
-}
-
-/// Whether listed answers silence a record.
-pub fn is_struck(answers: &[Rr], own: &Rr) -> bool
-    ensures { result ≡ is_struck answers.now own.now }
-{
-    answers.iter().any(|listed| suppresses(listed, own))
 }
 
 fn is_nsec(rr: &Rr) -> bool

@@ -6,9 +6,10 @@ ghost use Rattle.plain_history.specs.Kept.{kept_if};
 ghost use Rattle.mdns_history.specs.Debts.{debt_of, debts_from, debts_made, is_struck, is_unique, owed_by, owed_eq, owed_for, owed_to};
 
 use crate::debt::{OwedRecord, StandingDebt};
-use crate::owed::{is_struck, owed_to};
+use crate::owed::owed_to;
 use crate::ways::{debt_wait, dest_eq, way_of};
 use dns_record::{Question, Rr};
+use mdns_known::is_struck;
 use plain_history::{HeardMessage, HistoryEntry, heard_in, query_of};
 use std::alloc::{AllocError, Global};
 

@@ -7,12 +7,13 @@ ghost use Rattle.plain_debts.specs.Meeting.{covers, left_open, met_by};
 
 use crate::debt::StandingDebt;
 use crate::last::is_multicast_in;
-use crate::owed::{is_ours, is_struck};
+use crate::owed::is_ours;
 use crate::query::debts_made;
 use crate::ways::host_eq;
 use dns_record::Rr;
 use mdns_base::Dest;
 use mdns_history::{Entry, Event};
+use mdns_known::is_struck;
 use plain_history::{HeardMessage, HistoryEntry, counted_records, heard_in, query_of};
 use std::alloc::{AllocError, Global};
 

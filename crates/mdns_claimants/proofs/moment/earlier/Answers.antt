@@ -1,5 +1,5 @@
 use Rattle.std.proofs.Common.{◌∙◌, Some, ap, sym}
-use Rattle.mdns_probe.proofs.Firsts.{least-both}
+use Rattle.mdns_timer.proofs.LeastBoth.{least-both}
 use Rattle.mdns_claimants.proofs.moment.earlier.Goals as goal
 
 pub returns-in-Some-Some : goal.returns-in-Some-Some
