@@ -22,7 +22,7 @@ use mdns_happened::{Happened, Heard, Idle, Refusal, When};
 use mdns_history::{Event, Mark};
 use mdns_records::Records;
 use sd_call::{Request, well_formed};
-use sd_sessions::Registering;
+use sd_operations::Registering;
 use std::alloc::{AllocError, Global};
 
 const MDNS_PORT: u16 = 5353;

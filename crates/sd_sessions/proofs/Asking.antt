@@ -16,7 +16,7 @@ use Rattle.by_name.specs.At.{owner_of}
 use Rattle.std.specs.Str.{bytes_eq}
 use Rattle.sd_index.specs.declared.asker.Asker.{Asker}
 use Rattle.sd_index.specs.Asked.{if_asks}
-use Rattle.sd_sessions.specs.Kept.{AreRising}
+use Rattle.sd_operations.specs.Operations.{AreRising}
 use Rattle.sd_sessions.specs.Indexed.{asker_for, asking_of}
 use Rattle.sd_sessions.proofs.Seen.{updated_asks}
 

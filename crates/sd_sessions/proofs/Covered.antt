@@ -22,13 +22,14 @@ use Rattle.mdns_happened.specs.Walks.{is_for, walk_of}
 use Rattle.by_name.specs.At.{At, owner_of}
 use Rattle.sd_index.specs.declared.asker.Asker.{Asker}
 use Rattle.sd_index.specs.Asked.{asker_eq, askers_of, asks}
-use Rattle.sd_sessions.specs.Codes.{is_running}
+use Rattle.sd_operations.specs.Codes.{is_running}
 use Rattle.sd_sessions.specs.Sessions.{Session}
 use Rattle.sd_sessions.specs.Settling.{own_call}
 use Rattle.sd_sessions.specs.Kept.{HaveOwn, AreOwn}
 use Rattle.sd_sessions.specs.Walked.{walk_for}
 use Rattle.sd_sessions.specs.Indexed.{asker_for, AreIndexed}
-use Rattle.sd_sessions.specs.Concerned.{asker_at, concerned, has_one, is_one_of, AreMore, AreToldMet, IsApart, IsCallMet, IsCovered, IsMet, IsOwnCovered, IsStill, IsUnmoved, IsWalkMet}
+use Rattle.sd_sessions.specs.Concerned.{asker_at, concerned, is_one_of, AreMore, AreToldMet, IsApart, IsCallMet, IsCovered, IsMet, IsOwnCovered, IsStill, IsUnmoved, IsWalkMet}
+use Rattle.sd_operations.specs.Operations.{has_one}
 use Rattle.sd_sessions.proofs.Asking.{holds-found, passes-found}
 use Rattle.sd_sessions.proofs.IndexNamed.{IsFiled, all-filed, owner-alike}
 use Rattle.sd_sessions.proofs.Seen.{all-insert, all-map, updated_asks, updated_registers}

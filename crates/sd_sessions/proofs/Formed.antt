@@ -13,7 +13,8 @@ use Rattle.sd_name.specs.ServiceTypes.{service_type, is_service_label}
 use Rattle.sd_call.specs.Requests.{well_formed, has_subtypes_up_to, with_txt}
 use Rattle.mdns_history.specs.declared.operation.Operation.{Operation}
 use Rattle.mdns_history.specs.Sessions.{Accepted, by_op, has_op, updated, after_request}
-use Rattle.sd_sessions.specs.Settling.{own_call, left_to, after_own, change_told, shifted_told, sessions_told}
+use Rattle.sd_sessions.specs.Settling.{own_call, left_to, change_told, shifted_told, sessions_told}
+use Rattle.sd_operations.specs.Operations.{after_own}
 use Rattle.sd_sessions.proofs.Left.{HoldsCalled, have-left}
 use Rattle.sd_sessions.specs.Kept.{AreWellFormed, HaveWellFormed, IsWellFormedCall, IsWellFormedOwn, operations_in}
 

@@ -15,8 +15,9 @@ use Rattle.mdns_history.specs.Sessions.{Accepted, accepted_call, opened, succeed
 use Rattle.mdns_history.specs.Outcomes.{most_sessions, most_over_life}
 use Rattle.mdns_happened.specs.Told.{Told, told_of}
 use Rattle.sd_sessions.specs.Sessions.{Session, State}
-use Rattle.sd_sessions.specs.declared.codes.Registering.{Registering}
-use Rattle.sd_sessions.specs.Codes.{Knowing, kept_code, is_running, refers_to_none, has_number, call_outcome_of, kept_outcome}
+use Rattle.sd_operations.specs.declared.codes.Registering.{Registering}
+use Rattle.sd_sessions.specs.Codes.{Knowing, has_number, call_outcome_of, kept_outcome}
+use Rattle.sd_operations.specs.Codes.{kept_code, is_running, refers_to_none}
 use Rattle.sd_sessions.specs.Kept.{numbers_of, AreKept, IsNewIn, IsFresh, IsRising, IsWellFormedCall}
 use Rattle.sd_sessions.specs.Planned.{IsTold}
 use Rattle.sd_sessions.proofs.NumberLists.{all-more}

@@ -15,7 +15,7 @@ use Rattle.mdns_history.specs.declared.operation.Operation.{Operation}
 use Rattle.mdns_history.specs.Sessions.{has_op}
 use Rattle.sd_sessions.specs.Answered.{Answering}
 use Rattle.sd_sessions.specs.Changes.{lost, gained, items_between}
-use Rattle.sd_sessions.proofs.Operations.{AreRising}
+use Rattle.sd_operations.specs.Operations.{AreRising}
 
 answer_itself : (answer : Answer) → answer_eq answer answer ≡ true
 unfolding answer_eq answer_cmp

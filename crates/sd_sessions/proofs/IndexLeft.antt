@@ -10,7 +10,8 @@ use Rattle.sd_index.specs.declared.asker.Asker.{Asker}
 use Rattle.sd_sessions.specs.Answered.{Answering}
 use Rattle.sd_sessions.specs.Codes.{has_number}
 use Rattle.sd_sessions.specs.Sessions.{Session}
-use Rattle.sd_sessions.specs.Settling.{after_own, change_told, all_settled, opened_session, remaining_but, with_opened, shifted_told, taken_from, sessions_told}
+use Rattle.sd_sessions.specs.Settling.{change_told, all_settled, opened_session, remaining_but, with_opened, shifted_told, taken_from, sessions_told}
+use Rattle.sd_operations.specs.Operations.{after_own}
 use Rattle.sd_sessions.specs.Kept.{numbers_of, IsRising}
 use Rattle.sd_sessions.specs.Indexed.{asking_of, askers_by, askers_in, askers_after, left_by}
 use Rattle.sd_sessions.proofs.Asking.{RiseBy, all-others, split-off, passes-found}

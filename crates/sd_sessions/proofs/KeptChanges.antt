@@ -20,7 +20,8 @@ use Rattle.sd_sessions.specs.declared.change.SessionChange.{SessionChange}
 use Rattle.sd_sessions.specs.Sessions.{session_in, sessions_in}
 use Rattle.sd_sessions.specs.Answered.{Answering}
 use Rattle.sd_sessions.specs.Changes.{items_between, passes}
-use Rattle.sd_sessions.specs.Settling.{left_to, after_own, change_for, cuts_of, gifts_of}
+use Rattle.sd_sessions.specs.Settling.{left_to, change_for, cuts_of, gifts_of}
+use Rattle.sd_operations.specs.Operations.{after_own}
 use Rattle.sd_sessions.proofs.NumberLists.{has, has-filter, filter-same, filter-filter, filter-append, flat_map-same}
 use Rattle.sd_sessions.proofs.EntryParts.{noted_marks, entry_after}
 use Rattle.sd_sessions.proofs.Attached.{holds_legal, opens_alone, opened-number, attached-opened, attached-ended, attached-kept}

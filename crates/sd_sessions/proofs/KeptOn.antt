@@ -14,13 +14,14 @@ use Rattle.mdns_cache.proofs.ListLemmas.{each-filter}
 use Rattle.mdns_happened.specs.Told.{Told, Taking}
 use Rattle.sd_sessions.specs.Answered.{Answering}
 use Rattle.sd_sessions.specs.Sessions.{Session}
-use Rattle.sd_sessions.specs.Settling.{left_to, after_own, change_told, all_settled, remaining_but, with_opened, shifted_told, taken_from, sessions_told}
-use Rattle.sd_sessions.specs.Kept.{numbers_of, AreKept, AreOwn, AreRising, HaveOwn, HaveRising, IsNewIn, IsFresh, IsRising, IsWellFormedCall}
+use Rattle.sd_sessions.specs.Settling.{left_to, change_told, all_settled, remaining_but, with_opened, shifted_told, taken_from, sessions_told}
+use Rattle.sd_operations.specs.Operations.{after_own, AreRising}
+use Rattle.sd_sessions.specs.Kept.{numbers_of, AreKept, AreOwn, HaveOwn, HaveRising, IsNewIn, IsFresh, IsRising, IsWellFormedCall}
 use Rattle.sd_sessions.proofs.Left.{HoldsCalled, have-left}
 use Rattle.sd_sessions.proofs.Formed.{formed-left}
 use Rattle.sd_sessions.proofs.Nexts.{filter_map_swap}
 use Rattle.sd_sessions.proofs.Seen.{all-insert, all-map}
-use Rattle.sd_sessions.proofs.Operations.{rising_request}
+use Rattle.sd_operations.proofs.Rising.{rising_request}
 use Rattle.sd_sessions.proofs.NumberLists.{all-filter, all-more, IsRising-filter, IsRising-last}
 
 -- the operations that a new call leaves

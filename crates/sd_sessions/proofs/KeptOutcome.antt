@@ -13,7 +13,8 @@ use Rattle.mdns_history.specs.Sessions.{opened_count, is_attached, attached_sess
 use Rattle.mdns_history.specs.Outcomes.{most_sessions, most_over_life, call_code, early_outcome}
 use Rattle.mdns_history.specs.Fitting.{IsLegal}
 use Rattle.sd_sessions.specs.Sessions.{Session, session_in, sessions_in}
-use Rattle.sd_sessions.specs.Codes.{Knowing, kept_code, has_number, call_outcome_of, kept_outcome}
+use Rattle.sd_sessions.specs.Codes.{Knowing, has_number, call_outcome_of, kept_outcome}
+use Rattle.sd_operations.specs.Codes.{kept_code}
 use Rattle.sd_sessions.proofs.NumberLists.{has}
 use Rattle.sd_sessions.proofs.Attached.{holds_legal, is_attached-has}
 

@@ -5,7 +5,6 @@ pub mod ChangesBy
 pub mod NumberLists
 pub mod Attached
 pub mod Operations
-pub mod OperationPlaces
 pub mod OwnCalls
 pub mod Brought
 pub mod Shape
@@ -21,7 +20,6 @@ pub mod Formed
 pub mod Settled
 pub mod Queued
 pub mod Found
-pub mod Among
 pub mod Permuted
 pub mod Idle
 pub mod Nexts

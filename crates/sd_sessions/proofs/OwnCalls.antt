@@ -13,16 +13,16 @@ use Rattle.mdns_history.specs.declared.operation.Operation.{Operation}
 use Rattle.mdns_history.specs.Sessions.{after_request, by_op, has_op, updated}
 use Rattle.mdns_cache.proofs.ListLemmas.{each-filter}
 use Rattle.mdns_happened.specs.declared.around.Around.{Around}
-use Rattle.sd_sessions.specs.declared.change.Call.{Call}
+use Rattle.sd_operations.specs.declared.call.Call.{Call}
 use Rattle.sd_sessions.specs.Answered.{View, answered}
 use Rattle.sd_sessions.specs.Changes.{lost, gained, items_between}
-use Rattle.sd_sessions.specs.Settling.{after_own}
-use Rattle.sd_sessions.specs.Kept.{AreRising, AreWellFormed}
+use Rattle.sd_operations.specs.Operations.{after_own, AreRising, has_one, of_numbers}
+use Rattle.sd_sessions.specs.Kept.{AreWellFormed}
 use Rattle.sd_sessions.specs.Walked.{IsSeenOf}
-use Rattle.sd_sessions.specs.Concerned.{has_one, of_numbers, IsCovered}
+use Rattle.sd_sessions.specs.Concerned.{IsCovered}
 use Rattle.sd_sessions.proofs.Nexts.{filter_map_swap}
-use Rattle.sd_sessions.proofs.OperationPlaces.{below-lt}
-use Rattle.sd_sessions.proofs.Operations.{all_filter}
+use Rattle.sd_operations.proofs.OperationPlaces.{below-lt}
+use Rattle.sd_operations.proofs.Rising.{all_filter}
 use Rattle.sd_sessions.proofs.Formed.{formed-filter, formed-request}
 use Rattle.sd_sessions.proofs.Covered.{covered-request}
 use Rattle.sd_sessions.proofs.WalkAnswers.{same-met, none-lost, none-gained}

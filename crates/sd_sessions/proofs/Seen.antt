@@ -20,8 +20,9 @@ use Rattle.mdns_happened.specs.Told.{Told}
 use Rattle.mdns_happened.specs.Walks.{is_walked, AreWalks, AreOwnWalks, IsKnown}
 use Rattle.sd_sessions.specs.Answered.{View, known, answered}
 use Rattle.sd_sessions.specs.Sessions.{Session}
-use Rattle.sd_sessions.specs.Settling.{left_to, after_own}
-use Rattle.sd_sessions.specs.Kept.{AreRising, IsNewIn, HaveRising}
+use Rattle.sd_sessions.specs.Settling.{left_to}
+use Rattle.sd_operations.specs.Operations.{after_own, AreRising}
+use Rattle.sd_sessions.specs.Kept.{IsNewIn, HaveRising}
 use Rattle.sd_sessions.specs.Walked.{AreBeside, AreKnown, IsAskedKnown, IsBegunTold, IsBeside, IsCallWalked, IsCarried, IsNewSeen, IsSeen, IsSeenOf, IsOwnAlike}
 
 -- where the numbers of operations rise, that of a number is the operation itself

@@ -8,7 +8,8 @@ use Rattle.sd_sessions.specs.declared.session.SessionState.{SessionState}
 use Rattle.sd_sessions.specs.declared.change.SessionChange.{SessionChange}
 use Rattle.sd_sessions.specs.Sessions.{Session}
 use Rattle.sd_sessions.specs.Settling.{settled, all_settled, change_told, brought_told}
-use Rattle.sd_sessions.specs.Kept.{session_of, sessions_of, AreRising, HasRoomFor, HaveRising, HaveRoom, IsFit, AreFit}
+use Rattle.sd_sessions.specs.Kept.{session_of, sessions_of, HasRoomFor, HaveRising, HaveRoom, IsFit, AreFit}
+use Rattle.sd_operations.specs.Operations.{AreRising}
 
 pub none-of : {X : Type 0} (xs : List X) → length xs ≡ 0 → xs ≡ []
 none-of [] h = refl

@@ -33,7 +33,7 @@ use Rattle.mdns_happened.specs.Told.{Told}
 use Rattle.mdns_happened.specs.Walks.{is_for, walk_of, is_walked, own_of, IsWalk, IsOwnWalk}
 use Rattle.sd_sessions.specs.Answered.{Answering, View, known, answered}
 use Rattle.sd_sessions.specs.Changes.{had, lost, gained, items_between}
-use Rattle.sd_sessions.specs.Codes.{is_running}
+use Rattle.sd_operations.specs.Codes.{is_running}
 use Rattle.sd_sessions.specs.Settling.{left_to, brought_told}
 use Rattle.sd_sessions.specs.Sessions.{Session}
 use Rattle.sd_sessions.specs.Walked.{walk_for, IsOwnAlike, IsBeside, IsCarried, IsSeenOf}

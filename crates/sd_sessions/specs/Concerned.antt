@@ -1,5 +1,5 @@
 -- Which operations an event concerns: of the others nothing was walked or told.
-use Rattle.std.specs.Prelude.{◌≡◌, ℕ, ◌==◌, ◌⊎◌, Bool, true, false, List, [], ◌∷◌, ◌++◌, filter, Option, Some, None}
+use Rattle.std.specs.Prelude.{◌≡◌, ℕ, ◌⊎◌, Bool, true, false, List, [], ◌∷◌, ◌++◌, Option, Some, None}
 use Rattle.std.specs.List.{list_any, AllByRecursion}
 use Rattle.sd_call.specs.declared.request.Request.{Request}
 use Rattle.sd_call.specs.Requests.{is_register}
@@ -15,9 +15,10 @@ use Rattle.mdns_happened.specs.declared.walk.Walk.{Walk}
 use Rattle.mdns_happened.specs.Registrations.{registered_in}
 use Rattle.sd_index.specs.declared.asker.Asker.{Asker}
 use Rattle.sd_index.specs.Asked.{asker_eq, askers_of}
-use Rattle.sd_sessions.specs.declared.change.Call.{Call}
+use Rattle.sd_operations.specs.declared.call.Call.{Call}
+use Rattle.sd_operations.specs.Operations.{has_one}
 use Rattle.sd_sessions.specs.Sessions.{Session}
-use Rattle.sd_sessions.specs.Codes.{is_running}
+use Rattle.sd_operations.specs.Codes.{is_running}
 use Rattle.sd_sessions.specs.Walked.{walk_for}
 
 -- the operation of a session and a number
@@ -27,10 +28,6 @@ asker_at session op = record { session = session; op = op }
 -- an operation is one of several
 abbrev pub is_one_of : List Asker → Asker → Bool
 is_one_of askers one = list_any (asker_eq one) askers
-
--- a number is one of several
-abbrev pub has_one : List ℕ → ℕ → Bool
-has_one numbers op = list_any (λ (n : ℕ). n == op) numbers
 
 -- the records of a walk's name give the same answers before the event and after it
 abbrev pub IsStill : Walk → Type 0
@@ -82,7 +79,3 @@ AreMore some more = (one : Asker) → is_one_of some one ≡ true → is_one_of 
 abbrev pub concerned : List ℕ → List Operation → List Operation
 concerned [] operations = []
 concerned (number ∷ numbers) operations = operations
-
--- the operations of these numbers
-abbrev pub of_numbers : List ℕ → List Operation → List Operation
-of_numbers numbers operations = filter (λ (operation : Operation). has_one numbers operation.op) operations

@@ -9,10 +9,11 @@ use Rattle.mdns_history.specs.Sessions.{Accepted, has_op}
 use Rattle.mdns_happened.specs.Told.{Told}
 pub use Rattle.sd_outbox.specs.Queues.{queued}
 use Rattle.sd_sessions.specs.declared.session.SessionState.{SessionState}
-use Rattle.sd_sessions.specs.declared.change.Call.{Call}
+use Rattle.sd_operations.specs.declared.call.Call.{Call}
 use Rattle.sd_sessions.specs.declared.change.SessionChange.{SessionChange}
 use Rattle.sd_sessions.specs.Sessions.{Session}
 use Rattle.sd_sessions.specs.Changes.{passes}
+use Rattle.sd_operations.specs.Operations.{AreRising}
 
 -- each operation asks for something well formed
 abbrev pub AreWellFormed : List Operation → Type 0
@@ -21,11 +22,6 @@ AreWellFormed operations = AllByRecursion (λ (operation : Operation). IsTrue (w
 -- each session's operations ask for something well formed
 abbrev pub HaveWellFormed : List Session → Type 0
 HaveWellFormed sessions = AllByRecursion (λ (session : Session). AreWellFormed session.operations) sessions
-
--- Each operation's number is less than those behind it.
-abbrev pub AreRising : List Operation → Type 0
-AreRising [] = Unit {0}
-AreRising (operation ∷ operations) = (list_all (λ other. nat_lt operation.op other.op) operations ≡ true) × AreRising operations
 
 -- in each session the numbers of operations rise
 abbrev pub HaveRising : List Session → Type 0

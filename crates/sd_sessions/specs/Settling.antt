@@ -1,5 +1,5 @@
 -- What an event makes of the sessions that are kept.
-use Rattle.std.specs.Prelude.{ℕ, suc, ◌==◌, nat_lt, false, not, ◌||◌, List, [], ◌∷◌, ◌++◌, map, filter, Option, Some, None, if◌then◌else◌, take, drop}
+use Rattle.std.specs.Prelude.{ℕ, ◌==◌, false, not, ◌||◌, List, [], ◌∷◌, ◌++◌, map, filter, Option, Some, None, if◌then◌else◌, take, drop}
 use Rattle.std.specs.List.{flat_map, find}
 use Rattle.sd_call.specs.declared.item.Item.{Item}
 use Rattle.mdns_history.specs.declared.operation.Operation.{Operation}
@@ -10,30 +10,21 @@ use Rattle.mdns_history.specs.declared.entry.Given.{Given}
 use Rattle.mdns_history.specs.declared.entry.Outcome.{Outcome}
 use Rattle.mdns_history.specs.declared.entry.Outcome.TheVariants as outcome
 use Rattle.mdns_history.specs.Outcomes.{items_or_empty}
-use Rattle.mdns_history.specs.Sessions.{Accepted, accepted_call, after_request, detached, is_number}
+use Rattle.mdns_history.specs.Sessions.{Accepted, accepted_call, detached, is_number}
 use Rattle.mdns_history.specs.Items.{given_to}
 use Rattle.mdns_happened.specs.Told.{Told, Taking, taking_of, told_of}
-use Rattle.sd_sessions.specs.declared.change.Call.{Call}
+use Rattle.sd_operations.specs.declared.call.Call.{Call}
 use Rattle.sd_sessions.specs.declared.change.SessionChange.{SessionChange}
+use Rattle.sd_operations.specs.Operations.{after_own}
 use Rattle.sd_sessions.specs.Sessions.{Session}
 use Rattle.sd_sessions.specs.Codes.{has_number}
 use Rattle.sd_sessions.specs.Answered.{Answering}
 use Rattle.sd_sessions.specs.Changes.{items_between, passes}
 
--- how many operations stand before the first of a number or of a greater one
-abbrev pub count_below : ℕ → List Operation → ℕ
-count_below op [] = 0
-count_below op (operation ∷ operations) = if nat_lt operation.op op then suc (count_below op operations) else 0
-
 -- the call of a session of this number, where an accepted call is the session's
 abbrev pub own_call : Option Accepted → ℕ → Option Call
 own_call None number = None
 own_call (Some call) number = if call.session == number then Some (record { op = call.op; request = call.request }) else None
-
--- the operations of a session after its call, where there is one
-abbrev pub after_own : ℕ → Option Call → List Operation → List Operation
-after_own number None operations = operations
-after_own number (Some call) operations = after_request number call.op call.request operations
 
 -- the operations that an accepted call leaves to a session
 abbrev pub left_to : Option Accepted → ℕ → List Operation → List Operation

@@ -23,7 +23,8 @@ use Rattle.mdns_happened.specs.Walks.{is_walked, walk_of, own_of, AreWalks, AreO
 use Rattle.sd_sessions.specs.declared.by_names.Compared.{Compared}
 use Rattle.sd_sessions.specs.Answered.{View, answered}
 use Rattle.sd_sessions.specs.Sessions.{Session}
-use Rattle.sd_sessions.specs.Kept.{AreRising, IsNewIn}
+use Rattle.sd_sessions.specs.Kept.{IsNewIn}
+use Rattle.sd_operations.specs.Operations.{AreRising}
 
 -- each operation of the sessions asks for something of which this holds
 abbrev pub AllAsk : (Request → Type 0) → List Session → Type 0

@@ -15,17 +15,15 @@ ghost use Rattle.mdns_history.specs.Sessions.{is_number};
 ghost use Rattle.mdns_happened.specs.Told.{told_by};
 ghost use Rattle.sd_sessions.specs.Answered.{answered, View};
 ghost use Rattle.sd_sessions.specs.Changes.{had, items_between};
-ghost use Rattle.sd_sessions.specs.Codes.{is_running};
-ghost use Rattle.sd_sessions.specs.Settling.{own_call, after_own, brought_told, change_told};
-ghost use Rattle.sd_sessions.specs.Kept.{session_of, sessions_of, AreRising, AreWellFormed, HaveRising, HaveWellFormed, IsWellFormedCall, IsWellFormedOwn};
+ghost use Rattle.sd_operations.specs.Codes.{is_running};
+ghost use Rattle.sd_sessions.specs.Settling.{own_call, brought_told, change_told};
+ghost use Rattle.sd_operations.specs.Operations.{after_own, AreRising};
+ghost use Rattle.sd_sessions.specs.Kept.{session_of, sessions_of, AreWellFormed, HaveRising, HaveWellFormed, IsWellFormedCall, IsWellFormedOwn};
 ghost use Rattle.sd_sessions.specs.Walked.{walk_for, IsSeen, IsSeenOf, IsCompared, IsInOrder};
 ghost use Rattle.sd_sessions.specs.Concerned.{concerned, IsCallMet, IsCovered, IsMet, IsOwnCovered};
 
-use crate::change::{Call, SessionChange, own_call};
-use crate::codes::{is_running, registers};
+use crate::change::{SessionChange, own_call};
 use crate::concerned::numbers_of;
-use crate::items::{put_adds, put_removes};
-use crate::numbered::{concerned_after, has_one};
 use crate::session::SessionState;
 use crate::walks::{earlier_of, later_of};
 use dns_record::Key;
@@ -34,6 +32,7 @@ use mdns_history::{Items, Operation};
 use sd_answer::{Answers, KnownRecords, answers_of, questions_of};
 use sd_call::{Answer, Item};
 use sd_index::Asker;
+use sd_operations::{Call, concerned_after, has_one, is_running, put_adds, put_removes, registers};
 use std::alloc::{AllocError, Global};
 
 /// The answers of an operation before an event and after it.

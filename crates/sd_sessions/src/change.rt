@@ -6,15 +6,9 @@ ghost use Rattle.sd_sessions.specs.Settling.{own_call, cuts_of, gifts_of};
 
 use mdns_happened::Happened;
 use mdns_history::{Gifts, Given, Items, Mark, Marks};
-use sd_call::{Item, Request};
+use sd_call::Item;
+use sd_operations::Call;
 use std::alloc::{AllocError, Global};
-
-/// A call of a session: the number of its operation, and what it asks for.
-#[derive(Drop)]
-pub struct Call {
-    pub op: u32,
-    pub request: Request,
-}
 
 /// What an event changes in a session: the call that the session made, where it is one that was accepted, what the session is
 /// brought, and whether that cuts it.
@@ -24,18 +18,6 @@ pub struct SessionChange {
     pub call: Option<Call>,
     pub brought: Items,
     pub cuts: bool,
-}
-
-impl Call {
-    /// An equal call. Refused only for want of memory.
-    pub fn copy(&self, alloc: Global) -> Result<Call, AllocError>
-        ensures { IfOk result (λ copy. copy ≡ self.now) }
-    {
-        Ok(Call {
-            op: self.op,
-            request: self.request.copy(alloc)?,
-        })
-    }
 }
 
 /// The call of the session of a number, where it is the session's that was accepted, copied. Refused only for want of memory.

@@ -2,7 +2,8 @@
 ghost use Rattle.std.specs.Prelude.{◌≡◌, ℕ, true, IsTrue, IfOk, OnOk};
 ghost use Rattle.std.specs.List.{AllByRecursion};
 ghost use Rattle.mdns_happened.specs.Told.{told_by};
-ghost use Rattle.sd_sessions.specs.Concerned.{asker_at, has_one, is_one_of, AreMore, AreToldMet, IsCallMet, IsStill, IsWalkMet};
+ghost use Rattle.sd_sessions.specs.Concerned.{asker_at, is_one_of, AreMore, AreToldMet, IsCallMet, IsStill, IsWalkMet};
+ghost use Rattle.sd_operations.specs.Operations.{has_one};
 
 use crate::walks::{earlier_of, later_of};
 use mdns_happened::{Around, Happened, Registered, Walk};

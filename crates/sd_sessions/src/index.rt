@@ -8,15 +8,16 @@ ghost use Rattle.mdns_happened.specs.Told.{told_by};
 ghost use Rattle.sd_index.specs.declared.asker.Asker.{Asker as AskerValue};
 ghost use Rattle.sd_index.specs.Asked.{askers_of};
 ghost use Rattle.sd_sessions.specs.Settling.{remaining_but};
-ghost use Rattle.sd_sessions.specs.Kept.{sessions_of, numbers_of, AreRising, AreWellFormed, HaveRising, HaveWellFormed, IsRising, IsWellFormedCall};
+ghost use Rattle.sd_sessions.specs.Kept.{sessions_of, numbers_of, AreWellFormed, HaveRising, HaveWellFormed, IsRising, IsWellFormedCall};
+ghost use Rattle.sd_operations.specs.Operations.{AreRising};
 ghost use Rattle.sd_sessions.specs.Indexed.{asker_for, asking_of, askers_in, askers_by, askers_after, left_by};
 
-use crate::codes::{is_start, is_stop, operation_of};
 use crate::session::{SessionState, find};
 use mdns_happened::Happened;
 use mdns_history::Operation;
 use sd_call::Request;
 use sd_index::{Asker, Askers};
+use sd_operations::{is_start, is_stop, operation_of};
 use std::alloc::AllocError;
 
 /// Takes the room that the index needs for what a call starts. Nothing else changes. Refused only for want of memory.

@@ -3,21 +3,16 @@
 
 mod by_names;
 mod change;
-mod codes;
 mod concerned;
 mod index;
-mod items;
 mod law;
 mod names;
-mod numbered;
-mod running;
 mod session;
 mod sessions;
 mod settle;
 mod walks;
 
-pub use change::{Call, SessionChange};
-pub use codes::Registering;
+pub use change::SessionChange;
 pub use law::sessions_follow_the_history;
 pub use names::put_once;
 pub use sessions::{Plan, Sessions};

@@ -15,7 +15,6 @@ ghost use Rattle.sd_sessions.specs.Walked.{AreBeside, AreNamed, IsCallNamed, Are
 
 use crate::by_names::changes_by_names;
 use crate::change::{SessionChange, gifts, put_cuts};
-use crate::codes::{Registering, call_code};
 use crate::concerned::find_concerned;
 use crate::index::{make_entry, refile};
 use crate::names::{put_called, put_touched};
@@ -26,6 +25,7 @@ use mdns_happened::{Around, Happened, Idle};
 use mdns_history::{Event, Gifts, Marks, Operation, Outcome};
 use sd_call::{Item, Request};
 use sd_index::Askers;
+use sd_operations::{Registering, call_code};
 use std::alloc::{AllocError, Global};
 use std::marker::Model;
 
@@ -244,7 +244,7 @@ impl Plan {
 }
 
 // What a call of an attached session amounts to.
-#[tactic(auto, unfolding(crate::specs::Codes::kept_code))]
+#[tactic(auto, unfolding(sd_operations::specs::Codes::kept_code))]
 fn call_of<'a>(
     state: &SessionState,
     session: u64,

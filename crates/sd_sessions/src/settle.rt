@@ -6,15 +6,16 @@ ghost use Rattle.mdns_happened.specs.Told.{told_by};
 ghost use Rattle.sd_sessions.specs.declared.session.SessionState.{SessionState};
 ghost use Rattle.sd_sessions.specs.Changes.{passes};
 ghost use Rattle.sd_sessions.specs.Codes.{has_number};
-ghost use Rattle.sd_sessions.specs.Settling.{after_own, settled, all_settled, with_opened, remaining_but, handed_to, outcome_told, sessions_told, taken_from, most_taken};
+ghost use Rattle.sd_sessions.specs.Settling.{settled, all_settled, with_opened, remaining_but, handed_to, outcome_told, sessions_told, taken_from, most_taken};
+ghost use Rattle.sd_operations.specs.Operations.{after_own};
 ghost use Rattle.sd_sessions.specs.Kept.{session_of, sessions_of, queued, joined, HasRoomFor, HaveRoom, IsFit, AreFit};
 
 use crate::change::SessionChange;
-use crate::running::run_own;
 use crate::session::SessionState;
 use mdns_happened::Happened;
 use mdns_history::{Items, Outcome};
 use sd_call::Item;
+use sd_operations::run_own;
 use sd_outbox::{Outbox, Taken};
 use std::alloc::{AllocError, Global};
 

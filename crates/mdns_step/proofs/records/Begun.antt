@@ -14,14 +14,15 @@ use Rattle.mdns_history.specs.declared.operation.Operation.{Operation}
 use Rattle.mdns_history.specs.Outcomes.{most_operations, most_over_life}
 use Rattle.mdns_history.specs.Sessions.{Accepted, accepted_call}
 use Rattle.sd_sessions.specs.Sessions.{Session}
-use Rattle.sd_sessions.specs.Codes.{is_running, is_foreign, kept_code, call_outcome_of}
+use Rattle.sd_sessions.specs.Codes.{call_outcome_of}
+use Rattle.sd_operations.specs.Codes.{is_running, is_foreign, kept_code}
 use Rattle.sd_sessions.specs.Kept.{IsWellFormedCall}
 use Rattle.mdns_step.specs.Viewed.{registering}
 use Rattle.mdns_history.specs.Groups.{Registration, registration_from}
 use Rattle.mdns_happened.specs.declared.around.Registered.{Registered}
 use Rattle.mdns_happened.specs.Registrations.{is_told}
 use Rattle.mdns_happened.specs.Told.{Told, told_of}
-use Rattle.sd_sessions.specs.declared.codes.Registering.{Registering}
+use Rattle.sd_operations.specs.declared.codes.Registering.{Registering}
 use Rattle.mdns_probe.specs.Kept.{Kept}
 use Rattle.mdns_claims.specs.declared.plan.Plan.{Plan}
 use Rattle.mdns_claims.specs.declared.plan.Deed.{Deed}

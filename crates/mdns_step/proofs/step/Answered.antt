@@ -29,7 +29,7 @@ use Rattle.mdns_claims.specs.Owned.{registered_answers}
 use Rattle.sd_sessions.specs.Answered.{Answering, answered}
 use Rattle.sd_sessions.specs.Laws.{answers_in}
 use Rattle.sd_sessions.specs.Sessions.{sessions_in}
-use Rattle.sd_sessions.specs.Codes.{updates_none, refers_to_none, is_foreign, is_too_many, kept_code}
+use Rattle.sd_operations.specs.Codes.{updates_none, refers_to_none, is_foreign, is_too_many, kept_code}
 use Rattle.sd_sessions.proofs.KeptOutcome.{early_outcome-is}
 use Rattle.mdns_step.specs.InForce.{in_force}
 use Rattle.mdns_step.specs.Viewed.{viewed, registering, kept_outcome}

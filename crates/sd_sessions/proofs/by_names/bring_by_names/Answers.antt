@@ -2,10 +2,11 @@ use Rattle.std.proofs.Common.{◌≡◌, ◌∙◌, List, Option, ap, subst, sym
 use Rattle.std.specs.List.{AllByRecursion}
 use Rattle.mdns_history.specs.declared.operation.Operation.{Operation}
 use Rattle.mdns_happened.specs.Told.{Told, told_by}
-use Rattle.sd_sessions.specs.declared.change.Call.{Call}
+use Rattle.sd_operations.specs.declared.call.Call.{Call}
 use Rattle.sd_sessions.specs.Answered.{answered}
 use Rattle.sd_sessions.specs.Changes.{items_between}
-use Rattle.sd_sessions.specs.Settling.{after_own, left_to}
+use Rattle.sd_sessions.specs.Settling.{left_to}
+use Rattle.sd_operations.specs.Operations.{after_own}
 use Rattle.sd_sessions.specs.Kept.{session_of}
 use Rattle.sd_sessions.specs.Walked.{IsSeenOf}
 use Rattle.sd_sessions.proofs.Seen.{seen-after}

@@ -1,5 +1,5 @@
 use Rattle.std.proofs.Common.{◌≡◌, false, rules}
-use Rattle.sd_sessions.specs.Concerned.{has_one}
+use Rattle.sd_operations.specs.Operations.{has_one}
 use Rattle.sd_sessions.proofs.WalkAnswers.{same-met}
 use Rattle.sd_sessions.proofs.by_names.compare_answers.Goals as goal
 

@@ -4,7 +4,7 @@ use Rattle.dns_record.specs.declared.record.Rr.{Rr}
 use Rattle.mdns_history.specs.declared.operation.Operation.{Operation}
 use Rattle.mdns_history.specs.Answers.{answers_over}
 use Rattle.mdns_history.specs.Questions.{keys_of}
-use Rattle.sd_sessions.specs.Codes.{is_running}
+use Rattle.sd_operations.specs.Codes.{is_running}
 use Rattle.sd_sessions.specs.Walked.{walk_for}
 use Rattle.sd_sessions.proofs.WalkAnswers.{same-apart, has-found, had-found}
 use Rattle.sd_sessions.proofs.by_names.compare_walked.Goals as goal

@@ -1,5 +1,6 @@
 use Rattle.std.proofs.Common.{◌≡◌, ℕ, take}
-use Rattle.sd_sessions.specs.Concerned.{asker_at, has_one, is_one_of}
+use Rattle.sd_sessions.specs.Concerned.{asker_at, is_one_of}
+use Rattle.sd_operations.specs.Operations.{has_one}
 use Rattle.sd_sessions.proofs.concerned.numbers_of.Given as goal
 
 abbrev pub invariant-loop-asker : goal.invariant-loop-asker

@@ -5,7 +5,8 @@ use Rattle.sd_index.specs.declared.asker.Asker.{Asker}
 use Rattle.sd_index.specs.Asked.{askers_of}
 use Rattle.sd_sessions.specs.Codes.{has_number}
 use Rattle.sd_sessions.specs.Sessions.{Session}
-use Rattle.sd_sessions.specs.Kept.{session_of, sessions_of, AreRising, AreWellFormed}
+use Rattle.sd_sessions.specs.Kept.{session_of, sessions_of, AreWellFormed}
+use Rattle.sd_operations.specs.Operations.{AreRising}
 use Rattle.sd_sessions.specs.Indexed.{asking_of}
 use Rattle.sd_sessions.proofs.Asking.{holds-found}
 use Rattle.sd_sessions.proofs.IndexLeft.{call-filed, call-missed}
