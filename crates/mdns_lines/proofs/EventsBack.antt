@@ -26,7 +26,7 @@ use Rattle.mdns_history.proofs.RecordTexts.{three}
 use Rattle.mdns_script.specs.Boots.{daemon_of}
 use Rattle.mdns_script.specs.Writable.{is_daemon}
 use Rattle.mdns_script.proofs.TokensBack.{seen_lacks, word_cut}
-use Rattle.mdns_lines.specs.declared.line.Line.TheVariants as lines
+use Rattle.mdns_print.specs.declared.line.Line.TheVariants as lines
 use Rattle.mdns_lines.specs.ReadEvents.{host_config_in, config_in, call_words, hear_words, take_in, event_of_words, event_in, head_words, head_in}
 use Rattle.mdns_lines.specs.Printable.{event_has_text}
 use Rattle.mdns_lines.proofs.WordsBack.{label_in_back, host_in_back}

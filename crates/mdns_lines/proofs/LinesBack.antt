@@ -29,13 +29,13 @@ use Rattle.mdns_history.proofs.CallTexts.{number_seen}
 use Rattle.mdns_script.specs.Tokens.{when}
 use Rattle.mdns_script.specs.Writable.{is_daemon}
 use Rattle.mdns_script.proofs.TokensBack.{word_cut}
-use Rattle.mdns_lines.specs.declared.line.Section.{Section}
-use Rattle.mdns_lines.specs.declared.line.Section.TheVariants.{Answers, Authority, Additional}
-use Rattle.mdns_lines.specs.declared.line.Ending.{Ending}
-use Rattle.mdns_lines.specs.declared.line.Ending.TheVariants.{Opened, Full, Ended, Closed, Cut, Code, Empty}
-use Rattle.mdns_lines.specs.declared.line.Line.{Line}
-use Rattle.mdns_lines.specs.declared.line.Line.TheVariants as lines
-use Rattle.mdns_lines.specs.LineText.{letter, outcome_of, line_text}
+use Rattle.mdns_print.specs.declared.line.Section.{Section}
+use Rattle.mdns_print.specs.declared.line.Section.TheVariants.{Answers, Authority, Additional}
+use Rattle.mdns_print.specs.declared.line.Ending.{Ending}
+use Rattle.mdns_print.specs.declared.line.Ending.TheVariants.{Opened, Full, Ended, Closed, Cut, Code, Empty}
+use Rattle.mdns_print.specs.declared.line.Line.{Line}
+use Rattle.mdns_print.specs.declared.line.Line.TheVariants as lines
+use Rattle.mdns_print.specs.LineText.{letter, outcome_of, line_text}
 use Rattle.mdns_lines.specs.ReadItems.{outcome_in, item_in}
 use Rattle.mdns_lines.specs.ReadLines.{id_in, way_words, to_host, sent_in, kind_in, question_in, line_in, line_read}
 use Rattle.mdns_lines.specs.Printable.{event_has_text, is_printable_line, AreReadBack, ArePrinted}

@@ -23,13 +23,13 @@ use Rattle.mdns_history.proofs.RecordTexts.{kind_seen, number_line, record_line}
 use Rattle.mdns_history.proofs.CallTexts.{item_line}
 use Rattle.mdns_history.proofs.EventTexts.{event_line, mark_content, dest_line}
 use Rattle.mdns_script.specs.Writable.{is_daemon}
-use Rattle.mdns_lines.specs.declared.line.Section.{Section}
-use Rattle.mdns_lines.specs.declared.line.Section.TheVariants.{Answers, Authority, Additional}
-use Rattle.mdns_lines.specs.declared.line.Ending.{Ending}
-use Rattle.mdns_lines.specs.declared.line.Ending.TheVariants.{Opened, Full, Ended, Closed, Cut, Code, Empty}
-use Rattle.mdns_lines.specs.declared.line.Line.{Line}
-use Rattle.mdns_lines.specs.declared.line.Line.TheVariants as lines
-use Rattle.mdns_lines.specs.LineText.{letter, outcome_of, line_text}
+use Rattle.mdns_print.specs.declared.line.Section.{Section}
+use Rattle.mdns_print.specs.declared.line.Section.TheVariants.{Answers, Authority, Additional}
+use Rattle.mdns_print.specs.declared.line.Ending.{Ending}
+use Rattle.mdns_print.specs.declared.line.Ending.TheVariants.{Opened, Full, Ended, Closed, Cut, Code, Empty}
+use Rattle.mdns_print.specs.declared.line.Line.{Line}
+use Rattle.mdns_print.specs.declared.line.Line.TheVariants as lines
+use Rattle.mdns_print.specs.LineText.{letter, outcome_of, line_text}
 use Rattle.mdns_lines.specs.Printable.{event_has_text, is_printable_line}
 use Rattle.mdns_lines.proofs.LinesBack.{ending_text, content, shown, is_head}
 

@@ -15,8 +15,8 @@ use Rattle.mdns_history.specs.Typed.{is_typed_host, is_typed_label, is_typed_eve
 use Rattle.mdns_script.specs.Boots.{daemon_of}
 use Rattle.mdns_script.specs.Writable.{is_daemon}
 use Rattle.mdns_script.proofs.ReadTokens.{come_of, mapped_of, some_same, either_of, decimal_is, below_is, daemon_is, ipv4_is, ipv6_is, hex_is}
-use Rattle.mdns_lines.specs.declared.line.Line.{Line}
-use Rattle.mdns_lines.specs.declared.line.Line.TheVariants as lines
+use Rattle.mdns_print.specs.declared.line.Line.{Line}
+use Rattle.mdns_print.specs.declared.line.Line.TheVariants as lines
 use Rattle.mdns_lines.specs.Words.{after, if_word, label_in, host_in}
 use Rattle.mdns_lines.specs.ReadCalls.{request_in}
 use Rattle.mdns_lines.specs.ReadEvents.{host_config_in, config_in, call_words, call_in, hear_words, hear_in, take_in, plain_event, event_of_words, event_in, head_words, head_in}

@@ -16,11 +16,11 @@ use Rattle.mdns_history.specs.declared.mark.Mark.TheVariants as mark
 use Rattle.mdns_history.specs.declared.entry.Given.{Given}
 use Rattle.mdns_history.specs.Typed.{is_typed_answer, is_typed_item, is_typed_mark, is_typed_given, is_typed_outcome}
 use Rattle.mdns_script.proofs.ReadTokens.{come_of, mapped_of, some_same, decimal_is, below_is, hex_is, kind_is}
-use Rattle.mdns_lines.specs.declared.line.Ending.{Ending}
-use Rattle.mdns_lines.specs.declared.line.Ending.TheVariants as ending
-use Rattle.mdns_lines.specs.declared.line.Line.{Line}
-use Rattle.mdns_lines.specs.declared.line.Line.TheVariants as lines
-use Rattle.mdns_lines.specs.LineText.{outcome_of}
+use Rattle.mdns_print.specs.declared.line.Ending.{Ending}
+use Rattle.mdns_print.specs.declared.line.Ending.TheVariants as ending
+use Rattle.mdns_print.specs.declared.line.Line.{Line}
+use Rattle.mdns_print.specs.declared.line.Line.TheVariants as lines
+use Rattle.mdns_print.specs.LineText.{outcome_of}
 use Rattle.mdns_lines.specs.Words.{if_word, name_in, signed_in}
 use Rattle.mdns_lines.specs.ReadItems.{asked_in, cause_in, renamed_in, mark_of_group, mark_of_words, mark_in, rr_in, datum_in, resolved_words, resolved_in, answer_of_words, answer_in, verb_in, reply_in, change_in, item_of_words, item_in, given_in, plain_ending, outcome_of_words, outcome_in}
 use Rattle.mdns_lines.proofs.OnlyWords.{name_in_is, signed_in_is, word_is}

@@ -14,10 +14,10 @@ use Rattle.mdns_history.specs.EntryText.{line}
 use Rattle.mdns_history.specs.Typed.{is_typed_dest}
 use Rattle.mdns_script.specs.Tokens.{when}
 use Rattle.mdns_script.proofs.ReadTokens.{come_of, mapped_of, some_same, passed, either_of, below_is, kind_is}
-use Rattle.mdns_lines.specs.declared.line.Section.{Section}
-use Rattle.mdns_lines.specs.declared.line.Line.{Line}
-use Rattle.mdns_lines.specs.declared.line.Line.TheVariants as lines
-use Rattle.mdns_lines.specs.LineText.{line_text}
+use Rattle.mdns_print.specs.declared.line.Section.{Section}
+use Rattle.mdns_print.specs.declared.line.Line.{Line}
+use Rattle.mdns_print.specs.declared.line.Line.TheVariants as lines
+use Rattle.mdns_print.specs.LineText.{line_text}
 use Rattle.mdns_lines.specs.Words.{after, if_word, name_in, host_in}
 use Rattle.mdns_lines.specs.ReadItems.{mark_in, rr_in, item_in, given_in}
 use Rattle.mdns_lines.specs.ReadLines.{id_in, way_in, way_words, to_host, sent_in, kind_in, question_in, record_in, inner_line, line_in}

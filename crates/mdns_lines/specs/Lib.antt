@@ -1,4 +1,3 @@
-pub mod LineText
 pub mod Words
 pub mod ReadCalls
 pub mod ReadEvents

@@ -9,9 +9,9 @@ use Rattle.mdns_history.specs.declared.event.Event.TheVariants as event
 use Rattle.mdns_history.specs.EntryText.{line}
 use Rattle.mdns_history.specs.Typed.{is_typed_dest, is_typed_event, is_typed_mark, is_typed_given, is_typed_outcome, is_typed_item}
 use Rattle.mdns_script.specs.Writable.{is_daemon}
-use Rattle.mdns_lines.specs.declared.line.Line.{Line}
-use Rattle.mdns_lines.specs.declared.line.Line.TheVariants as lines
-use Rattle.mdns_lines.specs.LineText.{outcome_of, line_text}
+use Rattle.mdns_print.specs.declared.line.Line.{Line}
+use Rattle.mdns_print.specs.declared.line.Line.TheVariants as lines
+use Rattle.mdns_print.specs.LineText.{outcome_of, line_text}
 use Rattle.mdns_lines.specs.ReadLines.{line_read}
 
 -- whether the labels and the service types of a request are text

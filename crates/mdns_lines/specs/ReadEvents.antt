@@ -12,8 +12,8 @@ use Rattle.mdns_history.specs.declared.event.Event.TheVariants as event
 use Rattle.mdns_script.specs.Boots.{daemon_of}
 use Rattle.mdns_lines.specs.Words.{after, label_in, host_in, if_word}
 use Rattle.mdns_lines.specs.ReadCalls.{request_in}
-use Rattle.mdns_lines.specs.declared.line.Line.{Line}
-use Rattle.mdns_lines.specs.declared.line.Line.TheVariants as lines
+use Rattle.mdns_print.specs.declared.line.Line.{Line}
+use Rattle.mdns_print.specs.declared.line.Line.TheVariants as lines
 
 -- `LABEL` or `LABEL IPV6`
 abbrev pub host_config_in : List ℕ → Option HostConfig

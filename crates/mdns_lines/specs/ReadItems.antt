@@ -18,10 +18,10 @@ use Rattle.mdns_history.specs.declared.mark.Mark.{Mark}
 use Rattle.mdns_history.specs.declared.mark.Mark.TheVariants as mark
 use Rattle.mdns_history.specs.declared.entry.Given.{Given}
 use Rattle.mdns_script.specs.Tokens.{text_of}
-use Rattle.mdns_lines.specs.declared.line.Ending.{Ending}
-use Rattle.mdns_lines.specs.declared.line.Ending.TheVariants as ending
-use Rattle.mdns_lines.specs.declared.line.Line.{Line}
-use Rattle.mdns_lines.specs.declared.line.Line.TheVariants as lines
+use Rattle.mdns_print.specs.declared.line.Ending.{Ending}
+use Rattle.mdns_print.specs.declared.line.Ending.TheVariants as ending
+use Rattle.mdns_print.specs.declared.line.Line.{Line}
+use Rattle.mdns_print.specs.declared.line.Line.TheVariants as lines
 use Rattle.mdns_lines.specs.Words.{name_in, signed_in, if_word}
 
 -- why a question counts as asked

@@ -10,11 +10,11 @@ use Rattle.dns_record.specs.declared.record.Question.{Question}
 use Rattle.dns_record.specs.ReadRecord.{kind_read}
 use Rattle.mdns_history.specs.EntryText.{line}
 use Rattle.mdns_script.specs.Tokens.{when}
-use Rattle.mdns_lines.specs.declared.line.Section.{Section}
-use Rattle.mdns_lines.specs.declared.line.Section.TheVariants.{Answers, Authority, Additional}
-use Rattle.mdns_lines.specs.declared.line.Line.{Line}
-use Rattle.mdns_lines.specs.declared.line.Line.TheVariants as lines
-use Rattle.mdns_lines.specs.LineText.{line_text}
+use Rattle.mdns_print.specs.declared.line.Section.{Section}
+use Rattle.mdns_print.specs.declared.line.Section.TheVariants.{Answers, Authority, Additional}
+use Rattle.mdns_print.specs.declared.line.Line.{Line}
+use Rattle.mdns_print.specs.declared.line.Line.TheVariants as lines
+use Rattle.mdns_print.specs.LineText.{line_text}
 use Rattle.mdns_lines.specs.Words.{after, or_else, if_word, name_in, host_in}
 use Rattle.mdns_lines.specs.ReadEvents.{head_in}
 use Rattle.mdns_lines.specs.ReadItems.{rr_in, mark_in, item_in, given_in, outcome_in}

@@ -5,12 +5,12 @@ ghost use Rattle.number_text.specs.Digits.{decimal_of};
 ghost use Rattle.mdns_script.specs.Boots.{daemon_of};
 ghost use Rattle.mdns_lines.specs.ReadEvents.{host_config_in, config_in, call_words, call_in, hear_words, hear_in, take_in, plain_event, event_of_words, event_in, head_words, head_in};
 
-use crate::Line;
 use crate::requests::request;
 use crate::tokens::{after, host, label};
 use bytes::Bytes;
 use mdns_base::Host;
 use mdns_history::{Config, Event, HostConfig};
+use mdns_print::Line;
 use number_text::{
     cut_at, is_same, read_decimal, read_decimal_u32, read_hex, read_ipv4, read_ipv6,
 };

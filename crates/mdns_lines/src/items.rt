@@ -5,8 +5,8 @@ ghost use Rattle.mdns_lines.specs.ReadItems.{verb_in, reply_in, change_in, item_
 
 use crate::answers::answer;
 use crate::tokens::signed;
-use crate::{Ending, Line};
 use mdns_history::Given;
+use mdns_print::{Ending, Line};
 use number_text::{cut_at, is_same, read_decimal, read_decimal_u32};
 use sd_call::{Answer, Item, Verb};
 use std::alloc::{AllocError, Global};

@@ -1,6 +1,6 @@
 ghost use Rattle.std.specs.Prelude.{◌≡◌, ◌++◌, ◌∷◌, [], IfOk};
 ghost use Rattle.std.specs.Str.{bytes_eq};
-ghost use Rattle.mdns_lines.specs.LineText.{line_text};
+ghost use Rattle.mdns_print.specs.LineText.{line_text};
 ghost use Rattle.mdns_lines.specs.ReadLines.{line_read, line_in, inner_line, record_in};
 
 use crate::answers::record;
@@ -9,7 +9,7 @@ use crate::items::{given, item, outcome};
 use crate::marks::mark;
 use crate::sent::{question, sent};
 use crate::tokens::after;
-use crate::{Line, Section, print_line};
+use mdns_print::{Line, Section, print_line};
 use number_text::is_same;
 use std::alloc::{AllocError, Global};
 

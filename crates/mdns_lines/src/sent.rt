@@ -2,10 +2,10 @@
 ghost use Rattle.std.specs.Prelude.{◌≡◌};
 ghost use Rattle.mdns_lines.specs.ReadLines.{id_in, way_in, way_words, to_host, sent_in, kind_in, question_in};
 
-use crate::Line;
 use crate::tokens::{host, name};
 use dns_record::{Question, read_kind};
 use mdns_base::Dest;
+use mdns_print::Line;
 use number_text::{cut_at, is_same, read_decimal_u16};
 
 /// The first line of a sent message, behind its sign.

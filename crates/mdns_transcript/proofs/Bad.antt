@@ -4,7 +4,7 @@ use Rattle.std.specs.List.{list_all}
 use Rattle.std.proofs.lemmas.Bool.{cases_lt}
 use Rattle.number_text.specs.Cut.{cut_of}
 use Rattle.mdns_history.specs.EntryText.{line}
-use Rattle.mdns_lines.specs.declared.line.Line.{Line}
+use Rattle.mdns_print.specs.declared.line.Line.{Line}
 use Rattle.mdns_lines.specs.ReadLines.{line_read}
 use Rattle.mdns_lines.proofs.LinesBack.{content, shown, lines_back}
 use Rattle.mdns_transcript.specs.declared.row.Row.{Row}

@@ -10,8 +10,8 @@ use Rattle.sd_call.specs.declared.item.Item.TheVariants.{Reply}
 use Rattle.sd_call.specs.declared.request.Verb.TheVariants as verb
 use Rattle.mdns_history.specs.declared.entry.Outcome.{Outcome}
 use Rattle.mdns_history.specs.declared.entry.Outcome.TheVariants as outcome
-use Rattle.mdns_lines.specs.declared.line.Line.{Line}
-use Rattle.mdns_lines.specs.declared.line.Line.TheVariants as lines
+use Rattle.mdns_print.specs.declared.line.Line.{Line}
+use Rattle.mdns_print.specs.declared.line.Line.TheVariants as lines
 use Rattle.mdns_transcript.specs.declared.row.Row.{Row}
 use Rattle.mdns_transcript.specs.declared.draft.End.{End}
 use Rattle.mdns_transcript.specs.declared.draft.End.TheVariants as ends

@@ -3,8 +3,8 @@ use Rattle.std.proofs.Common.{◌≡◌, ℕ, zero, suc, ◌<◌, ◌≤◌, tru
 use Rattle.std.proofs.lemmas.Bool.{and_parts}
 use Rattle.number_text.specs.Cut.{cut_of}
 use Rattle.mdns_script.proofs.ReadTokens.{come_of, some_same}
-use Rattle.mdns_lines.specs.declared.line.Line.{Line}
-use Rattle.mdns_lines.specs.LineText.{line_text}
+use Rattle.mdns_print.specs.declared.line.Line.{Line}
+use Rattle.mdns_print.specs.LineText.{line_text}
 use Rattle.mdns_lines.specs.ReadLines.{line_in}
 use Rattle.mdns_lines.specs.Printable.{is_printable_line}
 use Rattle.mdns_lines.proofs.LinesBack.{content, content_back}

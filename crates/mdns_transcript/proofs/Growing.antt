@@ -7,10 +7,10 @@ use Rattle.dns_record.specs.declared.record.Question.{Question}
 use Rattle.dns_record.specs.declared.record.Rr.{Rr}
 use Rattle.dns_message.specs.declared.message.Message.{Message}
 use Rattle.mdns_history.specs.Typed.{has_written_header}
-use Rattle.mdns_lines.specs.declared.line.Section.{Section}
-use Rattle.mdns_lines.specs.declared.line.Section.TheVariants.{Answers, Authority, Additional}
-use Rattle.mdns_lines.specs.declared.line.Line.{Line}
-use Rattle.mdns_lines.specs.declared.line.Line.TheVariants as lines
+use Rattle.mdns_print.specs.declared.line.Section.{Section}
+use Rattle.mdns_print.specs.declared.line.Section.TheVariants.{Answers, Authority, Additional}
+use Rattle.mdns_print.specs.declared.line.Line.{Line}
+use Rattle.mdns_print.specs.declared.line.Line.TheVariants as lines
 use Rattle.mdns_transcript.specs.RowLines.{message_lines}
 use Rattle.mdns_transcript.specs.Stages.{place}
 use Rattle.mdns_transcript.specs.Messages.{with_question, with_record}

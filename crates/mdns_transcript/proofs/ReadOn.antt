@@ -7,8 +7,8 @@ use Rattle.number_text.specs.Digits.{◌>>=◌}
 use Rattle.number_text.proofs.Joined.{cut_of-parts}
 use Rattle.dns_message.specs.Writing.{is_below, are_bytes}
 use Rattle.mdns_history.specs.EntryText.{line}
-use Rattle.mdns_lines.specs.declared.line.Line.{Line}
-use Rattle.mdns_lines.specs.LineText.{line_text}
+use Rattle.mdns_print.specs.declared.line.Line.{Line}
+use Rattle.mdns_print.specs.LineText.{line_text}
 use Rattle.mdns_lines.specs.ReadLines.{line_read}
 use Rattle.mdns_lines.specs.Printable.{is_printable_line}
 use Rattle.mdns_lines.proofs.LinesBack.{lines_printed}

@@ -9,11 +9,11 @@ use Rattle.mdns_history.specs.declared.entry.Sent.{Sent}
 use Rattle.mdns_history.specs.declared.entry.Outcome.{Outcome}
 use Rattle.mdns_history.specs.declared.entry.Outcome.TheVariants as outcome
 use Rattle.mdns_history.specs.EntryText as texts
-use Rattle.mdns_lines.specs.declared.line.Section.{Section}
-use Rattle.mdns_lines.specs.declared.line.Section.TheVariants.{Answers, Authority, Additional}
-use Rattle.mdns_lines.specs.declared.line.Line.{Line}
-use Rattle.mdns_lines.specs.declared.line.Line.TheVariants as lines
-use Rattle.mdns_lines.specs.LineText.{line_text, letter}
+use Rattle.mdns_print.specs.declared.line.Section.{Section}
+use Rattle.mdns_print.specs.declared.line.Section.TheVariants.{Answers, Authority, Additional}
+use Rattle.mdns_print.specs.declared.line.Line.{Line}
+use Rattle.mdns_print.specs.declared.line.Line.TheVariants as lines
+use Rattle.mdns_print.specs.LineText.{line_text, letter}
 use Rattle.mdns_transcript.specs.declared.row.Row.{Row}
 use Rattle.mdns_transcript.specs.Rows.{row_text, rows_text}
 use Rattle.mdns_transcript.specs.RowLines.{message_lines, sent_lines, outcome_lines, row_lines, rows_lines}

@@ -13,10 +13,10 @@ use Rattle.mdns_history.specs.declared.entry.Outcome.TheVariants as outcome
 use Rattle.mdns_history.specs.declared.entry.Entry.{Entry}
 use Rattle.mdns_history.specs.Typed.{is_typed_dest, is_typed_item, is_typed_event, is_typed_mark, is_typed_sent, is_typed_given, is_typed_outcome, is_typed_entry}
 use Rattle.mdns_script.specs.Writable.{is_daemon}
-use Rattle.mdns_lines.specs.declared.line.Section.{Section}
-use Rattle.mdns_lines.specs.declared.line.Section.TheVariants.{Answers, Authority, Additional}
-use Rattle.mdns_lines.specs.declared.line.Line.{Line}
-use Rattle.mdns_lines.specs.declared.line.Line.TheVariants as lines
+use Rattle.mdns_print.specs.declared.line.Section.{Section}
+use Rattle.mdns_print.specs.declared.line.Section.TheVariants.{Answers, Authority, Additional}
+use Rattle.mdns_print.specs.declared.line.Line.{Line}
+use Rattle.mdns_print.specs.declared.line.Line.TheVariants as lines
 use Rattle.mdns_lines.specs.Printable.{event_has_text, is_printable_line}
 use Rattle.mdns_transcript.specs.declared.row.Row.{Row}
 use Rattle.mdns_transcript.specs.Rows.{is_written, is_row}

@@ -5,8 +5,8 @@ use Rattle.dns_message.specs.declared.message.Message.{Message}
 use Rattle.mdns_history.specs.declared.entry.Sent.{Sent}
 use Rattle.mdns_history.specs.declared.entry.Given.{Given}
 use Rattle.mdns_history.specs.declared.entry.Outcome.{Outcome}
-use Rattle.mdns_lines.specs.declared.line.Line.{Line}
-use Rattle.mdns_lines.specs.declared.line.Line.TheVariants as lines
+use Rattle.mdns_print.specs.declared.line.Line.{Line}
+use Rattle.mdns_print.specs.declared.line.Line.TheVariants as lines
 use Rattle.mdns_transcript.specs.declared.row.Row.{Row}
 use Rattle.mdns_transcript.specs.declared.draft.End.{End}
 use Rattle.mdns_transcript.specs.declared.draft.End.TheVariants as ends

@@ -3,8 +3,8 @@ use Rattle.std.specs.Prelude.{ℕ, Bool, [], ◌∷◌, ◌++◌}
 use Rattle.dns_record.specs.declared.record.Question.{Question}
 use Rattle.dns_record.specs.declared.record.Rr.{Rr}
 use Rattle.dns_message.specs.declared.message.Message.{Message}
-use Rattle.mdns_lines.specs.declared.line.Section.{Section}
-use Rattle.mdns_lines.specs.declared.line.Section.TheVariants.{Answers, Authority, Additional}
+use Rattle.mdns_print.specs.declared.line.Section.{Section}
+use Rattle.mdns_print.specs.declared.line.Section.TheVariants.{Answers, Authority, Additional}
 
 -- a message without questions and records, with the header of a written message
 abbrev pub begun : ℕ → Bool → Bool → Message

@@ -6,10 +6,10 @@ use Rattle.mdns_history.specs.declared.entry.Sent.{Sent}
 use Rattle.mdns_history.specs.declared.entry.Outcome.{Outcome}
 use Rattle.mdns_history.specs.declared.entry.Outcome.TheVariants as outcome
 use Rattle.mdns_history.specs.declared.entry.Entry.{Entry}
-use Rattle.mdns_lines.specs.declared.line.Section.TheVariants.{Answers, Authority, Additional}
-use Rattle.mdns_lines.specs.declared.line.Ending.TheVariants as ending
-use Rattle.mdns_lines.specs.declared.line.Line.{Line}
-use Rattle.mdns_lines.specs.declared.line.Line.TheVariants as lines
+use Rattle.mdns_print.specs.declared.line.Section.TheVariants.{Answers, Authority, Additional}
+use Rattle.mdns_print.specs.declared.line.Ending.TheVariants as ending
+use Rattle.mdns_print.specs.declared.line.Line.{Line}
+use Rattle.mdns_print.specs.declared.line.Line.TheVariants as lines
 use Rattle.mdns_transcript.specs.declared.row.Row.{Row}
 
 -- the lines of a message behind its first one

@@ -1,10 +1,10 @@
 -- Which line may follow the lines of an entry that were read: for the contracts of private functions, and for their proofs.
 use Rattle.std.specs.Prelude.{ℕ, ◌-◌, ◌==◌, nat_le, Bool, true, ◌&&◌, List, [], ◌∷◌, Option, Some, None, if◌then◌else◌}
 use Rattle.number_text.specs.Digits.{◌>>=◌}
-use Rattle.mdns_lines.specs.declared.line.Section.{Section}
-use Rattle.mdns_lines.specs.declared.line.Section.TheVariants.{Answers, Authority, Additional}
-use Rattle.mdns_lines.specs.declared.line.Line.{Line}
-use Rattle.mdns_lines.specs.declared.line.Line.TheVariants as lines
+use Rattle.mdns_print.specs.declared.line.Section.{Section}
+use Rattle.mdns_print.specs.declared.line.Section.TheVariants.{Answers, Authority, Additional}
+use Rattle.mdns_print.specs.declared.line.Line.{Line}
+use Rattle.mdns_print.specs.declared.line.Line.TheVariants as lines
 
 -- How far the reading came: before the first entry; in an entry that has no outcome yet, up to its marks (0), up to the questions of a message (1), up to its
 -- answers (2), authority (3) or additional records (4), or up to what is given (5); or behind the outcome, with so many of its items left.

@@ -8,7 +8,7 @@ use crate::Row;
 use crate::message::{add_question, add_record, begun};
 use dns_record::{Question, Rr};
 use mdns_history::{Entry, Event, Gifts, Given, Items, Mark, Marks, Outcome, Sends, Sent};
-use mdns_lines::{Ending, Line, Section};
+use mdns_print::{Ending, Line, Section};
 use sd_call::Item;
 use std::alloc::{AllocError, Global};
 

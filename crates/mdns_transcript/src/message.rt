@@ -6,7 +6,7 @@ ghost use Rattle.mdns_transcript.specs.Messages.{begun, with_question, with_reco
 
 use dns_message::{Message, Questions, Rrs};
 use dns_record::{Question, Rr};
-use mdns_lines::Section;
+use mdns_print::Section;
 use std::alloc::{AllocError, Global};
 
 /// A message without questions and records, with the header of a written message. (RFC 6762 18)

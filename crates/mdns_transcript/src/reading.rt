@@ -6,7 +6,8 @@ ghost use Rattle.mdns_transcript.specs.Drafts.{lines_read, stage_of, IsReading, 
 
 use crate::Transcript;
 use crate::draft::Draft;
-use mdns_lines::{Line, read_line};
+use mdns_lines::read_line;
+use mdns_print::Line;
 use std::alloc::{AllocError, Global};
 
 /// The rows whose lines were read, and the entry under way.

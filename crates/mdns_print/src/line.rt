@@ -1,6 +1,6 @@
 // What the lines of a transcript are.
 ghost use Rattle.std.specs.Prelude.{◌≡◌};
-ghost use Rattle.mdns_lines.specs.LineText.{outcome_of};
+ghost use Rattle.mdns_print.specs.LineText.{outcome_of};
 
 use dns_record::{Question, Rr};
 use mdns_base::Dest;

@@ -5,12 +5,12 @@ use Rattle.sd_call.specs.CallText.{item_text}
 use Rattle.mdns_history.specs.declared.entry.Outcome.{Outcome}
 use Rattle.mdns_history.specs.declared.entry.Outcome.TheVariants as outcome
 use Rattle.mdns_history.specs.EntryText.{line, event_text, mark_line, dest_text, way_text, word_if, question_line, given_line, outcome_lines, outcome_line}
-use Rattle.mdns_lines.specs.declared.line.Section.{Section}
-use Rattle.mdns_lines.specs.declared.line.Section.TheVariants.{Answers, Authority, Additional}
-use Rattle.mdns_lines.specs.declared.line.Ending.{Ending}
-use Rattle.mdns_lines.specs.declared.line.Ending.TheVariants.{Opened, Full, Ended, Closed, Cut, Code, Empty}
-use Rattle.mdns_lines.specs.declared.line.Line.{Line}
-use Rattle.mdns_lines.specs.declared.line.Line.TheVariants as lines
+use Rattle.mdns_print.specs.declared.line.Section.{Section}
+use Rattle.mdns_print.specs.declared.line.Section.TheVariants.{Answers, Authority, Additional}
+use Rattle.mdns_print.specs.declared.line.Ending.{Ending}
+use Rattle.mdns_print.specs.declared.line.Ending.TheVariants.{Opened, Full, Ended, Closed, Cut, Code, Empty}
+use Rattle.mdns_print.specs.declared.line.Line.{Line}
+use Rattle.mdns_print.specs.declared.line.Line.TheVariants as lines
 
 -- the outcome that a line tells
 abbrev pub outcome_of : Ending → Outcome

@@ -2,7 +2,7 @@
 ghost use Rattle.std.specs.Prelude.{◌≡◌, ◌++◌, OnOk};
 ghost use Rattle.mdns_history.specs.EntryText.{event_text, host_text, v6_text, from_text};
 
-use crate::print_mark::{put_numbered, put_word};
+use crate::mark::{put_numbered, put_word};
 use mdns_base::Host;
 use mdns_history::{Config, Event, HostConfig};
 use number_text::{put_hex, put_ipv4, put_ipv6};

@@ -1,10 +1,11 @@
+// Lines as text.
 ghost use Rattle.std.specs.Prelude.{◌≡◌, ◌++◌, OnOk, IfOk};
 ghost use Rattle.mdns_history.specs.EntryText.{dest_text, way_text, question_line, given_line, outcome_lines};
-ghost use Rattle.mdns_lines.specs.LineText.{line_text, letter, outcome_of};
+ghost use Rattle.mdns_print.specs.LineText.{line_text, letter, outcome_of};
 
-use crate::print_event::{put_event, put_from};
-use crate::print_mark::{put_mark, put_numbered, put_word};
-use crate::{Ending, Line, Section};
+use crate::event::{put_event, put_from};
+use crate::line::{Ending, Line, Section};
+use crate::mark::{put_mark, put_numbered, put_word};
 use dns_record::{Question, Rr, put_kind, put_name, put_record};
 use mdns_base::Dest;
 use mdns_history::{Event, Given, Mark};
