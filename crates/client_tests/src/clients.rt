@@ -1,9 +1,8 @@
 // Rows of a client over a plug in memory.
-use crate::error::RowError;
 use crate::plugs::{MemClient, Plugged};
-use crate::spelled::{bytes_of, number, text_of, told, word};
 use bytes::Bytes;
 use mdns_outside::Plug;
+use row_words::{RowError, bytes_of, number, text_from, text_of, word};
 use sd_call::put_item;
 use sd_client::*;
 use std::alloc::{AllocError, Global};
@@ -130,7 +129,7 @@ fn item_row(alloc: Global, client: &mut MemClient) -> Result<String, RowError> {
         Ok(item) => {
             let mut out = Vec::new(alloc);
             put_item(&mut out, &item)?;
-            told(out)
+            text_from(out)
         }
         Err(fault) => word(alloc, fault_word(fault)?),
     }

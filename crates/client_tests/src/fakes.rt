@@ -1,10 +1,9 @@
 // Rows of what stands for the outside: an ear, an air, a door, and random words.
-use crate::error::RowError;
-use crate::spelled::{bytes_of, number, shown, told, word};
 use bytes::Bytes;
 use mdns_base::{Dest, Host, MemSource, Sink};
 use mdns_outside::*;
 use number_text::put_hex;
+use row_words::{RowError, bytes_of, number, shown, text_from, word};
 use std::alloc::{AllocError, Global};
 
 /// The host that sends packets, and to which they go.
@@ -152,5 +151,5 @@ pub fn chacha_row(alloc: Global, words: &[&str]) -> Result<String, RowError> {
         }
         put_hex(&mut out, &source.word().to_be_bytes())?;
     }
-    told(out)
+    text_from(out)
 }

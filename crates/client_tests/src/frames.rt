@@ -2,11 +2,10 @@
 ghost use Rattle.std.specs.Prelude.{◌≡◌};
 ghost use Rattle.sd_ipc.specs.Frames.{is_short};
 
-use crate::error::RowError;
-use crate::spelled::{bytes_of, number, shown, told, word};
 use bytes::Bytes;
 use dns_record::Rdata;
 use mdns_base::{Failed, MemSource, Source};
+use row_words::{RowError, bytes_of, number, shown, text_from, word};
 use sd_call::{Answer, Item, Request, Text, put_item, put_request};
 use sd_ipc::*;
 use std::alloc::{AllocError, Global};
@@ -141,7 +140,7 @@ fn again<S: Source>(
     if written.as_slice() == bytes {
         out.extend_from_slice(b", written again")?;
     }
-    told(out)
+    text_from(out)
 }
 
 fn request_again<S: Source>(

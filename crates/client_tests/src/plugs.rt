@@ -1,8 +1,7 @@
 // Rows of a plug in memory.
-use crate::error::RowError;
-use crate::spelled::{bytes_of, number, shown, word};
 use mdns_base::{MemSink, MemSource, Sink, Source};
 use mdns_outside::{Counted, MemPlug, Peer, Plug};
+use row_words::{RowError, bytes_of, number, shown, word};
 use sd_client::Client;
 use std::alloc::Global;
 

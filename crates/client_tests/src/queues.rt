@@ -1,8 +1,7 @@
 // Rows of a session's queue.
-use crate::error::RowError;
-use crate::spelled::{number, word, yes_or_no};
 use bytes::Bytes;
 use dns_record::Rdata;
+use row_words::{RowError, number, word, yes_or_no};
 use sd_call::{Answer, Item, Verb};
 use sd_outbox::*;
 use std::alloc::{AllocError, Global};

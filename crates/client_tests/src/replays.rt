@@ -1,6 +1,5 @@
 // Rows of what a client holds that replays its items.
-use crate::error::RowError;
-use crate::spelled::{name_of, number, word, yes_or_no};
+use row_words::{RowError, name_of, number, word, yes_or_no};
 use sd_call::{Answer, Item, Replayed, Verb, answer_cmp};
 use std::alloc::Global;
 

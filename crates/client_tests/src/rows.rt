@@ -1,10 +1,9 @@
 // The rows by their subjects.
-use crate::error::RowError;
 use crate::fakes::{self, Fakes};
 use crate::plugs::{self, Plugged};
-use crate::txt_data::{self, TxtKept};
-use crate::{clients, frames, queues, replays, scripts, service_names};
+use crate::{clients, frames, queues, replays};
 use mdns_base::MemSource;
+use row_words::{RowError, is_row};
 use sd_call::Replayed;
 use sd_outbox::Outbox;
 use std::alloc::Global;
@@ -12,7 +11,6 @@ use std::alloc::Global;
 /// What rows work on, one after the other.
 #[derive(Drop)]
 pub struct Kept {
-    txt: TxtKept,
     replay: Replayed,
     queue: Outbox,
     source: MemSource,
@@ -24,7 +22,6 @@ impl Kept {
     /// Nothing of anything.
     pub fn new(alloc: Global) -> Self {
         Kept {
-            txt: TxtKept::new(alloc),
             replay: Replayed::new(alloc),
             queue: Outbox::new(alloc),
             source: MemSource::new(Vec::new(alloc), Vec::new(alloc)),
@@ -37,7 +34,7 @@ impl Kept {
 /// What is printed for a line: the line, and what came of it if it is a row.
 pub fn printed(alloc: Global, kept: &mut Kept, line: &str) -> Result<String, RowError> {
     let mut out = String::from_str(alloc, line)?;
-    if !line.is_empty() && !line.starts_with('#') {
+    if is_row(line) {
         out.push_str(" = ")?;
         out.push_str(row(alloc, kept, line)?.as_str())?;
     }
@@ -49,16 +46,8 @@ fn row(alloc: Global, kept: &mut Kept, line: &str) -> Result<String, RowError> {
     let Some((subject, rest)) = line.split_once(' ') else {
         return Err(RowError::NotUnderstood);
     };
-    match subject {
-        "script" => scripts::script_row(alloc, rest),
-        "print" => scripts::print_row(alloc, rest),
-        "event" => scripts::event_row(alloc, rest),
-        "serve" => scripts::serve_row(alloc, rest),
-        _ => {
-            let words: Vec<&str> = rest.split(' ').collect(alloc)?;
-            row_of_words(alloc, kept, subject, words.as_slice())
-        }
-    }
+    let words: Vec<&str> = rest.split(' ').collect(alloc)?;
+    row_of_words(alloc, kept, subject, words.as_slice())
 }
 
 fn row_of_words(
@@ -68,8 +57,6 @@ fn row_of_words(
     words: &[&str],
 ) -> Result<String, RowError> {
     match subject {
-        "txt" => txt_data::row(alloc, &mut kept.txt, words),
-        "service" => service_names::row(alloc, words),
         "replay" => replays::row(alloc, &mut kept.replay, words),
         "queue" => queues::row(alloc, &mut kept.queue, words),
         "frame" => frames::row(alloc, &mut kept.source, words),

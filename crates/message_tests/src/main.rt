@@ -1,31 +1,23 @@
-//! Worked rows of names, records, messages, numbers and packing: each row is printed with what came of it.
+//! Worked rows of records, messages and packing: each row is printed with what came of it.
 #![tactic(auto)]
 
-mod error;
-mod fields;
-mod kept;
-mod labels;
-mod memory;
 mod messages;
-mod names;
-mod numbers;
 mod packets;
 mod packing;
 mod records;
-mod told;
+mod rows;
 
-use crate::error::RowError;
-use crate::kept::Kept;
+use crate::rows::told;
+use row_words::RowError;
 use std::io;
 use std::io::Write;
 
 fn main(rt: HostRuntime) -> Result<(), RowError> {
-    let mut kept = Kept::new(rt.alloc());
     let mut output = io::writer(&rt);
     for line in rt.lines(rt.alloc()) {
         let line = line?;
-        match kept.told(rt.alloc(), line.as_str()) {
-            Ok(told) => output.write_all(told.as_slice())?,
+        match told(rt.alloc(), line.as_str()) {
+            Ok(text) => output.write_all(text.as_slice())?,
             Err(error) => {
                 eprintln!(rt; "{error}: {line}")?;
                 return Err(error);

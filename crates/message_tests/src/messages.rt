@@ -1,25 +1,21 @@
 // Rows of messages that are read: a line of the header, one for each question and record, or the fault.
 
-use crate::error::RowError;
-use crate::fields::{bytes_of, first_word};
 use crate::packets::{put_filled, put_rewritten, put_write_faults};
-use crate::told::{put_comma, put_numbered, put_text};
 use dns_message::{Message, MessageError, Questions, Rrs, read};
-use dns_record::{put_kind, put_name, put_record};
-use number_text::put_decimal;
+use row_words::{RowError, Told, first_word, hex_of};
 use std::alloc::{AllocError, Global};
 
 /// `message ..`: what a packet is read as, its prefixes, packets at the limits, and what a message is written as.
-pub fn message_row(alloc: Global, out: &mut Vec<u8>, row: &str) -> Result<(), RowError> {
+pub fn message_row(told: &mut Told, row: &str) -> Result<(), RowError> {
     match first_word(row) {
-        ("read", digits) => put_read(alloc, out, bytes_of(alloc, digits)?.as_slice()),
-        ("prefixes", digits) => put_prefixes(alloc, out, bytes_of(alloc, digits)?.as_slice()),
-        ("labels", sizes) => put_verdict(alloc, out, with_labels(alloc, sizes)?.as_slice()),
-        ("zeros", count) => put_verdict(alloc, out, zeros(alloc, count)?.as_slice()),
-        ("faults", "read") => put_faults(out),
-        ("faults", "write") => put_write_faults(out),
-        ("rewrite", rest) => put_rewritten(alloc, out, rest),
-        ("filled", rest) => put_filled(alloc, out, rest),
+        ("read", digits) => put_read(told, hex_of(told.alloc, digits)?.as_slice()),
+        ("prefixes", digits) => put_prefixes(told, hex_of(told.alloc, digits)?.as_slice()),
+        ("labels", sizes) => put_verdict(told, with_labels(told.alloc, sizes)?.as_slice()),
+        ("zeros", count) => put_verdict(told, zeros(told.alloc, count)?.as_slice()),
+        ("faults", "read") => put_faults(told),
+        ("faults", "write") => put_write_faults(told),
+        ("rewrite", rest) => put_rewritten(told, rest),
+        ("filled", rest) => put_filled(told, rest),
         _ => Err(RowError::NotUnderstood),
     }
 }
@@ -56,35 +52,35 @@ fn verdict(alloc: Global, bytes: &[u8]) -> Result<&'static str, AllocError> {
     }
 }
 
-fn put_verdict(alloc: Global, out: &mut Vec<u8>, bytes: &[u8]) -> Result<(), RowError> {
-    put_text(out, verdict(alloc, bytes)?)
+fn put_verdict(told: &mut Told, bytes: &[u8]) -> Result<(), RowError> {
+    told.put(verdict(told.alloc, bytes)?)
 }
 
 // `read BYTES`: the message in lines, or the fault.
-fn put_read(alloc: Global, out: &mut Vec<u8>, bytes: &[u8]) -> Result<(), RowError> {
-    match message_of(alloc, bytes)? {
-        Ok(message) => put_message(out, &message),
-        Err(fault) => put_text(out, fault_word(fault)),
+fn put_read(told: &mut Told, bytes: &[u8]) -> Result<(), RowError> {
+    match message_of(told.alloc, bytes)? {
+        Ok(message) => put_message(told, &message),
+        Err(fault) => told.put(fault_word(fault)),
     }
 }
 
-fn put_message(out: &mut Vec<u8>, message: &Message) -> Result<(), RowError> {
-    put_header(out, message)?;
-    put_questions(out, &message.questions)?;
-    put_records(out, "a", &message.answers)?;
-    put_records(out, "n", &message.authority)?;
-    put_records(out, "x", &message.additional)
+fn put_message(told: &mut Told, message: &Message) -> Result<(), RowError> {
+    put_header(told, message)?;
+    put_questions(told, &message.questions)?;
+    put_records(told, "a", &message.answers)?;
+    put_records(told, "n", &message.authority)?;
+    put_records(told, "x", &message.additional)
 }
 
 // The ID, then `r` for a response, `a` for an authority, `t` where it is truncated, and the numbers of opcode and response code.
-fn put_header(out: &mut Vec<u8>, message: &Message) -> Result<(), RowError> {
-    put_decimal(out, u64::from(message.id))?;
-    put_text(out, " ")?;
-    put_text(out, flag_word(message))?;
-    put_text(out, " ")?;
-    put_decimal(out, u64::from(message.opcode))?;
-    put_text(out, " ")?;
-    Ok(put_decimal(out, u64::from(message.rcode))?)
+fn put_header(told: &mut Told, message: &Message) -> Result<(), RowError> {
+    told.put_decimal(u64::from(message.id))?;
+    told.put(" ")?;
+    told.put(flag_word(message))?;
+    told.put(" ")?;
+    told.put_decimal(u64::from(message.opcode))?;
+    told.put(" ")?;
+    told.put_decimal(u64::from(message.rcode))
 }
 
 fn flag_word(message: &Message) -> &'static str {
@@ -100,37 +96,37 @@ fn flag_word(message: &Message) -> &'static str {
     }
 }
 
-fn put_questions(out: &mut Vec<u8>, questions: &Questions) -> Result<(), RowError> {
+fn put_questions(told: &mut Told, questions: &Questions) -> Result<(), RowError> {
     for question in questions.as_slice() {
-        put_text(out, "\n  ? ")?;
-        put_name(out, &question.name)?;
-        put_text(out, " ")?;
-        put_kind(out, question.kind)?;
-        put_text(out, if question.unicast { " qu" } else { "" })?;
+        told.put("\n  ? ")?;
+        told.put_name(&question.name)?;
+        told.put(" ")?;
+        told.put_kind(question.kind)?;
+        told.put(if question.unicast { " qu" } else { "" })?;
     }
     Ok(())
 }
 
-fn put_records(out: &mut Vec<u8>, mark: &str, rrs: &Rrs) -> Result<(), RowError> {
+fn put_records(told: &mut Told, mark: &str, rrs: &Rrs) -> Result<(), RowError> {
     for rr in rrs.as_slice() {
-        put_text(out, "\n  ")?;
-        put_text(out, mark)?;
-        put_text(out, " ")?;
-        put_record(out, rr)?;
+        told.put("\n  ")?;
+        told.put(mark)?;
+        told.put(" ")?;
+        told.put_record(rr)?;
     }
     Ok(())
 }
 
 // `prefixes BYTES`: what comes of the first bytes, from each length on at which something else comes of them.
-fn put_prefixes(alloc: Global, out: &mut Vec<u8>, bytes: &[u8]) -> Result<(), RowError> {
+fn put_prefixes(told: &mut Told, bytes: &[u8]) -> Result<(), RowError> {
     let mut last = "";
     for end in 0..bytes.len() {
-        let word = verdict(alloc, &bytes[..end])?;
+        let word = verdict(told.alloc, &bytes[..end])?;
         if word != last {
-            put_comma(out, end)?;
-            put_decimal(out, end as u64)?;
-            put_text(out, " ")?;
-            put_text(out, word)?;
+            told.put_comma(end)?;
+            told.put_decimal(end as u64)?;
+            told.put(" ")?;
+            told.put(word)?;
             last = word;
         }
     }
@@ -139,7 +135,7 @@ fn put_prefixes(alloc: Global, out: &mut Vec<u8>, bytes: &[u8]) -> Result<(), Ro
 
 // `labels SIZE ..`: a message whose one question has a name of labels of these sizes.
 fn with_labels(alloc: Global, sizes: &str) -> Result<Vec<u8>, RowError> {
-    let mut bytes = bytes_of(alloc, "000000000001000000000000")?;
+    let mut bytes = hex_of(alloc, "000000000001000000000000")?;
     for size in sizes.split_whitespace() {
         let size = size.parse::<u8>()?;
         bytes.push(size)?;
@@ -157,7 +153,7 @@ fn zeros(alloc: Global, count: &str) -> Result<Vec<u8>, RowError> {
 }
 
 // `faults read`: the number and the words of each.
-fn put_faults(out: &mut Vec<u8>) -> Result<(), RowError> {
+fn put_faults(told: &mut Told) -> Result<(), RowError> {
     let faults = [
         MessageError::Truncated,
         MessageError::BadPointer,
@@ -168,8 +164,8 @@ fn put_faults(out: &mut Vec<u8>) -> Result<(), RowError> {
         MessageError::NoMemory,
     ];
     for (place, fault) in faults.iter().enumerate() {
-        put_comma(out, place)?;
-        put_numbered(out, *fault as u8, fault_word(*fault))?;
+        told.put_comma(place)?;
+        told.put_numbered(*fault as u8, fault_word(*fault))?;
     }
     Ok(())
 }

@@ -2,174 +2,168 @@
 // name of that label under `local`, a capital has a label of 63 bytes. A record is such a letter and the length of its TXT
 // data, as `h12`.
 
-use crate::error::RowError;
-use crate::fields::{first_word, record_of, two_parts};
 use crate::packets::written;
 use crate::records::key_of;
-use crate::told::{put_comma, put_text};
 use bytes::Bytes;
 use dns_message::{Message, Rrs};
 use dns_name::Name;
 use dns_record::{Key, Question, Rdata, Rr};
 use mdns_pack::{Messages, Wanting, pack_legacy, pack_plain, pack_query, pack_reply};
-use number_text::{put_decimal, put_hex};
+use row_words::{RowError, Told, first_word, name_of, record, two_sides};
 use std::alloc::Global;
 
 /// `pack ..`: the messages of a query, of replies, of goodbyes, and of a reply in the old way.
-pub fn pack_row(alloc: Global, out: &mut Vec<u8>, row: &str) -> Result<(), RowError> {
+pub fn pack_row(told: &mut Told, row: &str) -> Result<(), RowError> {
     match first_word(row) {
-        ("query", rest) => put_query(alloc, out, rest),
-        ("reply", rest) => put_reply(alloc, out, rest),
-        ("goodbye", rest) => put_goodbye(alloc, out, rest),
-        ("legacy", rest) => put_legacy(alloc, out, rest),
-        ("ttl", rest) => put_ttl(alloc, out, rest),
-        ("asked", rest) => put_asked(alloc, out, rest),
-        ("answered", rest) => put_answered(alloc, out, rest),
+        ("query", rest) => put_query(told, rest),
+        ("reply", rest) => put_reply(told, rest),
+        ("goodbye", rest) => put_goodbye(told, rest),
+        ("legacy", rest) => put_legacy(told, rest),
+        ("ttl", rest) => put_ttl(told, rest),
+        ("asked", rest) => put_asked(told, rest),
+        ("answered", rest) => put_answered(told, rest),
         _ => Err(RowError::NotUnderstood),
     }
 }
 
 // `query LETTERS RECORD ..`: a query for any records of these names, with these known answers. For each message whether more
 // follows, how many questions and answers it has, and its length.
-fn put_query(alloc: Global, out: &mut Vec<u8>, rest: &str) -> Result<(), RowError> {
+fn put_query(told: &mut Told, rest: &str) -> Result<(), RowError> {
     let (letters, records) = first_word(rest);
-    let keys = keys_of(alloc, letters)?;
-    let known = Rrs::from_vec(records_of(alloc, records)?);
-    let messages = pack_query(alloc, keys.as_slice(), &known)?;
-    put_none(out, &messages)?;
+    let keys = keys_of(told.alloc, letters)?;
+    let known = Rrs::from_vec(records_of(told.alloc, records)?);
+    let messages = pack_query(told.alloc, keys.as_slice(), &known)?;
+    put_none(told, &messages)?;
     for (place, message) in messages.as_slice().iter().enumerate() {
-        put_comma(out, place)?;
-        put_counts(alloc, out, message)?;
+        told.put_comma(place)?;
+        put_counts(told, message)?;
     }
     Ok(())
 }
 
 // `reply RECORD,WANTED,.. ..`: replies with these answers, each with the additional records that it wants. For each reply the
 // lengths of its answers' data, `a`, and of its additional records' data, `x`, and its own.
-fn put_reply(alloc: Global, out: &mut Vec<u8>, rest: &str) -> Result<(), RowError> {
-    let mut wantings = Vec::new(alloc);
+fn put_reply(told: &mut Told, rest: &str) -> Result<(), RowError> {
+    let mut wantings = Vec::new(told.alloc);
     for word in rest.split_whitespace() {
-        wantings.push(wanting_of(alloc, word)?)?;
+        wantings.push(wanting_of(told.alloc, word)?)?;
     }
-    put_replies(alloc, out, &pack_reply(alloc, wantings.as_slice())?)
+    put_replies(told, &pack_reply(told.alloc, wantings.as_slice())?)
 }
 
 // `goodbye RECORD ..`: the same of records that are taken back, without additional ones.
-fn put_goodbye(alloc: Global, out: &mut Vec<u8>, rest: &str) -> Result<(), RowError> {
-    let mut goodbyes = records_of(alloc, rest)?;
+fn put_goodbye(told: &mut Told, rest: &str) -> Result<(), RowError> {
+    let mut goodbyes = records_of(told.alloc, rest)?;
     for rr in goodbyes.iter_mut() {
         rr.ttl = 0;
     }
-    put_replies(alloc, out, &pack_plain(alloc, goodbyes.as_slice())?)
+    put_replies(told, &pack_plain(told.alloc, goodbyes.as_slice())?)
 }
 
 // `legacy LETTERS RECORD ..`: the reply in the old way to questions for these names, told as a query is; the mark says that
 // something was left out.
-fn put_legacy(alloc: Global, out: &mut Vec<u8>, rest: &str) -> Result<(), RowError> {
+fn put_legacy(told: &mut Told, rest: &str) -> Result<(), RowError> {
     let (letters, records) = first_word(rest);
-    let mut questions = Vec::new(alloc);
-    for key in keys_of(alloc, letters)? {
+    let mut questions = Vec::new(told.alloc);
+    for key in keys_of(told.alloc, letters)? {
         questions.push(Question {
             name: key.name,
             kind: 16,
             unicast: true,
         })?;
     }
-    let records = records_of(alloc, records)?;
-    let message = pack_legacy(alloc, 0xabcd, questions.as_slice(), records.as_slice())?;
-    put_counts(alloc, out, &message)
+    let records = records_of(told.alloc, records)?;
+    let message = pack_legacy(told.alloc, 0xabcd, questions.as_slice(), records.as_slice())?;
+    put_counts(told, &message)
 }
 
 // `ttl SECONDS`: the seconds for which a resolver may keep a record of this TTL.
-fn put_ttl(alloc: Global, out: &mut Vec<u8>, seconds: &str) -> Result<(), RowError> {
-    let mut rr = of_letter(alloc, 'h', 1)?;
+fn put_ttl(told: &mut Told, seconds: &str) -> Result<(), RowError> {
+    let mut rr = of_letter(told.alloc, 'h', 1)?;
     rr.ttl = seconds.parse::<u32>()?;
-    let message = pack_legacy(alloc, 7, &[], &[rr])?;
+    let message = pack_legacy(told.alloc, 7, &[], &[rr])?;
     match message.answers.as_slice() {
-        [answer] => Ok(put_decimal(out, u64::from(answer.ttl))?),
-        _ => put_text(out, "not one answer"),
+        [answer] => told.put_decimal(u64::from(answer.ttl)),
+        _ => told.put("not one answer"),
     }
 }
 
 // `asked NAME NUMBER | RECORD`: the bytes of the query for this name and type that lists the record.
-fn put_asked(alloc: Global, out: &mut Vec<u8>, rest: &str) -> Result<(), RowError> {
-    let (question, record) = rest.split_once(" | ").ok_or(RowError::NotUnderstood)?;
-    let mut known = Rrs::new(alloc);
-    known.push(record_of(alloc, record)?)?;
-    let messages = pack_query(alloc, &[key_of(question)?], &known)?;
+fn put_asked(told: &mut Told, rest: &str) -> Result<(), RowError> {
+    let (question, text) = two_sides(rest)?;
+    let mut known = Rrs::new(told.alloc);
+    known.push(record(told.alloc, text)?)?;
+    let messages = pack_query(told.alloc, &[key_of(question)?], &known)?;
     for (place, message) in messages.as_slice().iter().enumerate() {
-        put_comma(out, place)?;
-        put_written(alloc, out, message)?;
+        told.put_comma(place)?;
+        put_written(told, message)?;
     }
     Ok(())
 }
 
 // `answered NAME NUMBER | RECORD`: the bytes of the reply to a resolver that asks so with the ID 7.
-fn put_answered(alloc: Global, out: &mut Vec<u8>, rest: &str) -> Result<(), RowError> {
-    let (question, record) = rest.split_once(" | ").ok_or(RowError::NotUnderstood)?;
+fn put_answered(told: &mut Told, rest: &str) -> Result<(), RowError> {
+    let (question, text) = two_sides(rest)?;
     let Key { name, kind } = key_of(question)?;
     let question = Question {
         name,
         kind,
         unicast: true,
     };
-    let message = pack_legacy(alloc, 7, &[question], &[record_of(alloc, record)?])?;
-    put_written(alloc, out, &message)
+    let message = pack_legacy(told.alloc, 7, &[question], &[record(told.alloc, text)?])?;
+    put_written(told, &message)
 }
 
-fn put_written(alloc: Global, out: &mut Vec<u8>, message: &Message) -> Result<(), RowError> {
-    match written(alloc, message, 1440)? {
-        Some(bytes) => Ok(put_hex(out, bytes.as_slice())?),
-        None => put_text(out, "too long"),
+fn put_written(told: &mut Told, message: &Message) -> Result<(), RowError> {
+    match written(told.alloc, message, 1440)? {
+        Some(bytes) => told.put_hex(bytes.as_slice()),
+        None => told.put("too long"),
     }
 }
 
 // `none`, where there are no messages.
-fn put_none(out: &mut Vec<u8>, messages: &Messages) -> Result<(), RowError> {
-    put_text(
-        out,
-        if messages.as_slice().is_empty() {
-            "none"
-        } else {
-            ""
-        },
-    )
+fn put_none(told: &mut Told, messages: &Messages) -> Result<(), RowError> {
+    told.put(if messages.as_slice().is_empty() {
+        "none"
+    } else {
+        ""
+    })
 }
 
-fn put_length(alloc: Global, out: &mut Vec<u8>, message: &Message) -> Result<(), RowError> {
-    match written(alloc, message, 8972)? {
-        Some(bytes) => Ok(put_decimal(out, bytes.as_slice().len() as u64)?),
-        None => put_text(out, "too long"),
+fn put_length(told: &mut Told, message: &Message) -> Result<(), RowError> {
+    match written(told.alloc, message, 8972)? {
+        Some(bytes) => told.put_decimal(bytes.as_slice().len() as u64),
+        None => told.put("too long"),
     }
 }
 
-fn put_counts(alloc: Global, out: &mut Vec<u8>, message: &Message) -> Result<(), RowError> {
-    put_text(out, if message.truncated { "tc " } else { "- " })?;
-    put_decimal(out, message.questions.as_slice().len() as u64)?;
-    put_text(out, " ")?;
-    put_decimal(out, message.answers.as_slice().len() as u64)?;
-    put_text(out, " ")?;
-    put_length(alloc, out, message)
+fn put_counts(told: &mut Told, message: &Message) -> Result<(), RowError> {
+    told.put(if message.truncated { "tc " } else { "- " })?;
+    told.put_decimal(message.questions.as_slice().len() as u64)?;
+    told.put(" ")?;
+    told.put_decimal(message.answers.as_slice().len() as u64)?;
+    told.put(" ")?;
+    put_length(told, message)
 }
 
-fn put_replies(alloc: Global, out: &mut Vec<u8>, messages: &Messages) -> Result<(), RowError> {
-    put_none(out, messages)?;
+fn put_replies(told: &mut Told, messages: &Messages) -> Result<(), RowError> {
+    put_none(told, messages)?;
     for (place, message) in messages.as_slice().iter().enumerate() {
-        put_comma(out, place)?;
-        put_lengths(out, "a", message.answers.as_slice())?;
-        put_lengths(out, "x", message.additional.as_slice())?;
-        put_length(alloc, out, message)?;
+        told.put_comma(place)?;
+        put_lengths(told, "a", message.answers.as_slice())?;
+        put_lengths(told, "x", message.additional.as_slice())?;
+        put_length(told, message)?;
     }
     Ok(())
 }
 
 // The lengths of records' data, each behind a letter.
-fn put_lengths(out: &mut Vec<u8>, letter: &str, rrs: &[Rr]) -> Result<(), RowError> {
+fn put_lengths(told: &mut Told, letter: &str, rrs: &[Rr]) -> Result<(), RowError> {
     for rr in rrs {
         if let Rdata::Txt(bytes) = &rr.rdata {
-            put_text(out, letter)?;
-            put_decimal(out, bytes.as_slice().len() as u64)?;
-            put_text(out, " ")?;
+            told.put(letter)?;
+            told.put_decimal(bytes.as_slice().len() as u64)?;
+            told.put(" ")?;
         }
     }
     Ok(())
@@ -181,7 +175,7 @@ fn keys_of(alloc: Global, letters: &str) -> Result<Vec<Key>, RowError> {
     for letter in letters.chars() {
         if letter != '-' {
             keys.push(Key {
-                name: name_of(alloc, letter)?,
+                name: letter_name(alloc, letter)?,
                 kind: 255,
             })?;
         }
@@ -216,14 +210,14 @@ fn of_word(alloc: Global, word: &str) -> Result<Rr, RowError> {
 
 fn of_letter(alloc: Global, letter: char, length: usize) -> Result<Rr, RowError> {
     Ok(Rr {
-        owner: name_of(alloc, letter)?,
+        owner: letter_name(alloc, letter)?,
         flush: false,
         ttl: 60,
         rdata: Rdata::Txt(Bytes::from_vec(vec![in alloc; 0u8; length]?)?),
     })
 }
 
-fn name_of(alloc: Global, letter: char) -> Result<Name, RowError> {
+fn letter_name(alloc: Global, letter: char) -> Result<Name, RowError> {
     let mut text = String::new(alloc);
     if letter.is_ascii_uppercase() {
         for _ in 0..62 {
@@ -232,5 +226,5 @@ fn name_of(alloc: Global, letter: char) -> Result<Name, RowError> {
     }
     text.push(letter)?;
     text.push_str(".local")?;
-    Name::parse_text(text.as_str()).map_err(|_| RowError::NotUnderstood)
+    name_of(text.as_str())
 }

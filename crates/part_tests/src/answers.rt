@@ -1,12 +1,9 @@
 // Rows of requests over known records: the questions that each asks, and the answers that it has.
 
-use crate::error::RowError;
-use crate::read::record;
-use crate::told::Told;
 use bytes::Bytes;
-use dns_name::Name;
-use dns_record::{Key, Rr, put_kind, put_name};
+use dns_record::{Key, Rr};
 use mdns_history::Held;
+use row_words::{RowError, Told, name_of, number, record};
 use sd_answer::{Answers, KnownRecords, answers_of, questions_of};
 use sd_call::{Request, Text, put_answer, well_formed};
 use std::alloc::Global;
@@ -76,9 +73,9 @@ impl Known {
 fn put_questions(told: &mut Told, questions: &[Key]) -> Result<(), RowError> {
     for (place, question) in questions.iter().enumerate() {
         told.put_plus(place)?;
-        put_name(&mut told.text, &question.name)?;
+        told.put_name(&question.name)?;
         told.put(" ")?;
-        put_kind(&mut told.text, question.kind)?;
+        told.put_kind(question.kind)?;
     }
     told.put_none(questions.is_empty())
 }
@@ -106,15 +103,15 @@ fn request(alloc: Global, row: &[&str]) -> Result<Request, RowError> {
 
 fn query(kind: &str, name: &str) -> Result<Request, RowError> {
     Ok(Request::Query {
-        kind: kind.parse()?,
-        name: Name::parse_text(name)?,
+        kind: number(kind)?,
+        name: name_of(name)?,
     })
 }
 
 fn address(families: &str, name: &str) -> Result<Request, RowError> {
     Ok(Request::Address {
-        families: families.parse()?,
-        name: Name::parse_text(name)?,
+        families: number(families)?,
+        name: name_of(name)?,
     })
 }
 
@@ -135,7 +132,7 @@ fn register(alloc: Global, label: &str, regtype: &str, port: &str) -> Result<Req
     Ok(Request::Register {
         label: text(alloc, label)?,
         regtype: text(alloc, regtype)?,
-        port: port.parse()?,
+        port: number(port)?,
         norename: false,
         txt: Bytes::new(),
     })

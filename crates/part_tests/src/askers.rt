@@ -1,13 +1,9 @@
 // Rows of the operations that ask for a name.
 
-use crate::error::RowError;
-use crate::read::{key, number};
-use crate::told::Told;
-use dns_name::Name;
 use dns_record::Key;
+use row_words::{RowError, Told, key, name_of, number};
 use sd_call::{Request, well_formed};
 use sd_index::{Asker, Askers};
-use std::alloc::Global;
 
 /// A row of operations that ask for names: `put` and `take` have a session, an operation and what it queries, `of` tells how many ask
 /// for a name.
@@ -15,7 +11,7 @@ pub fn asker_row(told: &mut Told, askers: &mut Askers, row: &[&str]) -> Result<(
     let alloc = told.alloc;
     match row {
         ["new", word] => {
-            *askers = Askers::new(alloc, u64::from(number(*word)?));
+            *askers = Askers::new(alloc, u64::from(number::<u32>(*word)?));
             told.put("done")
         }
         ["put", session, op, asked] => {
@@ -33,7 +29,7 @@ pub fn asker_row(told: &mut Told, askers: &mut Askers, row: &[&str]) -> Result<(
 
 fn asker(session: &str, op: &str) -> Result<Asker, RowError> {
     Ok(Asker {
-        session: u64::from(number(session)?),
+        session: u64::from(number::<u32>(session)?),
         op: number(op)?,
     })
 }
@@ -66,7 +62,7 @@ fn take_asker(askers: &mut Askers, asker: Asker, asked: Key) -> Result<(), RowEr
 // How many ask for a name, and whether one does.
 fn tell_askers(told: &mut Told, askers: &Askers, name: &str) -> Result<(), RowError> {
     let alloc = told.alloc;
-    let name = Name::parse_text(name)?;
+    let name = name_of(name)?;
     let mut found = Vec::new(alloc);
     askers.put_askers(&mut found, &name)?;
     told.put_count("", found.len())?;

@@ -3,37 +3,41 @@ ghost use Rattle.std.specs.Prelude.{◌≡◌};
 ghost use Rattle.std.specs.List.{list_all};
 ghost use Rattle.dns_name.specs.Names.{folded_eq};
 
-use crate::error::RowError;
-use crate::read::{moment, number, records};
-use crate::told::Told;
 use dns_name::Name;
 use dns_record::Rr;
 use mdns_conflict::{Storm, compare_sets, conflicts, loses_tie};
+use row_words::{RowError, Told, moment, name_of, number, records};
 use std::alloc::Global;
-use std::cmp::Ordering;
 
 /// A row of conflicts: `clash` has unique records and heard ones, `tie` a name, its unique records and the authority records of a query,
 /// and `order` two sides of a tie.
 pub fn conflict_row(told: &mut Told, row: &[&str]) -> Result<(), RowError> {
-    let alloc = told.alloc;
     match row {
-        ["clash", unique, heard] => {
-            let unique = records(alloc, *unique)?;
-            let heard = records(alloc, *heard)?;
-            told.put_yes(conflicts(&unique, &heard))
-        }
+        ["clash", unique, heard] => tell_clash(told, *unique, *heard),
         ["tie", name, unique, authority] => {
-            let unique = records(alloc, *unique)?;
-            let authority = records(alloc, *authority)?;
-            told.put_yes(is_lost(alloc, &Name::parse_text(*name)?, &unique, &authority)?)
+            tell_tie(told, &name_of(*name)?, *unique, *authority)
         }
-        ["order", ours, theirs] => {
-            let ours = records(alloc, *ours)?;
-            let theirs = records(alloc, *theirs)?;
-            put_order(told, compare_sets(&ours, &theirs))
-        }
+        ["order", ours, theirs] => tell_order(told, *ours, *theirs),
         _ => Err(RowError::NotUnderstood),
     }
+}
+
+fn tell_clash(told: &mut Told, unique: &str, heard: &str) -> Result<(), RowError> {
+    let unique = records(told.alloc, unique)?;
+    let heard = records(told.alloc, heard)?;
+    told.put_yes(conflicts(&unique, &heard))
+}
+
+fn tell_order(told: &mut Told, ours: &str, theirs: &str) -> Result<(), RowError> {
+    let ours = records(told.alloc, ours)?;
+    let theirs = records(told.alloc, theirs)?;
+    told.put_order(compare_sets(&ours, &theirs))
+}
+
+fn tell_tie(told: &mut Told, name: &Name, unique: &str, authority: &str) -> Result<(), RowError> {
+    let unique = records(told.alloc, unique)?;
+    let authority = records(told.alloc, authority)?;
+    told.put_yes(is_lost(told.alloc, name, &unique, &authority)?)
 }
 
 fn is_lost(alloc: Global, name: &Name, unique: &[Rr], authority: &[Rr]) -> Result<bool, RowError> {
@@ -47,14 +51,6 @@ fn are_named(name: &Name, unique: &[Rr]) -> bool
     ensures { result ≡ list_all (λ rr. folded_eq rr.owner name.now) unique.now }
 {
     unique.iter().all(|rr| rr.owner.folded_eq(name))
-}
-
-fn put_order(told: &mut Told, order: Ordering) -> Result<(), RowError> {
-    match order {
-        Ordering::Less => told.put("less"),
-        Ordering::Equal => told.put("equal"),
-        Ordering::Greater => told.put("greater"),
-    }
 }
 
 /// A row of the conflicts of a claim: `new` has a count of conflicts and how many ms each is behind the one before, `note` a moment. It

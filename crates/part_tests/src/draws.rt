@@ -1,10 +1,7 @@
 // Rows of random words.
 
-use crate::error::RowError;
-use crate::read::number;
-use crate::told::Told;
 use mdns_draw::{SeedWords, Words};
-use number_text::put_hex;
+use row_words::{RowError, Told, number};
 
 /// A row of random words: `seed` and `same` say where they come from, `take` takes one, in hexadecimal.
 pub fn draw_row(told: &mut Told, words: &mut Words, row: &[&str]) -> Result<(), RowError> {
@@ -21,7 +18,7 @@ pub fn draw_row(told: &mut Told, words: &mut Words, row: &[&str]) -> Result<(), 
             *words = Words::Same { word };
             told.put("done")
         }
-        ["take"] => Ok(put_hex(&mut told.text, &words.take().to_be_bytes())?),
+        ["take"] => told.put_hex(&words.take().to_be_bytes()),
         _ => Err(RowError::NotUnderstood),
     }
 }

@@ -1,15 +1,12 @@
 // Rows of last multicasts. (RFC 6762 5.4 and 6)
 
-use crate::error::RowError;
-use crate::read::{moment, number, record};
-use crate::told::Told;
 use bytes::Bytes;
 use dns_message::{Message, Questions, Rrs};
-use dns_name::Name;
 use dns_record::{Rdata, Rr};
 use mdns_base::Dest;
 use mdns_history::Sent;
 use mdns_reply::{Lasts, multicasts};
+use row_words::{RowError, Told, moment, name_of, number, record};
 use std::alloc::Global;
 
 /// A row of last multicasts: `send` multicasts a record in a response, `update` multicasts so many updates of a TXT record a second apart,
@@ -88,7 +85,7 @@ fn update(alloc: Global, lasts: &mut Lasts, count: u32) -> Result<usize, RowErro
 // A TXT record with four bytes of data that count.
 fn txt(alloc: Global, number: u32) -> Result<Rr, RowError> {
     Ok(Rr {
-        owner: Name::parse_text("a.local")?,
+        owner: name_of("a.local")?,
         flush: true,
         ttl: 4500,
         rdata: Rdata::Txt(Bytes::copy_from_slice(alloc, &number.to_be_bytes())?),

@@ -1,68 +1,32 @@
-//! Worked rows of the parts of which the daemon is made, what it holds, asks, claims and answers: each row is printed with what came of it.
+//! Worked rows of what a daemon claims and answers, and of the small parts of which it is made: each row is printed with what came of it.
 #![tactic(auto)]
-
-ghost use Rattle.std.specs.Prelude.{◌≡◌, ◌<◌};
 
 mod answers;
 mod askers;
-mod asking;
-mod caches;
 mod conflicts;
 mod draws;
-mod error;
-mod held_records;
 mod kept;
-mod known_answers;
 mod last_multicasts;
-mod numbered;
 mod packets;
-mod questions;
-mod read;
 mod services;
-mod told;
 mod values;
 
-use crate::error::RowError;
 use crate::kept::Kept;
-use mdns_cache::Steps;
+use row_words::RowError;
 use std::io;
 use std::io::Write;
-use std::marker::Brand;
-use std::sync::ledger::{Blank, Ledger};
 
 fn main(rt: HostRuntime) -> Result<(), RowError> {
-    tell_all::<Brand>(rt, Blank::new(1))
-}
-
-fn tell_all<L: Ledger>(rt: HostRuntime, blank: Blank) -> Result<(), RowError>
-    requires name { blank.name ≡ L.name }
-    requires parts { blank.parts ≡ L.parts }
-    requires some { 0 < L.parts }
-{
-    let mut steps: Steps<L> = Steps::new(blank);
     let mut kept = Kept::new(rt.alloc())?;
-    tell_lines(rt, &mut kept, &mut steps)
-}
-
-fn tell_lines<L: Ledger>(
-    rt: HostRuntime,
-    kept: &mut Kept,
-    steps: &mut Steps<L>,
-) -> Result<(), RowError> {
     for line in rt.lines(rt.alloc()) {
-        print(rt, kept, steps, line?.as_str())?;
+        print(rt, &mut kept, line?.as_str())?;
     }
     Ok(())
 }
 
 // Prints a row and what came of it. Of a row that gives nothing it is said on standard error why.
-fn print<L: Ledger>(
-    rt: HostRuntime,
-    kept: &mut Kept,
-    steps: &mut Steps<L>,
-    line: &str,
-) -> Result<(), RowError> {
-    match kept.told(rt.alloc(), steps, line) {
+fn print(rt: HostRuntime, kept: &mut Kept, line: &str) -> Result<(), RowError> {
+    match kept.told(rt.alloc(), line) {
         Ok(told) => Ok(io::writer(&rt).write_all(&told)?),
         Err(error) => {
             let _ = eprintln!(rt; "{error}: {line}");

@@ -1,10 +1,8 @@
 // Rows of a packet's questions, and of the records that they ask for. (RFC 6762 6)
 
-use crate::error::RowError;
-use crate::read::{key, records};
-use crate::told::Told;
 use dns_record::Question;
 use mdns_asked::Asked;
+use row_words::{RowError, Told, key, records};
 use std::alloc::Global;
 
 // The key of the names.

@@ -2,14 +2,12 @@
 ghost use Rattle.std.specs.Prelude.{◌≡◌, IfOk, IsTrue};
 ghost use Rattle.sd_service.specs.Bitmaps.{have_bitmap};
 
-use crate::error::RowError;
-use crate::read::{number, record};
-use crate::told::Told;
 use bytes::Bytes;
 use dns_name::{Label, Name};
-use dns_record::{Rdata, Rr, put_name, put_record};
+use dns_record::{Rdata, Rr};
 use mdns_history::{Config, HostConfig};
-use number_text::{read_hex, read_ipv4, read_ipv6};
+use number_text::{read_ipv4, read_ipv6};
+use row_words::{RowError, Told, hex_of, name_of, number, record};
 use sd_name::RegType;
 use sd_service::{
     Service, host_name, host_records, is_nsec_of, nsec_of, service_name, service_records,
@@ -22,10 +20,10 @@ pub fn host_row(told: &mut Told, row: &[&str]) -> Result<(), RowError> {
     match row {
         ["name", text, count] => {
             let name = host_name(&label(*text)?, number(*count)?);
-            Ok(put_name(&mut told.text, &name)?)
+            told.put_name(&name)
         }
         ["records", name, text, v4, v6] => {
-            let name = Name::parse_text(*name)?;
+            let name = name_of(*name)?;
             let config = config(label(*text)?, *v4, *v6)?;
             let records = host_records(alloc, &name, &config)?;
             told.put_records(records.as_slice())
@@ -56,11 +54,11 @@ pub fn service_row(told: &mut Told, row: &[&str]) -> Result<(), RowError> {
     match row {
         ["name", text, count, regtype] => {
             let name = numbered(*text, number(*count)?, &regtype_of(*regtype)?)?;
-            Ok(put_name(&mut told.text, &name)?)
+            told.put_name(&name)
         }
         ["records", text, regtype, port, txt, host] => {
             let service = Registered::read(told.alloc, *text, *regtype, *port, *txt)?;
-            put_service(told, &service, &Name::parse_text(*host)?)
+            put_service(told, &service, &name_of(*host)?)
         }
         _ => Err(RowError::NotUnderstood),
     }
@@ -88,11 +86,11 @@ impl Registered {
         txt: &str,
     ) -> Result<Registered, RowError> {
         let regtype = regtype_of(regtype)?;
-        let txt = read_hex(alloc, txt.as_bytes())?.ok_or(RowError::NotUnderstood)?;
+        let txt = hex_of(alloc, txt)?;
         Ok(Registered {
             name: numbered(text, 1, &regtype)?,
             regtype,
-            port: port.parse()?,
+            port: number(port)?,
             txt: Bytes::from_vec(txt)?,
         })
     }
@@ -120,13 +118,13 @@ fn put_service(told: &mut Told, registered: &Registered, host: &Name) -> Result<
 pub fn types_row(told: &mut Told, row: &[&str]) -> Result<(), RowError> {
     match row {
         ["of", owner, name] => {
-            let rr = types_of(told.alloc, *owner, &Name::parse_text(*name)?)?;
-            Ok(put_record(&mut told.text, &rr)?)
+            let rr = types_of(told.alloc, *owner, &name_of(*name)?)?;
+            told.put_record(&rr)
         }
         ["is", owner, owned, name, text] => {
-            let unique = unique_of(told.alloc, *owner, &Name::parse_text(*owned)?)?;
+            let unique = unique_of(told.alloc, *owner, &name_of(*owned)?)?;
             let rr = record(told.alloc, *text)?;
-            told.put_yes(is_nsec_of(&rr, &Name::parse_text(*name)?, &unique))
+            told.put_yes(is_nsec_of(&rr, &name_of(*name)?, &unique))
         }
         _ => Err(RowError::NotUnderstood),
     }

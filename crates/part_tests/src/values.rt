@@ -1,27 +1,24 @@
 // Rows of values by name.
 
-use crate::error::RowError;
-use crate::read::number;
-use crate::told::Told;
 use by_name::{ByName, Place};
 use dns_name::Name;
-use std::alloc::Global;
+use row_words::{RowError, Told, name_of, number};
 
 /// A row of values by name: `put` gives a name its first value, `get` tells it.
 pub fn value_row(told: &mut Told, values: &mut ByName<u32>, row: &[&str]) -> Result<(), RowError> {
     let alloc = told.alloc;
     match row {
         ["new", key] => {
-            *values = ByName::new(alloc, u64::from(number(*key)?));
+            *values = ByName::new(alloc, u64::from(number::<u32>(*key)?));
             told.put("done")
         }
         ["empty"] => told.put_yes(values.is_empty()),
         ["count"] => told.put_count("", values.len()),
         ["put", name, value] => {
-            put_value(values, &Name::parse_text(*name)?, number(*value)?)?;
+            put_value(values, &name_of(*name)?, number(*value)?)?;
             told.put("done")
         }
-        ["get", name] => told.put_number(found(values, &Name::parse_text(*name)?)),
+        ["get", name] => told.put_number(found(values, &name_of(*name)?)),
         _ => Err(RowError::NotUnderstood),
     }
 }
