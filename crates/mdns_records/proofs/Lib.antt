@@ -5,3 +5,4 @@ pub mod Holding
 pub mod Taken
 pub mod Walking
 pub mod Fitting
+pub mod Heard

@@ -1,9 +1,10 @@
 // What hearings do to the records of a name, in a copy of them.
-ghost use Rattle.std.specs.Prelude.{◌≡◌, ◌+◌, ◌<◌, ◌≤◌, ◌^◌, vec_len, vec_capacity, map, filter, reverse, IfOk};
+ghost use Rattle.std.specs.Prelude.{◌≡◌, ◌+◌, ◌≤◌, ◌^◌, map, filter, IfOk, OnOk};
 ghost use Rattle.mdns_history.specs.Lifetimes.{cuts, is_live_at};
-ghost use Rattle.mdns_cache.specs.Lifetimes.{hearing_at, shortened, after_hearing, after_hearings};
+ghost use Rattle.mdns_cache.specs.Lifetimes.{hearing_at, shortened, after_hearing};
 ghost use Rattle.mdns_records.specs.After.{held_after, is_named};
 
+use crate::copies::{put_copy, put_held};
 use dns_name::Name;
 use dns_record::Rr;
 use mdns_happened::When;
@@ -20,75 +21,40 @@ pub fn heard_copy(
 ) -> Result<Vec<Held>, AllocError>
     ensures { IfOk result (λ later. later.items ≡ held_after when.moment when.word (filter (is_named name.now) heard.now) earlier.now) }
 {
-    let records = of_name(alloc, name, heard)?;
-    let mut later = live_copies(alloc, earlier, when.moment, records.len())?;
-    later.reserve(records.len())?;
-    hear_all(&mut later, when.moment, when.word, records);
+    let mut later = live_copies(alloc, earlier, when.moment)?;
+    for rr in heard {
+        if rr.owner.folded_eq(name) {
+            hear_one(&mut later, when, rr)?;
+        }
+    }
     Ok(later)
 }
 
-// Those of the records that a name owns, copied.
-fn of_name(alloc: Global, name: &Name, heard: &[Rr]) -> Result<Vec<Rr>, AllocError>
-    ensures { IfOk result (λ records. records.items ≡ filter (is_named name.now) heard.now) }
-{
-    // Most names own one record of a packet.
-    let mut records = Vec::with_capacity(alloc, heard.len().min(1))?;
-    for rr in heard {
-        if rr.owner.folded_eq(name) {
-            records.push(rr.copy()?)?;
-        }
-    }
-    Ok(records)
-}
-
-// Those of the records that are live at `now`, in ms, copied. As a rule there is room for so many more.
-fn live_copies(alloc: Global, held: &[Held], now: u64, more: usize) -> Result<Vec<Held>, AllocError>
+// Those of the records that are live at `now`, in ms, copied. There is room for one more: most names own one record of a packet.
+fn live_copies(alloc: Global, held: &[Held], now: u64) -> Result<Vec<Held>, AllocError>
     ensures { IfOk result (λ live. live.items ≡ filter (is_live_at now) held.now) }
 {
-    let mut live = Vec::with_capacity(alloc, held.len().saturating_add(more))?;
+    let mut live = Vec::with_capacity(alloc, held.len().saturating_add(1))?;
     for one in held {
         if now < one.end {
-            live.push(one.copy()?)?;
+            put_copy(&mut live, one)?;
         }
     }
     Ok(live)
 }
 
-// Hears records one after another, where there is room for as many.
-fn hear_all(held: &mut Vec<Held>, now: u64, word: u32, mut records: Vec<Rr>)
-    requires bound { now ≤ 2 ^ 53 }
-    requires room { vec_len held.old + vec_len records ≤ vec_capacity held.old }
-    ensures items { held.new.items ≡ after_hearings held.old.items (map (hearing_at now word) records.items) }
-    ensures len { vec_len held.new ≤ vec_len held.old + vec_len records }
-    ensures capacity { vec_capacity held.old ≤ vec_capacity held.new }
+// Hears one record: what it is the same as is dropped, other lives are cut, and it is held itself, copied.
+fn hear_one(held: &mut Vec<Held>, when: When, rr: &Rr) -> Result<(), AllocError>
+    ensures { OnOk result (held.new.items ≡ after_hearing held.old.items (hearing_at when.moment when.word rr.now)) }
 {
-    records.reverse();
-    while let Some(rr) = records.pop() {
-        hear_one(held, now, word, rr);
-    }
-}
-
-// Hears one record: what it is the same as is dropped, other lives are cut, and it is held itself.
-fn hear_one(held: &mut Vec<Held>, now: u64, word: u32, rr: Rr)
-    requires bound { now ≤ 2 ^ 53 }
-    requires room { vec_len held.old < vec_capacity held.old }
-    ensures items { held.new.items ≡ after_hearing held.old.items (hearing_at now word rr) }
-    ensures len { vec_len held.new ≤ vec_len held.old + 1 }
-    ensures capacity { vec_capacity held.old ≤ vec_capacity held.new }
-{
+    let now = when.moment;
     if rr.ttl == 0 {
-        shorten(held, now, &rr);
-        return;
+        shorten(held, now, rr);
+        return Ok(());
     }
-    drop_same(held, &rr);
-    shorten(held, now, &rr);
-    let end = now + 1000 * u64::from(rr.ttl);
-    let _ = held.push(Held {
-        rr,
-        heard: now,
-        word,
-        end,
-    });
+    drop_same(held, rr);
+    shorten(held, now, rr);
+    put_held(held, rr, when, now + 1000 * u64::from(rr.ttl))
 }
 
 // Cuts the lives of records to a second where a hearing does so. (A hearing's word doesn't count here and below, so the

@@ -2,6 +2,7 @@
 #![tactic(auto)]
 
 mod changing;
+mod copies;
 mod hear;
 mod law;
 mod names;

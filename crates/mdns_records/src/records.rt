@@ -11,6 +11,7 @@ ghost use Rattle.mdns_records.specs.After.{held_after, is_of_event, AreTouched};
 ghost use Rattle.mdns_records.specs.Visits.{visits_of, visits_of_all, ended_in};
 
 use crate::changing::change;
+use crate::copies::put_copy;
 use crate::hear::heard_copy;
 use crate::names::with_owners;
 use dns_message::Rrs;
@@ -165,7 +166,7 @@ impl Records {
         // Most names have one record.
         let mut held = Vec::with_capacity(self.alloc, 1)?;
         while let Some(one) = self.cache.visit(name, held.len(), steps) {
-            held.push(one.copy()?)?;
+            put_copy(&mut held, one)?;
         }
         Ok(held)
     }
