@@ -277,18 +277,41 @@ fn walk<L: Ledger>(
 // Walks with the own records of their names, before an event and behind it. Refused only for want of memory.
 fn with_own(
     alloc: Global,
-    walks: Vec<Walk>,
+    mut walks: Vec<Walk>,
     claims: &Claims,
     behind: &Behind<'_>,
 ) -> Result<Vec<Walk>, AllocError>
     ensures { IfOk result (λ owned. owned.items ≡ map (with_own (own_in claims.now.contents.kept) (own_in (groups_behind behind.now))) walks.items) }
 {
-    let mut owned = Vec::with_capacity(alloc, walks.len())?;
-    for walk in walks {
-        let own = own_walk(alloc, &walk.name, claims, behind)?;
-        owned.push(Walk { own, ..walk })?;
+    put_own(alloc, &mut walks, claims, behind)?;
+    Ok(walks)
+}
+
+// Puts them into the walks, where these stand.
+fn put_own(
+    alloc: Global,
+    walks: &mut [Walk],
+    claims: &Claims,
+    behind: &Behind<'_>,
+) -> Result<(), AllocError>
+    ensures { OnOk result (walks.new ≡ map (with_own (own_in claims.now.contents.kept) (own_in (groups_behind behind.now))) walks.old) }
+{
+    for walk in walks.iter_mut() {
+        put_own_of(alloc, walk, claims, behind)?;
     }
-    Ok(owned)
+    Ok(())
+}
+
+fn put_own_of(
+    alloc: Global,
+    walk: &mut Walk,
+    claims: &Claims,
+    behind: &Behind<'_>,
+) -> Result<(), AllocError>
+    ensures { OnOk result (walk.new ≡ with_own (own_in claims.now.contents.kept) (own_in (groups_behind behind.now)) walk.old) }
+{
+    walk.own = own_walk(alloc, &walk.name, claims, behind)?;
+    Ok(())
 }
 
 // The own records of a name, before an event and behind it.
