@@ -7,7 +7,7 @@ ghost use Rattle.mdns_asking.specs.ByWalks.{known_by, queries_by, sent_by};
 
 use crate::walked::later_of;
 use dns_message::Rrs;
-use dns_record::Key;
+use dns_record::{Key, Rr};
 use mdns_base::Dest;
 use mdns_happened::{Happened, Walk, When};
 use mdns_history::{Cause, Sends, Sent};
@@ -70,10 +70,22 @@ fn all_known(alloc: Global, when: When, walks: &[Walk], keys: &[Key]) -> Result<
     let mut all = Vec::new(alloc);
     for key in keys {
         let held = later_of(&key.name, walks);
-        let mut known = known_answers(alloc, key, held, when.moment)?.into_vec();
-        all.append(&mut known)?;
+        let known = known_answers(alloc, key, held, when.moment)?;
+        put_all(&mut all, known.into_vec())?;
     }
     in_order(all)
+}
+
+// Puts records behind others. Where there are no others, they stay where they stand.
+fn put_all(all: &mut Vec<Rr>, mut more: Vec<Rr>) -> Result<(), AllocError>
+    ensures { OnOk result (all.new.items ≡ all.old.items ++ more.items) }
+{
+    if all.is_empty() {
+        *all = more;
+    } else {
+        all.append(&mut more)?;
+    }
+    Ok(())
 }
 
 /// Puts messages behind others that are sent, each to all. Refused only for want of memory.

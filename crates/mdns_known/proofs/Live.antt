@@ -1,5 +1,5 @@
 -- The known answers over held records, in whatever order they stand.
-use Rattle.std.proofs.Common.{◌≡◌, ℕ, ◌<◌, Bool, true, false, cond, not, ◌&&◌, ◌||◌, List, [], ◌∷◌, ◌++◌, length, take, get_or, refl, ap, ◌∙◌, sym, append-nil, Some, None, ◌+◌}
+use Rattle.std.proofs.Common.{◌≡◌, ℕ, ◌<◌, Bool, true, false, cond, not, ◌&&◌, ◌||◌, List, [], ◌∷◌, ◌++◌, length, take, get_or, refl, ap, ◌∙◌, sym, ◌+◌}
 use Rattle.std.specs.Prelude.{map, filter, nat_lt}
 use Rattle.std.specs.List.{All, list_any}
 use Rattle.std.specs.List.Sorted.{IsPermutation}
@@ -268,24 +268,7 @@ listed-more question held moment n one within is =
     ap (λ (l : List Held). map (listed moment) (filter (is_listed question moment) l)) (take_more held n one within ∙ sym (ap (λ (x : Held). take n held ++ x ∷ []) is))
     ∙ listed-push question moment (take n held) one
 
-pub listed_more-in : (question : Key) (held : List Held) (moment n : ℕ) (one : Held) (rr : Rr) → n < length held → one ≡ get_or held n one →
-    Some rr ≡ cond (is_listed question moment one) (Some (listed moment one)) None →
-    listed_up_to question held moment n ++ rr ∷ [] ≡ listed_up_to question held moment (n + 1)
-listed_more-in question held moment n one rr within is e = at (is_listed question moment one) refl e
-  where
-    at : (b : Bool) → is_listed question moment one ≡ b → Some rr ≡ cond b (Some (listed moment one)) None → listed_up_to question held moment n ++ rr ∷ [] ≡ listed_up_to question held moment (n + 1)
-    at true k h =
-        let same : rr ≡ listed moment one = cc in
-        ap (λ (x : Rr). listed_up_to question held moment n ++ x ∷ []) same
-        ∙ sym (listed-more question held moment n one within is ∙ ap (λ (b : Bool). listed_up_to question held moment n ++ cond b (listed moment one ∷ []) []) k)
-    at false k h = absurd (cc)
-
-pub listed_more-over : (question : Key) (held : List Held) (moment n : ℕ) (one : Held) → n < length held → one ≡ get_or held n one →
-    None ≡ cond (is_listed question moment one) (Some (listed moment one)) None → listed_up_to question held moment n ≡ listed_up_to question held moment (n + 1)
-listed_more-over question held moment n one within is e = at (is_listed question moment one) refl e
-  where
-    at : (b : Bool) → is_listed question moment one ≡ b → None ≡ cond b (Some (listed moment one)) None → listed_up_to question held moment n ≡ listed_up_to question held moment (n + 1)
-    at true k h = absurd (cc)
-    at false k h =
-        sym (listed-more question held moment n one within is ∙ ap (λ (b : Bool). listed_up_to question held moment n ++ cond b (listed moment one ∷ []) []) k
-        ∙ append-nil (listed_up_to question held moment n))
+pub listed_more-put : (question : Key) (held : List Held) (moment n : ℕ) (one : Held) (before after : List Rr) → n < length held → one ≡ get_or held n one →
+    before ≡ listed_up_to question held moment n → after ≡ before ++ cond (is_listed question moment one) (listed moment one ∷ []) [] → after ≡ listed_up_to question held moment (n + 1)
+listed_more-put question held moment n one before after within is so_far put =
+    put ∙ ap (λ (l : List Rr). l ++ cond (is_listed question moment one) (listed moment one ∷ []) []) so_far ∙ sym (listed-more question held moment n one within is)

@@ -3,7 +3,7 @@ ghost use Rattle.std.specs.Prelude.{◌≡◌, ◌≤◌, ◌^◌, IfOk};
 ghost use Rattle.std.specs.List.{All};
 ghost use Rattle.mdns_known.specs.Known.{known_of};
 
-use crate::listing::listing;
+use crate::listing::put_listing;
 use dns_message::Rrs;
 use dns_record::Key;
 use mdns_history::Held;
@@ -25,11 +25,9 @@ pub fn known_answers(
     requires heard { All (λ one. one.heard ≤ now) held.now }
     ensures { IfOk result (λ known. known ≡ known_of question.now held.now now) }
 {
-    let mut known = Vec::new(alloc);
+    let mut known = Vec::with_capacity(alloc, held.len())?;
     for one in held {
-        if let Some(rr) = listing(alloc, question, one, now)? {
-            known.push(rr)?;
-        }
+        put_listing(alloc, &mut known, question, one, now)?;
     }
     sorted(known)
 }

@@ -1,5 +1,5 @@
 // Which held records are listed, and how.
-ghost use Rattle.std.specs.Prelude.{◌≡◌, ◌+◌, ◌-◌, ◌/◌, ◌≤◌, ◌^◌, ◌&&◌, [], ◌∷◌, Some, None, true, false, length, IsTrue, IfOk, if◌then◌else◌};
+ghost use Rattle.std.specs.Prelude.{◌≡◌, ◌+◌, ◌-◌, ◌/◌, ◌≤◌, ◌^◌, ◌&&◌, [], ◌∷◌, ◌++◌, OnOk, Some, None, true, false, length, IsTrue, IfOk, if◌then◌else◌};
 ghost use Rattle.dns_record.specs.Records.{matches, data_of};
 ghost use Rattle.dns_message.specs.Packing.{query_with};
 ghost use Rattle.mdns_history.specs.Lifetimes.{is_live_at, is_uncut};
@@ -14,21 +14,22 @@ use std::alloc::{AllocError, Global};
 /// The longest message, in bytes. (RFC 6762 17)
 const LONGEST_MESSAGE: usize = 8972;
 
-/// A held record as it is listed, where it is a known answer of a question. Refused only for want of memory.
-pub fn listing(
+/// Puts a held record as it is listed behind others, where it is a known answer of a question. Refused only for want of memory.
+pub fn put_listing(
     alloc: Global,
+    known: &mut Vec<Rr>,
     question: &Key,
     one: &Held,
     now: u64,
-) -> Result<Option<Rr>, AllocError>
+) -> Result<(), AllocError>
     requires bound { now ≤ 2 ^ 53 }
     requires heard { one.now.heard ≤ now }
-    ensures { IfOk result (λ listing. listing ≡ (if is_listed question.now now one.now then Some (listed now one.now) else None)) }
+    ensures { OnOk result (known.new.items ≡ known.old.items ++ (if is_listed question.now now one.now then listed now one.now ∷ [] else [])) }
 {
     if is_fresh(question, one, now) {
-        if_it_fits(alloc, listed(one, now)?)
+        put_if_it_fits(alloc, known, listed(one, now)?)
     } else {
-        Ok(None)
+        Ok(())
     }
 }
 
@@ -81,14 +82,16 @@ fn seconds_left(one: &Held, now: u64) -> u32
     ((left + 999) / 1000) as u32
 }
 
-// A record, where it fits a message alone, and nothing where it doesn't. Only of a long one a message is written to tell.
-fn if_it_fits(alloc: Global, rr: Rr) -> Result<Option<Rr>, AllocError>
-    ensures { IfOk result (λ fitting. fitting ≡ (if fits_alone rr then Some rr else None)) }
+// Puts a record behind others, where it fits a message alone. Only of a long one a message is written to tell.
+fn put_if_it_fits(alloc: Global, known: &mut Vec<Rr>, rr: Rr) -> Result<(), AllocError>
+    ensures { OnOk result (known.new.items ≡ known.old.items ++ (if fits_alone rr then rr ∷ [] else [])) }
 {
     if is_short(&rr) {
-        return Ok(Some(rr));
+        known.push(rr)?;
+    } else if let Some(fitting) = if_written_fits(alloc, rr)? {
+        known.push(fitting)?;
     }
-    if_written_fits(alloc, rr)
+    Ok(())
 }
 
 // Whether a record is so short that it fits a message alone even where none of its names is compressed.
