@@ -1,5 +1,5 @@
 -- Which name bytes spell at an offset, and else the first fault in reading order. What stands at an offset is said of the whole bytes. (RFC 1035 4.1.4)
-use Rattle.std.specs.Prelude.{◌≡◌, ℕ, zero, suc, ◌+◌, ◌-◌, ◌*◌, ◌==◌, nat_lt, List, [], ◌∷◌, length, slice_get, slice_index, slice_range, Option, Some, None, Result, Ok, Err, if◌then◌else◌}
+use Rattle.std.specs.Prelude.{ℕ, zero, suc, ◌+◌, ◌-◌, ◌*◌, ◌==◌, nat_lt, List, [], ◌∷◌, length, slice_get, slice_index, slice_range, Option, Some, None, Result, Ok, Err, if◌then◌else◌}
 use Rattle.std.specs.Int.{from_be_bytes, w16, w32, w128}
 use Rattle.dns_pointers.specs.declared.fault.NameFault.{NameFault}
 use Rattle.dns_pointers.specs.declared.fault.NameFault.TheVariants.{Truncated, BadPointer, BadLabel, LongName}
