@@ -25,8 +25,9 @@ const AAAA: u16 = 28;
 
 const SRV: u16 = 33;
 
-/// For so many answers the groups are gone over one by one; for more, what all of them want is collected first.
-const FEW: usize = 8;
+/// For so many answers the groups are gone over one by one; for more, what all of them want is collected first. To go over the groups once
+/// for a name is quick, since a bit tells of most that they don't have it; to collect is not, since each record is looked up twice.
+const FEW: usize = 64;
 
 impl Responder<'_> {
     /// Answers, each with what it wants. Of many, what they want is collected first. Refused only for want of memory.
