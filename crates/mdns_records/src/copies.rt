@@ -1,9 +1,7 @@
-// Copies of records, each made where it is held.
+// Copies of records, each put together where it is held.
 ghost use Rattle.std.specs.Prelude.{◌≡◌, ◌++◌, ◌∷◌, [], OnOk};
-ghost use Rattle.mdns_history.specs.declared.held.Held.{Held};
 
 use dns_record::Rr;
-use mdns_happened::When;
 use mdns_history::Held;
 use std::alloc::AllocError;
 
@@ -11,24 +9,19 @@ use std::alloc::AllocError;
 pub fn put_copy(records: &mut Vec<Held>, one: &Held) -> Result<(), AllocError>
     ensures { OnOk result (records.new.items ≡ records.old.items ++ one.now ∷ []) }
 {
-    let rdata = one.rr.rdata.copy()?;
-    records.push(Held {
-        rr: Rr {
-            owner: one.rr.owner.copy(),
-            flush: one.rr.flush,
-            ttl: one.rr.ttl,
-            rdata,
-        },
-        heard: one.heard,
-        word: one.word,
-        end: one.end,
-    })?;
-    Ok(())
+    put_held(records, &one.rr, one.heard, one.word, one.end)
 }
 
-/// Puts a copy of a record behind others, as it is held until `end`, in ms, where it was heard so. Refused only for want of memory.
-pub fn put_held(records: &mut Vec<Held>, rr: &Rr, when: When, end: u64) -> Result<(), AllocError>
-    ensures { OnOk result (records.new.items ≡ records.old.items ++ record { rr = rr.now; heard = when.moment; word = when.word; end = end } ∷ []) }
+/// Puts a copy of a record behind others, as it is held where it was heard at a moment, with a random word, and ends at another.
+/// Refused only for want of memory.
+pub fn put_held(
+    records: &mut Vec<Held>,
+    rr: &Rr,
+    heard: u64,
+    word: u32,
+    end: u64,
+) -> Result<(), AllocError>
+    ensures { OnOk result (records.new.items ≡ records.old.items ++ record { rr = rr.now; heard = heard; word = word; end = end } ∷ []) }
 {
     let rdata = rr.rdata.copy()?;
     records.push(Held {
@@ -38,8 +31,8 @@ pub fn put_held(records: &mut Vec<Held>, rr: &Rr, when: When, end: u64) -> Resul
             ttl: rr.ttl,
             rdata,
         },
-        heard: when.moment,
-        word: when.word,
+        heard,
+        word,
         end,
     })?;
     Ok(())

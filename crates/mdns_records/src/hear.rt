@@ -54,7 +54,8 @@ fn hear_one(held: &mut Vec<Held>, when: When, rr: &Rr) -> Result<(), AllocError>
     }
     drop_same(held, rr);
     shorten(held, now, rr);
-    put_held(held, rr, when, now + 1000 * u64::from(rr.ttl))
+    let end = now + 1000 * u64::from(rr.ttl);
+    put_held(held, rr, now, when.word, end)
 }
 
 // Cuts the lives of records to a second where a hearing does so. (A hearing's word doesn't count here and below, so the
