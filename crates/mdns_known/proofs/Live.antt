@@ -1,6 +1,7 @@
 -- The known answers over held records, in whatever order they stand.
-use Rattle.std.proofs.Common.{◌≡◌, ℕ, ◌<◌, Bool, true, false, cond, not, ◌&&◌, ◌||◌, List, [], ◌∷◌, ◌++◌, length, take, get_or, refl, ap, ◌∙◌, sym, ◌+◌}
+use Rattle.std.proofs.Common.{◌≡◌, ℕ, ◌<◌, Bool, true, false, cond, not, ◌&&◌, ◌||◌, List, [], ◌∷◌, ◌++◌, length, take, get_or, refl, ap, ◌∙◌, sym, Some, None, ◌+◌}
 use Rattle.std.specs.Prelude.{map, filter, nat_lt}
+use Rattle.std.specs.Option.{option_to_list}
 use Rattle.std.specs.List.{All, list_any}
 use Rattle.std.specs.List.Sorted.{IsPermutation}
 use Rattle.std.specs.Ordering.{is_eq}
@@ -269,6 +270,10 @@ listed-more question held moment n one within is =
     ∙ listed-push question moment (take n held) one
 
 pub listed_more-put : (question : Key) (held : List Held) (moment n : ℕ) (one : Held) (before after : List Rr) → n < length held → one ≡ get_or held n one →
-    before ≡ listed_up_to question held moment n → after ≡ before ++ cond (is_listed question moment one) (listed moment one ∷ []) [] → after ≡ listed_up_to question held moment (n + 1)
+    before ≡ listed_up_to question held moment n → after ≡ before ++ option_to_list (cond (is_listed question moment one) (Some (listed moment one)) None) → after ≡ listed_up_to question held moment (n + 1)
 listed_more-put question held moment n one before after within is so_far put =
-    put ∙ ap (λ (l : List Rr). l ++ cond (is_listed question moment one) (listed moment one ∷ []) []) so_far ∙ sym (listed-more question held moment n one within is)
+    put ∙ (λ i. so_far i ++ of (is_listed question moment one) i) ∙ sym (listed-more question held moment n one within is)
+  where
+    of : (b : Bool) → option_to_list (cond b (Some (listed moment one)) None) ≡ cond b (listed moment one ∷ []) []
+    of true = refl
+    of false = refl

@@ -1,5 +1,6 @@
 // Which held records are listed, and how.
 ghost use Rattle.std.specs.Prelude.{◌≡◌, ◌+◌, ◌-◌, ◌/◌, ◌≤◌, ◌^◌, ◌&&◌, [], ◌∷◌, ◌++◌, OnOk, Some, None, true, false, length, IsTrue, IfOk, if◌then◌else◌};
+ghost use Rattle.std.specs.Option.{option_to_list};
 ghost use Rattle.dns_record.specs.Records.{matches, data_of};
 ghost use Rattle.dns_message.specs.Packing.{query_with};
 ghost use Rattle.mdns_history.specs.Lifetimes.{is_live_at, is_uncut};
@@ -24,7 +25,7 @@ pub fn put_listing(
 ) -> Result<(), AllocError>
     requires bound { now ≤ 2 ^ 53 }
     requires heard { one.now.heard ≤ now }
-    ensures { OnOk result (known.new.items ≡ known.old.items ++ (if is_listed question.now now one.now then listed now one.now ∷ [] else [])) }
+    ensures { OnOk result (known.new.items ≡ known.old.items ++ option_to_list (if is_listed question.now now one.now then Some (listed now one.now) else None)) }
 {
     if is_fresh(question, one, now) {
         put_if_it_fits(alloc, known, listed(one, now)?)
@@ -84,7 +85,7 @@ fn seconds_left(one: &Held, now: u64) -> u32
 
 // Puts a record behind others, where it fits a message alone. Only of a long one a message is written to tell.
 fn put_if_it_fits(alloc: Global, known: &mut Vec<Rr>, rr: Rr) -> Result<(), AllocError>
-    ensures { OnOk result (known.new.items ≡ known.old.items ++ (if fits_alone rr then rr ∷ [] else [])) }
+    ensures { OnOk result (known.new.items ≡ known.old.items ++ option_to_list (if fits_alone rr then Some rr else None)) }
 {
     if is_short(&rr) {
         known.push(rr)?;
