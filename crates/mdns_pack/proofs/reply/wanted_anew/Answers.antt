@@ -12,4 +12,4 @@ pub returns : goal.returns
 returns c =
     let others : List Rr = c.args.answers.now ++ all_added c.args.earlier.now in
     filter_same _ (λ rr. not (list_any (same rr) others)) _ (λ x b f k. search rules) _ _ c.retain.ensures.filtered
-    ∙ ap (λ (rrs : List Rr). without same rrs others) (c.into_vec-wanted.ensures ∙ c.in_ok-wanted_by.ensures)
+    ∙ ap (λ (rrs : List Rr). without same rrs others) (c.into_vec-wanted.ensures.items ∙ c.in_ok-wanted_by.ensures)

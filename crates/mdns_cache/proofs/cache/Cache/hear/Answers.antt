@@ -39,7 +39,7 @@ pub returns-clause-holds : goal.returns-clause-holds
 returns-clause-holds c = λ past holds.
     let hs : List Hearing = map (hearing_at c.args.now c.args.word) c.args.heard in
     let was : in_layers c.self.inside.records.entries ≡ c.args.self.now.held = ap (λ (v : Contents). v.held) c.self.view_is ∙ c.in_ok-reserve.ensures.held in
-    let records : map (hearing_at c.args.now c.args.word) c.into_vec-records.result.items ≡ hs = ap (map (hearing_at c.args.now c.args.word)) c.into_vec-records.ensures in
+    let records : map (hearing_at c.args.now c.args.word) c.into_vec-records.result.items ≡ hs = ap (map (hearing_at c.args.now c.args.word)) c.into_vec-records.ensures.items in
     let moved : IsPermutation (after_hearings c.args.self.now.held hs) (in_layers c.hear_all.new.records.entries) =
     heard_in hs c.args.self.now.held c.self.inside.records.entries c.hear_all.new.records.entries was (subst (λ (l : List Hearing). IsPermutation (after_hearings (values_of c.self.inside.records.entries) l) (values_of c.hear_all.new.records.entries)) records c.hear_all.ensures.held) in
     IsPermutation-trans _ _ _ (IsPermutation-sym _ _ moved) (Holds-after_hearings c.args.now c.args.word c.args.heard c.args.self.now.held past c.requires.live holds)
@@ -48,7 +48,7 @@ pub returns-clause-live : goal.returns-clause-live
 returns-clause-live c =
     let hs : List Hearing = map (hearing_at c.args.now c.args.word) c.args.heard in
     let was : in_layers c.self.inside.records.entries ≡ c.args.self.now.held = ap (λ (v : Contents). v.held) c.self.view_is ∙ c.in_ok-reserve.ensures.held in
-    let records : map (hearing_at c.args.now c.args.word) c.into_vec-records.result.items ≡ hs = ap (map (hearing_at c.args.now c.args.word)) c.into_vec-records.ensures in
+    let records : map (hearing_at c.args.now c.args.word) c.into_vec-records.result.items ≡ hs = ap (map (hearing_at c.args.now c.args.word)) c.into_vec-records.ensures.items in
     let moved : IsPermutation (after_hearings c.args.self.now.held hs) (in_layers c.hear_all.new.records.entries) =
     heard_in hs c.args.self.now.held c.self.inside.records.entries c.hear_all.new.records.entries was (subst (λ (l : List Hearing). IsPermutation (after_hearings (values_of c.self.inside.records.entries) l) (values_of c.hear_all.new.records.entries)) records c.hear_all.ensures.held) in
     each-permuted (λ (one : Held). c.args.now < one.end) _ _ moved (AllLive-after_hearings c.args.now c.args.word c.args.heard c.args.self.now.held c.requires.live)
@@ -57,7 +57,7 @@ pub returns-clause-heard : goal.returns-clause-heard
 returns-clause-heard c = λ heard.
     let hs : List Hearing = map (hearing_at c.args.now c.args.word) c.args.heard in
     let was : in_layers c.self.inside.records.entries ≡ c.args.self.now.held = ap (λ (v : Contents). v.held) c.self.view_is ∙ c.in_ok-reserve.ensures.held in
-    let records : map (hearing_at c.args.now c.args.word) c.into_vec-records.result.items ≡ hs = ap (map (hearing_at c.args.now c.args.word)) c.into_vec-records.ensures in
+    let records : map (hearing_at c.args.now c.args.word) c.into_vec-records.result.items ≡ hs = ap (map (hearing_at c.args.now c.args.word)) c.into_vec-records.ensures.items in
     let moved : IsPermutation (after_hearings c.args.self.now.held hs) (in_layers c.hear_all.new.records.entries) =
     heard_in hs c.args.self.now.held c.self.inside.records.entries c.hear_all.new.records.entries was (subst (λ (l : List Hearing). IsPermutation (after_hearings (values_of c.self.inside.records.entries) l) (values_of c.hear_all.new.records.entries)) records c.hear_all.ensures.held) in
     each-permuted (λ (one : Held). one.heard ≤ c.args.now) _ _ moved (AllHeard-after_hearings c.args.now c.args.word c.args.heard c.args.self.now.held heard)
@@ -78,7 +78,7 @@ returns-clause-within c =
     let limit : c.self.inside.limit ≡ c.args.self.now.limit = ap (λ (v : Contents). v.limit) c.self.view_is ∙ c.in_ok-reserve.ensures.limit in
     let hs : List Hearing = map (hearing_at c.args.now c.args.word) c.args.heard in
     let was : in_layers c.self.inside.records.entries ≡ c.args.self.now.held = ap (λ (v : Contents). v.held) c.self.view_is ∙ c.in_ok-reserve.ensures.held in
-    let records : map (hearing_at c.args.now c.args.word) c.into_vec-records.result.items ≡ hs = ap (map (hearing_at c.args.now c.args.word)) c.into_vec-records.ensures in
+    let records : map (hearing_at c.args.now c.args.word) c.into_vec-records.result.items ≡ hs = ap (map (hearing_at c.args.now c.args.word)) c.into_vec-records.ensures.items in
     let moved : IsPermutation (after_hearings c.args.self.now.held hs) (in_layers c.hear_all.new.records.entries) =
     heard_in hs c.args.self.now.held c.self.inside.records.entries c.hear_all.new.records.entries was (subst (λ (l : List Hearing). IsPermutation (after_hearings (values_of c.self.inside.records.entries) l) (values_of c.hear_all.new.records.entries)) records c.hear_all.ensures.held) in
     let len : length (in_layers c.hear_all.new.records.entries) ≡ length (after_hearings c.args.self.now.held hs) = length_permutation _ _ moved in
@@ -88,7 +88,7 @@ pub returns-clause-held : goal.returns-clause-held
 returns-clause-held c =
     let hs : List Hearing = map (hearing_at c.args.now c.args.word) c.args.heard in
     let was : in_layers c.self.inside.records.entries ≡ c.args.self.now.held = ap (λ (v : Contents). v.held) c.self.view_is ∙ c.in_ok-reserve.ensures.held in
-    let records : map (hearing_at c.args.now c.args.word) c.into_vec-records.result.items ≡ hs = ap (map (hearing_at c.args.now c.args.word)) c.into_vec-records.ensures in
+    let records : map (hearing_at c.args.now c.args.word) c.into_vec-records.result.items ≡ hs = ap (map (hearing_at c.args.now c.args.word)) c.into_vec-records.ensures.items in
     let moved : IsPermutation (after_hearings c.args.self.now.held hs) (in_layers c.hear_all.new.records.entries) =
     heard_in hs c.args.self.now.held c.self.inside.records.entries c.hear_all.new.records.entries was (subst (λ (l : List Hearing). IsPermutation (after_hearings (values_of c.self.inside.records.entries) l) (values_of c.hear_all.new.records.entries)) records c.hear_all.ensures.held) in
     IsPermutation-sym _ _ moved

@@ -9,5 +9,5 @@ pub returns : goal.returns
 returns c =
     c.from_vec.ensures
     ∙ filter_same _ (asks_for c.args.question.now.kind) _ (λ x b f k. search rules) _ _ c.retain.ensures.filtered
-    ∙ ap (filter (asks_for c.args.question.now.kind)) (c.into_vec-own.ensures ∙ c.in_ok-own_of.ensures)
+    ∙ ap (filter (asks_for c.args.question.now.kind)) (c.into_vec-own.ensures.items ∙ c.in_ok-own_of.ensures)
     ∙ of_name_asked (key_of c.args.question.now) (own_in c.args.self.now.claims.now.contents.kept)

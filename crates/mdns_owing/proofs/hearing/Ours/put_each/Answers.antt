@@ -11,8 +11,8 @@ use Rattle.mdns_owing.proofs.hearing.Ours.put_each.Goals as goal
 pub returns : goal.returns
 returns c =
     let taken = c.into_iter-rr-iterator.ensures.into_iter_gives in
-    let items = taken.0 ∙ c.into_vec-rr-items.ensures in
-    let len = taken.1 ∙ c.into_vec-rr-items.result.ok.0 ∙ ap length c.into_vec-rr-items.ensures in
+    let items = taken.0 ∙ c.into_vec-rr-items.ensures.items in
+    let len = taken.1 ∙ c.into_vec-rr-items.result.ok.0 ∙ ap length c.into_vec-rr-items.ensures.items in
     let all = (YieldsList-end (YieldsList-from_vec {s = c.into_iter-rr-iterator.result} _ items len) c.loop-rr.yielded c.loop-rr.rr-iterator c.loop-rr.yielded_by c.next.result c.next.new.self c.in-None.is c.next.ensures.steps).0 in
     c.loop-rr.invariant
     ∙ ap (λ (rrs : List Rr). insert_all owed_eq c.args.owed.now.keys (unstruck_for (last_in c.args.self.now.lasts.now.lasts) (heard_in c.args.hearing.now.heard.now) c.args.hearing.now.moment c.args.question.now rrs))
