@@ -40,7 +40,7 @@ pub fn answers_of(
 
 // Answers in order, of those of the same bytes the first alone. Refused only for want of memory.
 fn ordered_once(mut answers: Vec<Answer>) -> Result<Answers, AllocError>
-    ensures { IfOk result (λ ordered. ordered ≡ ordered answer_cmp answers.items) }
+    ensures { IfOk result (λ sorted. sorted ≡ ordered answer_cmp answers.items) }
 {
     answers.sort_by(|left, right| answer_cmp(left, right))?;
     answers.dedup_by(|later, kept| answer_cmp(later, kept).is_eq());
