@@ -35,7 +35,8 @@ pub fn answers_of(
 {
     let mut answers = Answers::new(alloc);
     put_answers(&mut answers, request, questions, known)?;
-    ordered_once(answers.into_vec())
+    let ordered = ordered_once(answers.into_vec())?;
+    Ok(ordered)
 }
 
 // Answers in order, of those of the same bytes the first alone. Refused only for want of memory.

@@ -9,7 +9,8 @@ use Rattle.sd_answer.proofs.answers.ordered_once.Goals as goal
 
 pub returns : goal.returns
 returns c =
-    dedup_same _ (λ x y. is_eq (answer_cmp x y)) _ (λ x y b f' x' y' k. search rules) _ _ c.dedup_by.ensures.filtered
+    c.from_vec.ensures
+    ∙ dedup_same _ (λ x y. is_eq (answer_cmp x y)) _ (λ x y b f' x' y' k. search rules) _ _ c.dedup_by.ensures.filtered
     ∙ sorted-once answer_cmp answer_cmp-total _ _
     (c.in_ok-sort_by.ensures.sorted (λ x y. is_lt (answer_cmp x y)) (ranks_by answer_cmp-total (λ x. x)) (answers_always _ _ _ (λ f a r f' k. ap is_lt (search rules))))
     (c.in_ok-sort_by.ensures.stable (λ x y. is_lt (answer_cmp x y)) (ranks_by answer_cmp-total (λ x. x)) (answers_always _ _ _ (λ f a r f' k. ap is_lt (search rules))))
