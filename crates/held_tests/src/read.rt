@@ -9,7 +9,7 @@ use std::alloc::Global;
 /// When an event comes: its moment, in ms, and its random word.
 pub fn when(now: &str, word: &str) -> Result<When, RowError> {
     Ok(When {
-        moment: moment(now)?,
+        moment: u64::from(number::<u32>(now)?),
         word: number(word)?,
     })
 }
