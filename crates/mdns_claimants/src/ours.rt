@@ -4,16 +4,19 @@ ghost use Rattle.std.specs.List.{list_any};
 ghost use Rattle.dns_name.specs.Names.{folded_eq};
 ghost use Rattle.dns_record.specs.Records.{same};
 ghost use Rattle.mdns_asked.specs.Asked.{IsPut};
+ghost use Rattle.mdns_claimants.specs.Bits.{bit_of};
 ghost use Rattle.mdns_claimants.specs.Owned.{is_ours, nsec_for, nsec_if_sure, nsecs_in, own_in};
 ghost use Rattle.mdns_claimants.specs.Typed.{HaveBitmaps};
 ghost use Rattle.mdns_probe.specs.Kept.{name_of};
 ghost use Rattle.sd_service.specs.Bitmaps.{have_bitmap};
 
 use crate::claimant::Claimant;
+use crate::owners::bit_of;
 use dns_message::Rrs;
 use dns_name::Name;
 use dns_record::Rr;
 use mdns_asked::Asked;
+use mdns_probe::Claim;
 use sd_service::{is_nsec_of, nsec_of};
 use std::alloc::{AllocError, Global};
 
@@ -106,24 +109,32 @@ fn is_nsec_for(one: &Claimant, rr: &Rr) -> bool
     one.claim().sure && is_nsec_of(rr, one.name(), one.claim().unique.as_slice())
 }
 
-// Whether a record is own: one of the groups that are sure has it.
-fn is_own(groups: &[Claimant], rr: &Rr) -> bool
+/// Whether a record is own: one of the groups that are sure has it. Groups with no record of its name are passed over.
+pub fn is_own(groups: &[Claimant], rr: &Rr) -> bool
     ensures { result ≡ list_any (same rr.now) (own_in groups.now) }
 {
+    let bit = bit_of(&rr.owner);
     for one in groups {
-        if has_record(one, rr) {
+        if has_record(one, rr, bit) {
             return true;
         }
     }
     false
 }
 
-// Whether a group is sure and has a record.
-fn has_record(one: &Claimant, rr: &Rr) -> bool
+/// Whether a group is sure and has a record, whose owner's bit is given.
+pub fn has_record(one: &Claimant, rr: &Rr, bit: u64) -> bool
+    requires { bit ≡ bit_of rr.now.owner }
     ensures { result ≡ (one.now.claim.sure && list_any (same rr.now) (one.now.claim.unique ++ one.now.claim.shared)) }
 {
-    let claim = one.claim();
-    claim.sure && (is_among(claim.unique.as_slice(), rr) || is_among(claim.shared.as_slice(), rr))
+    one.may_have(bit) && has_claimed(one.claim(), one.claim().sure, rr)
+}
+
+/// Whether a claim is sure and has a record.
+pub fn has_claimed(claim: &Claim, sure: bool, rr: &Rr) -> bool
+    ensures { result ≡ (sure && list_any (same rr.now) (claim.now.unique ++ claim.now.shared)) }
+{
+    sure && (is_among(claim.unique.as_slice(), rr) || is_among(claim.shared.as_slice(), rr))
 }
 
 /// Whether a record is the same as one of several.

@@ -12,7 +12,7 @@ use Rattle.mdns_claims.specs.Planned.{Means, kept_by}
 use Rattle.mdns_claims.proofs.Made.{later_all}
 use Rattle.mdns_claims.proofs.Changed.{own_later, own_same, own_begun, later_skipped, later_found, answers_same, cons_append}
 
-next_first : {X : Type 0} (xs : List X) (place : ℕ) (one : X) → place < length xs → one ≡ get_or xs place one → drop place xs ≡ one ∷ drop (place + 1) xs
+pub next_first : {X : Type 0} (xs : List X) (place : ℕ) (one : X) → place < length xs → one ≡ get_or xs place one → drop place xs ≡ one ∷ drop (place + 1) xs
 next_first xs place one within is = drop_more xs place one within ∙ ap (λ x. x ∷ drop (place + 1) xs) (sym is)
 
 none_seen : (o : Option Kept) → None ≡ option_map shown_of o → o ≡ None
@@ -40,7 +40,7 @@ module _ (means : Means) (deed : Deed) (kept : List Kept) where
       ∙ append-nil (of_name name (own_in kept))
 
   module _ (place : ℕ) (one : Kept) (within : place < length kept) (is : one ≡ get_or kept place one) where
-    split : later_from means deed place (drop place kept) ≡ cons_option (later_of means deed place one) (later_from means deed (place + 1) (drop (place + 1) kept))
+    pub split : later_from means deed place (drop place kept) ≡ cons_option (later_of means deed place one) (later_from means deed (place + 1) (drop (place + 1) kept))
     split = ap (later_from means deed place) (next_first kept place one within is)
 
     pub own_more : (name : List (List ℕ)) (rrs after more : List Rr) → after ≡ rrs ++ more → more ≡ option_map_or (shown_own name) (option_map shown_of (later_of means deed place one)) [] →

@@ -1,5 +1,5 @@
 -- What questions have of own records behind a deed, once these were put group by group.
-use Rattle.std.proofs.Common.{◌≡◌, ℕ, ◌+◌, ◌<◌, ◌≤◌, cond, List, [], ◌∷◌, ◌++◌, length, get_or, drop, Option, Some, None, refl, ap, sym, subst, ◌∙◌, append-nil}
+use Rattle.std.proofs.Common.{◌≡◌, ℕ, ◌+◌, ◌<◌, ◌≤◌, List, [], ◌∷◌, ◌++◌, length, get_or, drop, Option, Some, None, refl, ap, sym, subst, ◌∙◌, append-nil}
 use Rattle.std.specs.List.{cons_option}
 use Rattle.std.specs.Option.{option_map, option_map_or, option_to_list}
 use Rattle.std.proofs.lemmas.List.{drop_more, drop_all}
@@ -10,19 +10,15 @@ use Rattle.mdns_probe.specs.Kept.{Kept}
 use Rattle.mdns_claimants.specs.Owned.{claimed, own_in}
 use Rattle.mdns_claimants.proofs.Asked.{own_first, own_last}
 use Rattle.mdns_claims.specs.declared.plan.Deed.{Deed}
-use Rattle.mdns_claims.specs.Later.{Shown, shown_of, later_of, later_from, begun_by}
+use Rattle.mdns_claims.specs.Later.{shown_of, shown_all, later_of, later_from, begun_by}
 use Rattle.mdns_claims.specs.Planned.{Means, kept_by}
 use Rattle.mdns_claims.proofs.Made.{later_all}
 
--- the records of a group that is seen, if it is sure
-abbrev pub shown_all : Shown → List Rr
-shown_all shown = cond shown.sure (shown.unique ++ shown.shared) []
-
-own_option : (o : Option Kept) (kept : List Kept) → own_in (cons_option o kept) ≡ option_map_or shown_all (option_map shown_of o) [] ++ own_in kept
+pub own_option : (o : Option Kept) (kept : List Kept) → own_in (cons_option o kept) ≡ option_map_or shown_all (option_map shown_of o) [] ++ own_in kept
 own_option None kept = refl
 own_option (Some one) kept = own_first one kept
 
-own_begun : (kept : List Kept) (o : Option Kept) → own_in (kept ++ option_to_list o) ≡ own_in kept ++ option_map_or (λ (one : Kept). claimed one.claim.sure one.claim) o []
+pub own_begun : (kept : List Kept) (o : Option Kept) → own_in (kept ++ option_to_list o) ≡ own_in kept ++ option_map_or (λ (one : Kept). claimed one.claim.sure one.claim) o []
 own_begun kept None = ap own_in (append-nil kept) ∙ sym (append-nil (own_in kept))
 own_begun kept (Some one) = own_last kept one
 

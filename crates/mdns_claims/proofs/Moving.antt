@@ -18,12 +18,9 @@ of_alike : (one other : List (List ℕ)) → folded_eq one other ≡ true → (r
 of_alike one other alike [] = refl
 of_alike one other alike (rr ∷ rrs) = λ i. cond (owner_alike one other rr.owner alike i) (rr ∷ of_alike one other alike rrs i) (of_alike one other alike rrs i)
 
--- what is found of the records of a name is so of each that is the name, case aside
-pub moved_alike : (name other : List (List ℕ)) (own own_behind before behind : List Rr) (alike : Bool) → before ≡ of_name name own → behind ≡ of_name name own_behind → alike ≡ same_records before behind →
-    folded_eq other name ≡ true → is_moved other own own_behind ≡ not alike
-moved_alike name other own own_behind before behind alike first second found e =
-    (λ i. not (same_records (of_alike other name e own i) (of_alike other name e own_behind i)))
-    ∙ sym (λ i. not (same_records (first i) (second i))) ∙ ap not (sym found)
+-- of names that are one, case aside, the same comes and goes
+pub moved_name : (one other : List (List ℕ)) (own own_behind : List Rr) → folded_eq one other ≡ true → is_moved one own own_behind ≡ is_moved other own own_behind
+moved_name one other own own_behind alike = λ i. not (same_records (of_alike one other alike own i) (of_alike one other alike own_behind i))
 
 -- nothing comes or goes of a name whose records stay
 pub unmoved : (name : List (List ℕ)) (own own_behind : List Rr) → of_name name own_behind ≡ of_name name own → is_moved name own own_behind ≡ false

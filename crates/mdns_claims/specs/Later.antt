@@ -40,6 +40,10 @@ shown_by later = record { group = later.naming.now; number = later.number; sure 
 abbrev pub shown_own : List (List ℕ) → Shown → List Rr
 shown_own name shown = if shown.sure then of_name name shown.unique ++ of_name name shown.shared else []
 
+-- the records of a group that is seen, if it is sure
+abbrev pub shown_all : Shown → List Rr
+shown_all shown = if shown.sure then shown.unique ++ shown.shared else []
+
 -- the answer of a registration that is seen
 abbrev pub shown_answer : Shown → List Answer
 shown_answer shown = named_if shown.sure (numbered_name shown.group shown.number)

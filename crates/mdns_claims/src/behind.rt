@@ -110,8 +110,8 @@ impl Behind<'_> {
         self.due.next_due(from, self.means.moment)
     }
 
-    // The place of the first group, from a place on, that the plan may touch; it touches none of those that are passed over.
-    fn place_touched(&self, from: usize) -> Option<usize>
+    /// The place of the first group, from a place on, that the plan may touch; it touches none of those that are passed over.
+    pub(crate) fn place_touched(&self, from: usize) -> Option<usize>
         ensures none { IfNone result (TouchesNone (means_in self.now.means) self.now.deed.now self.now.groups.now from (length self.now.groups.now)) }
         ensures some { IfSome result (IsNextTouched (means_in self.now.means) self.now.deed.now self.now.groups.now from) }
     {
@@ -174,9 +174,9 @@ impl Behind<'_> {
         Ok(())
     }
 
-    // Whether a group may have a record of a name, whose bit is given, behind the plan. Most have none before it, and get none by a plan
-    // that renews no group.
-    fn may_have(&self, one: &Claimant, bit: u64) -> bool
+    /// Whether a group may have a record of a name, whose bit is given, behind the plan. Most have none before it, and get none by a plan
+    /// that renews no group.
+    pub(crate) fn may_have(&self, one: &Claimant, bit: u64) -> bool
         ensures { result ≡ false → (place : ℕ) (name : List (List ℕ)) → bit ≡ bit_of name
             → option_map_or (shown_own name) (option_map shown_of (later_of (means_in self.now.means) self.now.deed.now place one.now)) [] ≡ [] }
     {

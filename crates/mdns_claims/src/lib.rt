@@ -8,6 +8,7 @@ mod claims;
 mod copies;
 mod deciding;
 mod doing;
+mod kept;
 mod later;
 mod law;
 mod moved;

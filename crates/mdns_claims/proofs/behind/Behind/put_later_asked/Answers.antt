@@ -3,8 +3,9 @@ use Rattle.std.specs.Option.{option_map_or}
 use Rattle.mdns_asked.specs.Asked.{Contents, IsPut}
 use Rattle.mdns_asked.proofs.Asking.{none_put}
 use Rattle.mdns_claimants.specs.Owned.{claimed}
+use Rattle.mdns_claims.specs.Later.{shown_all}
 use Rattle.mdns_claims.specs.Seen.{means_in}
-use Rattle.mdns_claims.proofs.Asked.{left_more, left_none, shown_all}
+use Rattle.mdns_claims.proofs.Asked.{left_more, left_none}
 use Rattle.mdns_claims.proofs.behind.Behind.put_later_asked.Goals as goal
 use Rattle.mdns_claims.proofs.behind.Behind.put_later_asked.Goals.{in-Some+in_ok-put_claim, in_default}
 
