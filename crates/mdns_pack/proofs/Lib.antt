@@ -3,3 +3,4 @@ pub mod Sorting
 pub mod Found
 pub mod Replies
 pub mod OldWay
+pub mod Rising

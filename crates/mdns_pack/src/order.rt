@@ -1,5 +1,5 @@
 // Records put into record order.
-ghost use Rattle.std.specs.Prelude.{◌≡◌, IfOk};
+ghost use Rattle.std.specs.Prelude.{◌≡◌, IsTrue, IfOk};
 ghost use Rattle.std.specs.List.{list_any};
 ghost use Rattle.lists.specs.Lists.{sorted_by, ordered};
 ghost use Rattle.dns_record.specs.Records.{record_cmp, same};
@@ -18,7 +18,29 @@ pub fn sorted(mut records: Vec<Rr>) -> Result<Rrs, AllocError>
 }
 
 /// Records in record order, of those that compare equal the first alone. Refused only for want of memory.
-pub fn in_order(mut records: Vec<Rr>) -> Result<Rrs, AllocError>
+pub fn in_order(records: Vec<Rr>) -> Result<Rrs, AllocError>
+    ensures { IfOk result (λ sorted. sorted ≡ ordered record_cmp records.items) }
+{
+    if is_in_order(&records) {
+        return Ok(Rrs::from_vec(records));
+    }
+    put_in_order(records)
+}
+
+// Whether each record stands before the next one in record order: then they are in order, and each is there once.
+fn is_in_order(records: &[Rr]) -> bool
+    ensures { IsTrue result → ordered record_cmp records.now ≡ records.now }
+{
+    for next in 1..records.len() {
+        if !record_cmp(&records[next - 1], &records[next]).is_lt() {
+            return false;
+        }
+    }
+    true
+}
+
+// Puts records into record order, of those that compare equal the first alone.
+fn put_in_order(mut records: Vec<Rr>) -> Result<Rrs, AllocError>
     ensures { IfOk result (λ sorted. sorted ≡ ordered record_cmp records.items) }
 {
     records.sort_by(|left, right| record_cmp(left, right))?;

@@ -5,7 +5,7 @@ use Rattle.std.proofs.lemmas.List.Sorted.{ranks_by, answers_always}
 use Rattle.dns_record.specs.Records.{record_cmp}
 use Rattle.lists.proofs.SortedOnce.{sorted-once}
 use Rattle.dns_record.proofs.Same.{record_cmp_total}
-use Rattle.mdns_pack.proofs.order.in_order.Goals as goal
+use Rattle.mdns_pack.proofs.order.put_in_order.Goals as goal
 
 pub returns : goal.returns
 returns c =
