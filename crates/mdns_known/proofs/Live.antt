@@ -1,5 +1,5 @@
 -- The known answers over held records, in whatever order they stand.
-use Rattle.std.proofs.Common.{◌≡◌, ℕ, ◌<◌, Bool, true, false, cond, not, ◌&&◌, ◌||◌, List, [], ◌∷◌, ◌++◌, length, take, get_or, refl, ap, ◌∙◌, sym, Some, None, ◌+◌}
+use Rattle.std.proofs.Common.{◌≡◌, ℕ, ◌<◌, Bool, true, false, cond, not, ◌&&◌, ◌||◌, List, [], ◌∷◌, ◌++◌, length, take, get_or, refl, ap, ◌∙◌, sym, append_assoc, Some, None, ◌+◌}
 use Rattle.std.specs.Prelude.{map, filter, nat_lt}
 use Rattle.std.specs.Option.{option_to_list}
 use Rattle.std.specs.List.{All, list_any}
@@ -269,10 +269,12 @@ listed-more question held moment n one within is =
     ap (λ (l : List Held). map (listed moment) (filter (is_listed question moment) l)) (take_more held n one within ∙ sym (ap (λ (x : Held). take n held ++ x ∷ []) is))
     ∙ listed-push question moment (take n held) one
 
-pub listed_more-put : (question : Key) (held : List Held) (moment n : ℕ) (one : Held) (before after : List Rr) → n < length held → one ≡ get_or held n one →
-    before ≡ listed_up_to question held moment n → after ≡ before ++ option_to_list (cond (is_listed question moment one) (Some (listed moment one)) None) → after ≡ listed_up_to question held moment (n + 1)
-listed_more-put question held moment n one before after within is so_far put =
-    put ∙ (λ i. so_far i ++ of (is_listed question moment one) i) ∙ sym (listed-more question held moment n one within is)
+pub listed_more-put : (question : Key) (held : List Held) (moment n : ℕ) (one : Held) (front before after : List Rr) → n < length held → one ≡ get_or held n one →
+    before ≡ front ++ listed_up_to question held moment n → after ≡ before ++ option_to_list (cond (is_listed question moment one) (Some (listed moment one)) None) → after ≡ front ++ listed_up_to question held moment (n + 1)
+listed_more-put question held moment n one front before after within is so_far put =
+    put ∙ (λ i. so_far i ++ of (is_listed question moment one) i)
+    ∙ append_assoc front (listed_up_to question held moment n) (cond (is_listed question moment one) (listed moment one ∷ []) [])
+    ∙ ap (λ (l : List Rr). front ++ l) (sym (listed-more question held moment n one within is))
   where
     of : (b : Bool) → option_to_list (cond b (Some (listed moment one)) None) ≡ cond b (listed moment one ∷ []) []
     of true = refl

@@ -13,6 +13,10 @@ use Rattle.mdns_history.specs.Asking.{is_half_fresh, listed, fits_alone}
 abbrev pub is_listed : Key → ℕ → Held → Bool
 is_listed question moment one = (matches question one.rr && is_live_at moment one && is_uncut one && is_half_fresh moment one) && fits_alone (listed moment one)
 
+-- the known answers of a question over held records, as they are listed, in the order in which these are held
+abbrev pub listed_of : Key → List Held → ℕ → List Rr
+listed_of question held moment = map (listed moment) (filter (is_listed question moment) held)
+
 -- the known answers of a question over held records, as they are listed, in record order
 unfoldable pub known_of : Key → List Held → ℕ → List Rr
 known_of question held moment = sorted_by record_cmp (map (listed moment) (filter (is_listed question moment) held))

@@ -3,7 +3,7 @@ ghost use Rattle.std.specs.Prelude.{◌≡◌, ◌≤◌, ◌^◌, IfOk};
 ghost use Rattle.std.specs.List.{All};
 ghost use Rattle.mdns_known.specs.Known.{all_known_of};
 
-use crate::known::known_answers;
+use crate::known::put_known_answers;
 use dns_message::Rrs;
 use dns_record::Key;
 use mdns_history::Held;
@@ -12,7 +12,6 @@ use std::alloc::{AllocError, Global};
 
 /// The known answers of several questions at `now`, in ms: those of each of them, as `known_answers` has them, each once and
 /// in record order. Nothing held may have been heard after `now`. Refused only for want of memory. (RFC 6762 7.1)
-#[tactic(auto, unfolding(crate::specs::Known::all_known_of))]
 pub fn all_known_answers(
     alloc: Global,
     questions: &[Key],
@@ -25,8 +24,7 @@ pub fn all_known_answers(
 {
     let mut all = Vec::new(alloc);
     for question in questions {
-        let mut known = known_answers(alloc, question, held, now)?.into_vec();
-        all.append(&mut known)?;
+        put_known_answers(alloc, &mut all, question, held, now)?;
     }
     in_order(all)
 }

@@ -1,11 +1,11 @@
 // The known answers of a question.
-ghost use Rattle.std.specs.Prelude.{◌≡◌, ◌≤◌, ◌^◌, IfOk};
+ghost use Rattle.std.specs.Prelude.{◌≡◌, ◌++◌, ◌≤◌, ◌^◌, IfOk, OnOk};
 ghost use Rattle.std.specs.List.{All};
-ghost use Rattle.mdns_known.specs.Known.{known_of};
+ghost use Rattle.mdns_known.specs.Known.{known_of, listed_of};
 
 use crate::listing::put_listing;
 use dns_message::Rrs;
-use dns_record::Key;
+use dns_record::{Key, Rr};
 use mdns_history::Held;
 use mdns_pack::sorted;
 use std::alloc::{AllocError, Global};
@@ -26,8 +26,25 @@ pub fn known_answers(
     ensures { IfOk result (λ known. known ≡ known_of question.now held.now now) }
 {
     let mut known = Vec::with_capacity(alloc, held.len())?;
-    for one in held {
-        put_listing(alloc, &mut known, question, one, now)?;
-    }
+    put_known_answers(alloc, &mut known, question, held, now)?;
     sorted(known)
+}
+
+/// Puts the known answers of a question at `now`, in ms, behind others: those that `known_answers` has, but in the order in which
+/// the records are held. Nothing held may have been heard after `now`. Refused only for want of memory. (RFC 6762 7.1)
+pub fn put_known_answers(
+    alloc: Global,
+    known: &mut Vec<Rr>,
+    question: &Key,
+    held: &[Held],
+    now: u64,
+) -> Result<(), AllocError>
+    requires bound { now ≤ 2 ^ 53 }
+    requires heard { All (λ one. one.heard ≤ now) held.now }
+    ensures { OnOk result (known.new.items ≡ known.old.items ++ listed_of question.now held.now now) }
+{
+    for one in held {
+        put_listing(alloc, known, question, one, now)?;
+    }
+    Ok(())
 }

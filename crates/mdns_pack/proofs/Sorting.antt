@@ -1,15 +1,17 @@
 -- A stable sort gives the list in order, those that tie in the order in which they stood.
-use Rattle.std.proofs.Common.{◌≡◌, ℕ, suc, ◌<◌, ◌≤◌, Bool, true, false, cond, not, ◌&&◌, List, [], ◌∷◌, refl, ap, ◌∙◌, sym, arith, length, get_or, Ordering, Less, Equal, Greater}
+use Rattle.std.proofs.Common.{◌≡◌, ℕ, zero, suc, ◌+◌, ◌<◌, ◌≤◌, Bool, true, false, cond, not, ◌&&◌, List, [], ◌∷◌, ◌++◌, refl, ap, ◌∙◌, sym, arith, length, get_or, Ordering, Less, Equal, Greater}
 use Rattle.std.specs.Prelude.{filter}
-use Rattle.std.specs.List.{list_any}
+use Rattle.std.specs.List.{list_any, flat_map}
 use Rattle.std.specs.List.Sorted.{IsSortedBy, IsStableBy, ties}
 use Rattle.std.specs.Ordering.{is_lt, is_eq, ordering_reverse}
 use Rattle.std.specs.Cmp.{IsTotalOrder}
 use Rattle.std.proofs.lemmas.Bool.{or_from, or_parts}
 use Rattle.std.proofs.lemmas.Cmp.{alike_right}
+use Rattle.std.proofs.lemmas.List.Elements.{filter-append}
 use Rattle.std.proofs.lemmas.List.Sorted.{ranks_by, sorted_far}
-use Rattle.lists.specs.Lists.{insert_by, sorted_by}
+use Rattle.lists.specs.Lists.{insert_by, sorted_by, ordered}
 use Rattle.lists.proofs.InOrder.{any-insert, tied-turned, tied-along, tied-itself}
+use Rattle.lists.proofs.SortedOnce.{sorted-once}
 
 module _ {X : Type 0} (cmp : X → X → Ordering) (o : IsTotalOrder cmp) where
   abbrev tied : X → X → Bool
@@ -184,3 +186,34 @@ module _ {X : Type 0} (cmp : X → X → Ordering) (o : IsTotalOrder cmp) where
   sorted-stably xs ys sorted stable =
       same-level ys (sorted_by cmp xs) (level-from_sorted ys sorted) (level-sorted xs)
       (λ z. (λ i. filter (λ w. sym (ties-tied z w) i) ys) ∙ stable z ∙ (λ i. filter (λ w. ties-tied z w i) xs) ∙ sym (filter-sorted z xs))
+
+  -- ---- Lists that are sorted before they are put together give the same in order, each once.
+
+  level-adjacent : (ys : List X) → IsLevel ys → (k : ℕ) (d : X) → suc k < length ys → below (get_or ys (suc k) d) (get_or ys k d) ≡ false
+  level-adjacent [] r k d h = absurd (omega (arith, h))
+  level-adjacent (x ∷ []) r k d h = absurd (omega (arith, h))
+  level-adjacent (x ∷ y ∷ ys) r zero d h = (or_parts (below y x) (list_any (λ w. below w x) ys) r.0).0
+  level-adjacent (x ∷ y ∷ ys) r (suc k) d h = level-adjacent (y ∷ ys) r.1 k d (omega (arith, h))
+
+  sorted-sorted : (ws : List X) → IsSortedBy below (sorted_by cmp ws)
+  sorted-sorted ws = λ k d low high.
+      let next : k + 1 ≡ suc k = omega arith in
+      ap (λ (n : ℕ). below (get_or (sorted_by cmp ws) n d) (get_or (sorted_by cmp ws) k d)) next ∙ level-adjacent (sorted_by cmp ws) (level-sorted ws) k d (omega (arith, high))
+
+  stable-from : (xs ys : List X) → ((z : X) → filter (tied z) ys ≡ filter (tied z) xs) → IsStableBy below xs ys
+  stable-from xs ys h = λ z. (λ i. filter (λ w. ties-tied z w i) ys) ∙ h z ∙ (λ i. filter (λ w. sym (ties-tied z w) i) xs)
+
+  -- lists are the same in order where they have the same elements that tie with anything
+  ordered-alike : (xs ws : List X) → ((z : X) → filter (tied z) xs ≡ filter (tied z) ws) → ordered cmp xs ≡ ordered cmp ws
+  ordered-alike xs ws h =
+      sym (sorted-once cmp o xs (sorted_by cmp xs) (sorted-sorted xs) (stable-from xs (sorted_by cmp xs) (λ z. filter-sorted z xs)))
+      ∙ sorted-once cmp o ws (sorted_by cmp xs) (sorted-sorted xs) (stable-from ws (sorted_by cmp xs) (λ z. filter-sorted z xs ∙ h z))
+
+  pub ordered_sorted : {K : Type 0} (f : K → List X) (ks : List K) → ordered cmp (flat_map (λ k. sorted_by cmp (f k)) ks) ≡ ordered cmp (flat_map f ks)
+  ordered_sorted {K} f ks = ordered-alike (flat_map (λ k. sorted_by cmp (f k)) ks) (flat_map f ks) (λ z. each z ks)
+    where
+      each : (z : X) (ks : List K) → filter (tied z) (flat_map (λ k. sorted_by cmp (f k)) ks) ≡ filter (tied z) (flat_map f ks)
+      each z [] = refl
+      each z (k ∷ ks) =
+          filter-append (tied z) (sorted_by cmp (f k)) (flat_map (λ k. sorted_by cmp (f k)) ks) ∙ (λ i. filter-sorted z (f k) i ++ each z ks i)
+          ∙ sym (filter-append (tied z) (f k) (flat_map f ks))

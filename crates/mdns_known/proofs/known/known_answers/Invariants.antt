@@ -1,6 +1,0 @@
-use Rattle.std.proofs.Common.{◌≡◌}
-use Rattle.mdns_known.proofs.Live.{listed_up_to}
-use Rattle.mdns_known.proofs.known.known_answers.Given as goal
-
-abbrev pub invariant-loop-one : goal.invariant-loop-one
-invariant-loop-one l = l.known.items ≡ listed_up_to l.question l.held l.now l.one-index
