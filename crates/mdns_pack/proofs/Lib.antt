@@ -4,3 +4,4 @@ pub mod Found
 pub mod Replies
 pub mod OldWay
 pub mod Rising
+pub mod Listings

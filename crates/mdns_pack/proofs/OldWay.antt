@@ -49,7 +49,7 @@ length-head kind owner flush ttl size =
       class_long flush,
     )
 
-record_long : (kind : ℕ) (owner size bytes : List ℕ) (flush other : Bool) (ttl time : ℕ) →
+pub record_long : (kind : ℕ) (owner size bytes : List ℕ) (flush other : Bool) (ttl time : ℕ) →
     length (head_bytes kind owner flush ttl size ++ bytes) ≡ length (head_bytes kind owner other time size ++ bytes)
 record_long kind owner size bytes flush other ttl time =
     length-append (head_bytes kind owner flush ttl size) bytes
@@ -64,7 +64,7 @@ record_alike names at rr =
     record { size = record_long (kind_of rr.rdata) owner.bytes (to_be_bytes w16 (length rdata.bytes)) rdata.bytes false rr.flush (min rr.ttl 10) rr.ttl; names_are = refl }
 
 -- things in a row, each alike
-all_alike : {X : Type 0} (write : Offsets → ℕ → X → Piece) (plain : X → X) → ((names : Offsets) (at : ℕ) (x : X) → IsAlike (write names at (plain x)) (write names at x)) →
+pub all_alike : {X : Type 0} (write : Offsets → ℕ → X → Piece) (plain : X → X) → ((names : Offsets) (at : ℕ) (x : X) → IsAlike (write names at (plain x)) (write names at x)) →
     (names : Offsets) (at : ℕ) (xs : List X) → IsAlike (written_all write names at (map plain xs)) (written_all write names at xs)
 unfolding written_all
 all_alike write plain each names at [] = record { size = refl; names_are = refl }

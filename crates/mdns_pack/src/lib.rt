@@ -2,6 +2,7 @@
 #![tactic(auto)]
 
 mod legacy;
+mod listing;
 mod messages;
 mod order;
 mod plain;
@@ -10,9 +11,10 @@ mod reply;
 mod wanting;
 
 pub use legacy::pack_legacy;
+pub use listing::Listing;
 pub use messages::Messages;
-pub use order::{Ordered, in_order, sorted};
+pub use order::{Ordered, in_order, listings_in_order, sorted};
 pub use plain::pack_plain;
-pub use query::pack_query;
+pub use query::{pack_listings, pack_query};
 pub use reply::pack_reply;
 pub use wanting::Wanting;

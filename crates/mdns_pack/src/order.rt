@@ -4,6 +4,7 @@ ghost use Rattle.std.specs.List.{list_any};
 ghost use Rattle.lists.specs.Lists.{sorted_by, ordered};
 ghost use Rattle.dns_record.specs.Records.{record_cmp, same};
 
+use crate::Listing;
 use dns_message::Rrs;
 use dns_record::{Rr, record_cmp};
 use std::alloc::AllocError;
@@ -46,6 +47,37 @@ fn put_in_order(mut records: Vec<Rr>) -> Result<Rrs, AllocError>
     records.sort_by(|left, right| record_cmp(left, right))?;
     records.dedup_by(|later, kept| record_cmp(later, kept).is_eq());
     Ok(Rrs::from_vec(records))
+}
+
+/// The same of records that are listed.
+pub fn listings_in_order(listings: Vec<Listing<'_>>) -> Result<Vec<Listing<'_>>, AllocError>
+    ensures { IfOk result (λ sorted. sorted.items ≡ ordered record_cmp listings.entry.items) }
+{
+    if are_in_order(&listings) {
+        return Ok(listings);
+    }
+    put_listings_in_order(listings)
+}
+
+// Whether each stands before the next one in record order.
+fn are_in_order(listings: &[Listing<'_>]) -> bool
+    ensures { IsTrue result → ordered record_cmp listings.now ≡ listings.now }
+{
+    for next in 1..listings.len() {
+        if !listings[next - 1].record_cmp(&listings[next]).is_lt() {
+            return false;
+        }
+    }
+    true
+}
+
+// Puts them into record order, of those that compare equal the first alone.
+fn put_listings_in_order(mut listings: Vec<Listing<'_>>) -> Result<Vec<Listing<'_>>, AllocError>
+    ensures { IfOk result (λ sorted. sorted.items ≡ ordered record_cmp listings.entry.items) }
+{
+    listings.sort_by(|left, right| left.record_cmp(right))?;
+    listings.dedup_by(|later, kept| later.record_cmp(kept).is_eq());
+    Ok(listings)
 }
 
 /// Records in record order, each once, so that one of them is soon found.

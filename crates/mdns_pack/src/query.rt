@@ -2,11 +2,13 @@
 ghost use Rattle.std.specs.Prelude.{◌≡◌, ◌<◌, ◌≤◌, List, [], ◌∷◌, ◌++◌, map, length, take, drop, true, IfOk, OnOk, if◌then◌else◌};
 ghost use Rattle.dns_message.specs.Packing.{fits, parts_of, query_with, bare_query, question_for, batch_messages, pack_query};
 ghost use Rattle.dns_message.specs.Drafting.{with_answer};
+ghost use Rattle.mdns_pack.specs.Listing.{IsListed};
 
-use crate::Messages;
+use crate::listing::{laid_out, listings_of};
 use crate::messages::PACKET_LENGTH;
+use crate::{Listing, Messages};
 use dns_message::{Draft, Rrs};
-use dns_record::{Key, Question, Rr, matches_any};
+use dns_record::{Key, Question};
 use std::alloc::{AllocError, Global};
 use std::mem;
 
@@ -18,17 +20,29 @@ use std::mem;
 pub fn pack_query(alloc: Global, questions: &[Key], known: &Rrs) -> Result<Messages, AllocError>
     ensures { IfOk result (λ messages. messages ≡ pack_query questions.now known.now) }
 {
+    let listings = listings_of(alloc, known.as_slice())?;
+    pack_listings(alloc, questions, &listings)
+}
+
+/// The same messages, of known answers that are borrowed as they are listed. Refused only for want of memory.
+pub fn pack_listings(
+    alloc: Global,
+    questions: &[Key],
+    known: &[Listing<'_>],
+) -> Result<Messages, AllocError>
+    ensures { IfOk result (λ messages. messages ≡ pack_query questions.now known.now) }
+{
     let asked = questions_for(alloc, questions)?;
-    pack_batches(alloc, asked.as_slice(), questions, known.as_slice())
+    pack_batches(alloc, asked.as_slice(), questions, known)
 }
 
 // The messages of all batches of questions, which are those for these keys.
 #[tactic(auto, unfolding(dns_message::specs::Packing::pack_query))]
-fn pack_batches(
+fn pack_batches<'a>(
     alloc: Global,
-    questions: &[Question],
+    questions: &'a [Question],
     keys: &[Key],
-    known: &[Rr],
+    known: &'a [Listing<'_>],
 ) -> Result<Messages, AllocError>
     requires { questions.now ≡ map question_for keys.now }
     ensures { IfOk result (λ messages. messages ≡ pack_query keys.now known.now) }
@@ -77,40 +91,64 @@ fn put_batch<'a>(
     messages: &mut Messages,
     mut draft: Draft<'a>,
     batch: &[Key],
-    known: &'a [Rr],
+    known: &'a [Listing<'_>],
 ) -> Result<(), AllocError>
     requires { draft ≡ bare_query (map question_for batch.now) [] }
     ensures { OnOk result (messages.new ≡ messages.old ++ batch_messages known.now batch.now) }
 {
-    for rr in known {
-        if matches_any(batch, rr) {
-            put_known(alloc, messages, &mut draft, rr)?;
+    let mut listed = Vec::new(alloc);
+    for listing in known {
+        if listing.matches_any(batch) {
+            put_known(alloc, messages, &mut draft, &mut listed, listing)?;
         }
     }
-    messages.push(draft.into_message())?;
+    messages.push(laid_out(draft.into_message(), &listed))?;
     Ok(())
 }
 
-// Puts a known answer into a query, or into the next message, where the query would no longer fit.
+// Puts a known answer into a query, which is drafted and lists these, or into the next message, where the query would no
+// longer fit.
 fn put_known<'a>(
     alloc: Global,
     messages: &mut Messages,
     draft: &mut Draft<'a>,
-    rr: &'a Rr,
+    listed: &mut Vec<Listing<'a>>,
+    listing: &'a Listing<'_>,
 ) -> Result<(), AllocError>
-    requires { draft.old ≡ bare_query draft.old.questions draft.old.answers }
-    ensures messages { OnOk result (messages.new ≡ (if fits (with_answer draft.old rr.now) then messages.old
-        else messages.old ++ query_with draft.old.questions draft.old.answers true ∷ [])) }
-    ensures message { OnOk result (draft.new ≡ (if fits (with_answer draft.old rr.now) then with_answer draft.old rr.now
-        else bare_query [] (rr.now ∷ []))) }
+    requires { IsListed draft.old listed.old.items }
+    ensures kept { OnOk result (IsListed draft.new listed.new.items) }
+    ensures messages { OnOk result (messages.new ≡ (if fits (with_answer (bare_query draft.old.questions listed.old.items) listing.now) then messages.old
+        else messages.old ++ query_with draft.old.questions listed.old.items true ∷ [])) }
+    ensures message { OnOk result (bare_query draft.new.questions listed.new.items ≡ (if fits (with_answer (bare_query draft.old.questions listed.old.items) listing.now)
+        then with_answer (bare_query draft.old.questions listed.old.items) listing.now else bare_query [] (listing.now ∷ []))) }
 {
-    if !draft.answer(rr, PACKET_LENGTH)? {
-        let mut next = Draft::query(alloc)?;
-        next.answer_always(rr)?;
-        let mut message = mem::replace(draft, next).into_message();
-        message.truncated = true;
-        messages.push(message)?;
+    if draft.answer(listing.record(), PACKET_LENGTH)? {
+        listed.push(listing.again())?;
+        return Ok(());
     }
+    begin_next(alloc, messages, draft, listed, listing)
+}
+
+// Puts the query behind others, with the note that more follows, and begins the next message with a known answer.
+fn begin_next<'a>(
+    alloc: Global,
+    messages: &mut Messages,
+    draft: &mut Draft<'a>,
+    listed: &mut Vec<Listing<'a>>,
+    listing: &'a Listing<'_>,
+) -> Result<(), AllocError>
+    requires { IsListed draft.old listed.old.items }
+    ensures kept { OnOk result (IsListed draft.new listed.new.items) }
+    ensures messages { OnOk result (messages.new ≡ messages.old ++ query_with draft.old.questions listed.old.items true ∷ []) }
+    ensures message { OnOk result (bare_query draft.new.questions listed.new.items ≡ bare_query [] (listing.now ∷ [])) }
+{
+    let mut next = Draft::query(alloc)?;
+    next.answer_always(listing.record())?;
+    let mut message = laid_out(mem::replace(draft, next).into_message(), listed);
+    message.truncated = true;
+    messages.push(message)?;
+    listed.clear();
+    listed.push(listing.again())?;
     Ok(())
 }
 
