@@ -3,11 +3,11 @@ ghost use Rattle.std.specs.Prelude.{◌≡◌, ◌++◌, ◌≤◌, ◌^◌, IfO
 ghost use Rattle.std.specs.List.{All};
 ghost use Rattle.mdns_known.specs.Known.{known_of, listed_of};
 
-use crate::listing::put_listing;
+use crate::listing::{put_borrowed, put_listing};
 use dns_message::Rrs;
 use dns_record::{Key, Rr};
 use mdns_history::Held;
-use mdns_pack::sorted;
+use mdns_pack::{Listing, sorted};
 use std::alloc::{AllocError, Global};
 
 /// The known answers of a question at `now`, in ms, as a query lists them, in record order: the held records that match
@@ -45,6 +45,24 @@ pub fn put_known_answers(
 {
     for one in held {
         put_listing(alloc, known, question, one, now)?;
+    }
+    Ok(())
+}
+
+/// The same, where the records aren't copied but borrowed.
+pub fn put_known_listings<'a>(
+    alloc: Global,
+    known: &mut Vec<Listing<'a>>,
+    question: &Key,
+    held: &'a [Held],
+    now: u64,
+) -> Result<(), AllocError>
+    requires bound { now ≤ 2 ^ 53 }
+    requires heard { All (λ one. one.heard ≤ now) held.now }
+    ensures { OnOk result (known.new.items ≡ known.old.items ++ listed_of question.now held.now now) }
+{
+    for one in held {
+        put_borrowed(alloc, known, question, one, now)?;
     }
     Ok(())
 }

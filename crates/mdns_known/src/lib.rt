@@ -8,6 +8,6 @@ mod listing;
 mod suppression;
 
 pub use all::all_known_answers;
-pub use known::{known_answers, put_known_answers};
+pub use known::{known_answers, put_known_answers, put_known_listings};
 pub use laws::known_answers_of_live_records;
 pub use suppression::{is_struck, suppresses};

@@ -10,6 +10,7 @@ ghost use Rattle.mdns_known.specs.Known.{is_listed};
 use dns_message::{Message, Questions, Rrs, WriteError, write};
 use dns_record::{Key, Rdata, Rr, matches};
 use mdns_history::Held;
+use mdns_pack::Listing;
 use std::alloc::{AllocError, Global};
 
 /// The longest message, in bytes. (RFC 6762 17)
@@ -32,6 +33,41 @@ pub fn put_listing(
     } else {
         Ok(())
     }
+}
+
+/// The same, where the record isn't copied but borrowed.
+pub fn put_borrowed<'a>(
+    alloc: Global,
+    known: &mut Vec<Listing<'a>>,
+    question: &Key,
+    one: &'a Held,
+    now: u64,
+) -> Result<(), AllocError>
+    requires bound { now ≤ 2 ^ 53 }
+    requires heard { one.now.heard ≤ now }
+    ensures { OnOk result (known.new.items ≡ known.old.items ++ option_to_list (if is_listed question.now now one.now then Some (listed now one.now) else None)) }
+{
+    if !is_fresh(question, one, now) {
+        return Ok(());
+    }
+    if fits_listed(alloc, one, now)? {
+        known.push(Listing::new(&one.rr, false, seconds_left(one, now)))?;
+    }
+    Ok(())
+}
+
+// Whether an uncut record as it is listed fits a message alone. Only a long one is copied and written to tell.
+fn fits_listed(alloc: Global, one: &Held, now: u64) -> Result<bool, AllocError>
+    requires bound { now ≤ 2 ^ 53 }
+    requires heard { one.now.heard ≤ now }
+    requires uncut { IsTrue (is_uncut one.now) }
+    ensures { IfOk result (λ fits. fits ≡ fits_alone (listed now one.now)) }
+{
+    if is_short(&one.rr) {
+        return Ok(true);
+    }
+    let fitting = if_written_fits(alloc, listed(one, now)?)?;
+    Ok(fitting.is_some())
 }
 
 // Whether a held record matches a question, is live and uncut, and has at least half of its TTL left.
