@@ -1,10 +1,9 @@
 -- The questions of a name stand side by side.
-use Rattle.std.proofs.Common.{◌≡◌, ℕ, zero, suc, ◌<◌, ◌≤◌, Bool, true, false, not, List, [], ◌∷◌, length, get_or, Ordering, Less, Equal, Greater, refl, ap, ◌∙◌, sym, arith, ⊎_elim}
+use Rattle.std.proofs.Common.{◌≡◌, ℕ, zero, suc, ◌-◌, ◌<◌, ◌≤◌, Bool, true, false, List, [], ◌∷◌, length, get_or, Ordering, Less, Equal, Greater, refl, ap, ◌∙◌, sym, arith, ⊎_elim}
 use Rattle.std.specs.List.Sorted.{IsPartitionedBy, IsPartitionPoint}
-use Rattle.std.specs.Ordering.{is_lt, is_le, is_gt, is_eq, nat_cmp, ordering_then, ordering_reverse}
+use Rattle.std.specs.Ordering.{is_lt, is_le, is_eq, nat_cmp, ordering_then, ordering_reverse}
 use Rattle.std.specs.Cmp.{IsTotalOrder}
 use Rattle.std.proofs.lemmas.Bool.{cases_lt}
-use Rattle.std.proofs.lemmas.List.{get_or_default}
 use Rattle.std.proofs.lemmas.Cmp.{on_total, nat_list_cmp_total, alike_right}
 use Rattle.std.proofs.lemmas.Map.Text.{is_eq-slice_cmp}
 use Rattle.dns_name.specs.Names.{wire_of, folded, folded_eq, name_cmp}
@@ -57,17 +56,6 @@ module _ (name : List (List ℕ)) where
       ⊎_elim (λ less. step test low (get_or questions i d) (get_or questions j d) (far questions s i j d less within) passes high)
       (λ more. let same : j ≡ i = omega arith in ap (λ (k : ℕ). test (name_cmp (get_or questions k d).key.name name)) (sym same) ∙ passes)
       (cases_lt i j)
-
-  -- whether a question's name isn't above the name, at its place
-  pub at_place : (questions : List Tracked) (i : ℕ) (one d : Tracked) (b : Bool) → i < length questions → is_gt (name_cmp (get_or questions i one).key.name name) ≡ b →
-      is_le (name_cmp (get_or questions i d).key.name name) ≡ not b
-  at_place questions i one d b h e =
-      ap (λ (x : Tracked). is_le (name_cmp x.key.name name)) (sym (get_or_default questions i one d h)) ∙ of (name_cmp (get_or questions i one).key.name name) ∙ ap not e
-    where
-      of : (o : Ordering) → is_le o ≡ not (is_gt o)
-      of Less = refl
-      of Equal = refl
-      of Greater = refl
 
   -- the place behind the last question whose name isn't above the name, where it is reached from the first one of the name
   pub reached : (questions : List Tracked) (first end : ℕ) → IsStrict tracked_cmp questions →
@@ -144,3 +132,77 @@ module _ (name : List (List ℕ)) where
               element_at : (qs : List Tracked) (i : ℕ) → i < length qs → Tracked
               element_at [] i g = absurd (omega arith)
               element_at (q ∷ qs) i g = q
+
+  -- a question of the name stands neither below it nor above it
+  same_le : (one : Tracked) → folded_eq name one.key.name ≡ true → is_le (name_cmp one.key.name name) ≡ true
+  same_le one h = of (name_cmp one.key.name name) refl
+    where
+      of : (o : Ordering) → name_cmp one.key.name name ≡ o → is_le (name_cmp one.key.name name) ≡ true
+      of Less e = ap is_le e
+      of Equal e = ap is_le e
+      of Greater e = let no : true ≡ false = sym h ∙ turned_is name one.key.name Greater e in absurd (cc)
+
+  same_lt : (one : Tracked) → folded_eq name one.key.name ≡ true → is_lt (name_cmp one.key.name name) ≡ false
+  same_lt one h = of (name_cmp one.key.name name) refl
+    where
+      of : (o : Ordering) → name_cmp one.key.name name ≡ o → is_lt (name_cmp one.key.name name) ≡ false
+      of Less e = let no : true ≡ false = sym h ∙ turned_is name one.key.name Less e in absurd (cc)
+      of Equal e = ap is_lt e
+      of Greater e = ap is_lt e
+
+  -- one of another name that isn't below the name is above it
+  other_le : (one : Tracked) → folded_eq name one.key.name ≡ false → is_lt (name_cmp one.key.name name) ≡ false → is_le (name_cmp one.key.name name) ≡ false
+  other_le one h low = of (name_cmp one.key.name name) refl
+    where
+      of : (o : Ordering) → name_cmp one.key.name name ≡ o → is_le (name_cmp one.key.name name) ≡ false
+      of Less e = let no : true ≡ false = ap is_lt (sym e) ∙ low in absurd (cc)
+      of Equal e = let no : true ≡ false = sym (turned_is name one.key.name Equal e) ∙ h in absurd (cc)
+      of Greater e = ap is_le e
+
+  -- and one that isn't above it is below it
+  other_lt : (one : Tracked) → folded_eq name one.key.name ≡ false → is_le (name_cmp one.key.name name) ≡ true → is_lt (name_cmp one.key.name name) ≡ true
+  other_lt one h low = of (name_cmp one.key.name name) refl
+    where
+      of : (o : Ordering) → name_cmp one.key.name name ≡ o → is_lt (name_cmp one.key.name name) ≡ true
+      of Less e = ap is_lt e
+      of Equal e = let no : true ≡ false = sym (turned_is name one.key.name Equal e) ∙ h in absurd (cc)
+      of Greater e = let no : false ≡ true = ap is_le (sym e) ∙ low in absurd (cc)
+
+  -- the questions of the name from the first one that isn't below it on
+  pub run_of_name : (questions : List Tracked) (first end : ℕ) → IsStrict tracked_cmp questions → first ≤ end → end ≤ length questions →
+      IsPartitionPoint (λ one. is_lt (name_cmp one.key.name name) ≡ true) (λ one. is_lt (name_cmp one.key.name name) ≡ false) questions first →
+      ((k : ℕ) → k < end → (d : Tracked) → first ≤ k → folded_eq name (get_or questions k d).key.name ≡ true) →
+      ((d : Tracked) → end < length questions → folded_eq name (get_or questions end d).key.name ≡ false) → AreOfName questions name first end
+  run_of_name questions first end s order within lt named behind =
+      are_of_name questions first end (omega (arith, order, within)) within lt
+      (reached questions first end s lt (λ k h d g. same_le (get_or questions k d) (named k h d g))
+      (λ d h. other_le (get_or questions end d) (behind d h) (lt.1 end d order h)))
+
+  -- the first of the questions of the name that stand side by side is the first one that isn't below it
+  pub first_of_run : (questions : List Tracked) (first near : ℕ) → IsStrict tracked_cmp questions → first ≤ near → near < length questions →
+      ((d : Tracked) → folded_eq name (get_or questions near d).key.name ≡ true) →
+      ((k : ℕ) → k < near → (d : Tracked) → first ≤ k → folded_eq name (get_or questions k d).key.name ≡ true) →
+      ((k : ℕ) (d : Tracked) → suc k ≡ first → folded_eq name (get_or questions k d).key.name ≡ false) →
+      IsPartitionPoint (λ one. is_lt (name_cmp one.key.name name) ≡ true) (λ one. is_lt (name_cmp one.key.name name) ≡ false) questions first
+  first_of_run questions first near s order within at named before = (passed, past)
+    where
+      at_first : (d : Tracked) → folded_eq name (get_or questions first d).key.name ≡ true
+      at_first d =
+          ⊎_elim (λ less. named first less d (omega arith))
+          (λ more. let same : near ≡ first = omega (arith, more, order) in ap (λ (k : ℕ). folded_eq name (get_or questions k d).key.name) (sym same) ∙ at d)
+          (cases_lt first near)
+
+      passed : (k : ℕ) (d : Tracked) → 0 ≤ k → k < first → is_lt (name_cmp (get_or questions k d).key.name name) ≡ true
+      passed k d h g =
+          let last : ℕ = first - 1 in
+          let next : suc last ≡ first = omega (arith, g) in
+          let le : is_le (name_cmp (get_or questions last d).key.name name) ≡ true =
+          parted is_le refl refl questions s last near d (omega (arith, next, order)) within (same_le (get_or questions near d) (at d)) in
+          parted is_lt refl refl questions s k last d (omega (arith, next, g)) (omega (arith, next, order, within)) (other_lt (get_or questions last d) (before last d next) le)
+
+      past : (k : ℕ) (d : Tracked) → first ≤ k → k < length questions → is_lt (name_cmp (get_or questions k d).key.name name) ≡ false
+      past k d h g = of (is_lt (name_cmp (get_or questions k d).key.name name)) refl
+        where
+          of : (b : Bool) → is_lt (name_cmp (get_or questions k d).key.name name) ≡ b → is_lt (name_cmp (get_or questions k d).key.name name) ≡ false
+          of false e = e
+          of true e = let no : true ≡ false = sym (parted is_lt refl refl questions s first k d h g e) ∙ same_lt (get_or questions first d) (at_first d) in absurd (cc)

@@ -10,7 +10,7 @@ ghost use Rattle.mdns_question.specs.Refreshing.{with_refresh, IsToldAt, moment_
 use crate::Tracked;
 use crate::changes::{note, put_refresh, put_refresh_at};
 use crate::kept::due_by_kept;
-use crate::named::places_of;
+use crate::named::{places_near, places_of};
 use crate::users::{add_user, take_user};
 use dns_name::Name;
 use dns_record::Key;
@@ -155,6 +155,13 @@ impl Asker {
         ensures { AreOfName self.now.questions name.now result.0 result.1 }
     {
         places_of(&self.questions, name)
+    }
+
+    /// The same. They are found at once where the question at the place `near` is one of the name.
+    pub fn places_near(&self, name: &Name, near: usize) -> (usize, usize)
+        ensures { AreOfName self.now.questions name.now result.0 result.1 }
+    {
+        places_near(&self.questions, name, near)
     }
 
     /// The questions that have users, by folded name and then by type.
