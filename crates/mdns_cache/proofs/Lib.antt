@@ -7,6 +7,7 @@ pub mod Names
 pub mod Paths
 pub mod Mending
 pub mod Played
+pub mod Replaying
 pub mod Root
 pub mod Visiting
 pub mod Once

@@ -14,7 +14,7 @@ pub record IsPlayedTo (held : List Held) (node : ℕ) (dirty : List ℕ) (nodes 
   pub won : (j : ℕ) → 1 ≤ j → j < length nodes → IsWon held nodes j ⊎ (IsOn (node / 2) j ⊎ IsOnAny (length nodes) dirty j)
 
 -- the winner is one of the two
-sooner_is : (held : List Held) (left right : ℕ) → (sooner held left right ≡ left) ⊎ (sooner held left right ≡ right)
+pub sooner_is : (held : List Held) (left right : ℕ) → (sooner held left right ≡ left) ⊎ (sooner held left right ≡ right)
 sooner_is held left right = of (slice_get held left) (slice_get held right)
   where
     by : (b : Bool) → (cond b left right ≡ left) ⊎ (cond b left right ≡ right)
@@ -39,7 +39,7 @@ winner_home nodes home k some = of (nat_lt k (length nodes)) refl
 
 module _ (nodes : List ℕ) (node v : ℕ) (within : node < length nodes) where
   -- a write leaves the winners of other nodes
-  winner_other : (k : ℕ) → k ≢ node → winner (set nodes node v) k ≡ winner nodes k
+  pub winner_other : (k : ℕ) → k ≢ node → winner (set nodes node v) k ≡ winner nodes k
   winner_other k other =
       ap (λ (n : ℕ). cond (nat_lt k n) (get_or (set nodes node v) k 0) (k - n)) (length-set nodes node v)
       ∙ ap (λ (w : ℕ). cond (nat_lt k (length nodes)) w (k - length nodes)) (get_or-set_other nodes node k v 0 other)

@@ -1,5 +1,6 @@
 // Which record ends first: a tournament over the places of a list.
 ghost use Rattle.std.specs.Prelude.{◌≡◌, ℕ, ◌+◌, ◌*◌, ◌<◌, ◌≤◌, ◌^◌, [], ◌∷◌, List, length, MatchOption, HoldsAt, IfOk};
+ghost use Rattle.by_name.specs.Filed.{AgreeBut};
 ghost use Rattle.mdns_cache.specs.Ends.{winner, sooner, IsPlayed, IsFirst};
 ghost use Rattle.mdns_cache.specs.Lifetimes.{ending_cmp};
 
@@ -59,6 +60,26 @@ pub fn mend(nodes: &mut [usize], held: &[Held], place: usize)
         let left = winner(nodes, 2 * node);
         let right = winner(nodes, 2 * node + 1);
         nodes[node] = sooner(held, left, right);
+    }
+}
+
+/// The same where the record at a place alone was changed since all was played: nothing above a node changes that another record wins as
+/// before.
+pub fn mend_changed(nodes: &mut [usize], held: &[Held], place: usize)
+    requires place { place < length nodes.old }
+    requires size { length nodes.old < 2 ^ 60 }
+    ensures { (before : List Held) → AgreeBut (place ∷ []) before held.now → IsPlayed before [] nodes.old → IsPlayed held.now [] nodes.new }
+{
+    let mut node = nodes.len() + place;
+    while node > 1 {
+        node /= 2;
+        let left = winner(nodes, 2 * node);
+        let right = winner(nodes, 2 * node + 1);
+        let first = sooner(held, left, right);
+        if first != place && nodes[node] == first {
+            return;
+        }
+        nodes[node] = first;
     }
 }
 

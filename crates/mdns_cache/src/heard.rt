@@ -13,9 +13,9 @@ ghost use Rattle.mdns_cache.specs.Lifetimes.{hearing_at, shortened, renewed, aft
 ghost use Rattle.mdns_cache.specs.Ends.{IsPlayed};
 ghost use Rattle.mdns_cache.specs.Named.{AreFiled, AreOnce};
 
-use crate::ends::mend;
+use crate::ends::{mend, mend_changed};
 use crate::holdings::Holdings;
-use crate::look::same_of;
+use crate::look::same_near;
 use by_name::Place;
 use dns_record::Rr;
 use mdns_history::Held;
@@ -43,14 +43,23 @@ pub fn hear_all(
     ensures spare { records.old.spare ≤ records.new.spare + length heard.items }
 {
     heard.reverse();
+    let mut near = 0;
     while let Some(rr) = heard.pop() {
-        hear_one(records, nodes, renewed(now, word, rr), heard.as_slice());
+        let one = renewed(now, word, rr);
+        near = hear_one(records, nodes, one, heard.as_slice(), near);
     }
 }
 
 // Hears one record, which is as it is held then: lives of its name are cut, what it is the same as gives way to it, and it is held
-// itself. Its flush is put off where one of these flushes the same, which are heard behind it.
-fn hear_one(records: &mut Holdings, nodes: &mut [usize], one: Held, later: &[Rr])
+// itself. Its flush is put off where one of these flushes the same, which are heard behind it. What it is the same as is looked for at the
+// index `near` first, and the index behind it is the result: mostly the records of a packet stand side by side, as they were heard before.
+fn hear_one(
+    records: &mut Holdings,
+    nodes: &mut [usize],
+    one: Held,
+    later: &[Rr],
+    near: usize,
+) -> usize
     requires bound { one.heard ≤ 2 ^ 53 }
     requires renewed { one ≡ renewed (hearing_at one.heard one.word one.rr) }
     requires filed { AreFiled records.old.entries }
@@ -67,7 +76,9 @@ fn hear_one(records: &mut Holdings, nodes: &mut [usize], one: Held, later: &[Rr]
 {
     shorten(records, nodes, one.heard, &one.rr, later);
     if one.rr.ttl > 0 {
-        renew(records, nodes, one);
+        renew(records, nodes, one, near)
+    } else {
+        near
     }
 }
 
@@ -199,7 +210,7 @@ fn cut_at(records: &mut Holdings, nodes: &mut [usize], index: usize, now: u64)
 {
     let end = records.values()[index].end;
     records.set_end(index, (now + 1000).min(end));
-    mend(nodes, records.values(), index);
+    mend_changed(nodes, records.values(), index);
 }
 
 fn renewed(now: u64, word: u32, rr: Rr) -> Held
@@ -215,8 +226,9 @@ fn renewed(now: u64, word: u32, rr: Rr) -> Held
     }
 }
 
-// Puts a record in place of the one that is the same, or behind the others of its name.
-fn renew(records: &mut Holdings, nodes: &mut [usize], one: Held)
+// Puts a record in place of the one that is the same, which is looked for at an index first, or behind the others of its name. The result
+// is the index behind it.
+fn renew(records: &mut Holdings, nodes: &mut [usize], one: Held, near: usize) -> usize
     requires filed { AreFiled records.old.entries }
     requires once { AreOnce (values_of records.old.entries) }
     requires played { IsPlayed (values_of records.old.entries) [] nodes.old }
@@ -229,9 +241,15 @@ fn renew(records: &mut Holdings, nodes: &mut [usize], one: Held)
     ensures room { length records.new.entries + records.new.spare ≡ length records.old.entries + records.old.spare }
     ensures spare { records.old.spare ≤ records.new.spare + 1 }
 {
-    match same_of(records, &one.rr) {
-        Ok(index) => put_at(records, nodes, index, one),
-        Err(place) => push(records, nodes, place, one),
+    match same_near(records, &one.rr, near) {
+        Ok(index) => {
+            put_at(records, nodes, index, one);
+            index.saturating_add(1)
+        }
+        Err(place) => {
+            push(records, nodes, place, one);
+            records.len()
+        }
     }
 }
 
@@ -250,7 +268,7 @@ fn put_at(records: &mut Holdings, nodes: &mut [usize], index: usize, one: Held)
     ensures spare { records.new.spare ≡ records.old.spare }
 {
     records.put(index, one);
-    mend(nodes, records.values(), index);
+    mend_changed(nodes, records.values(), index);
 }
 
 // Puts a record behind the others of its name.

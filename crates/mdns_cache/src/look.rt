@@ -38,3 +38,29 @@ pub fn same_of(records: &Holdings, rr: &Rr) -> Result<usize, Place>
         None => Err(records.end_of(&rr.owner)),
     }
 }
+
+/// The same, found at once where it is the record at the index `near`.
+pub fn same_near(records: &Holdings, rr: &Rr, near: usize) -> Result<usize, Place>
+    requires { AreFiled records.now.entries }
+    ensures found { IfOk result (λ index. (one : Held) × (slice_get (values_of records.now.entries) index ≡ Some one) × (same one.rr rr.now ≡ true)) }
+    ensures none { IfErr result (λ _. AllByRecursion (λ (one : Held). same one.rr rr.now ≡ false) (values_of records.now.entries)) }
+    ensures owner { IfErr result (λ place. place.owner ≡ owner_of rr.now.owner) }
+    ensures absent { IfErr result (λ place. found place.owner place.number records.now.entries ≡ None) }
+    ensures next { IfErr result (λ place. (number : ℕ) → suc number ≡ place.number → IsSome (found place.owner number records.now.entries)) }
+{
+    if is_same_at(records.values(), rr, near) {
+        Ok(near)
+    } else {
+        same_of(records, rr)
+    }
+}
+
+// Whether the record at an index is the same as this one.
+fn is_same_at(held: &[Held], rr: &Rr, index: usize) -> bool
+    ensures { result ≡ true → (one : Held) × (slice_get held.now index ≡ Some one) × (same one.rr rr.now ≡ true) }
+{
+    match held.get(index) {
+        Some(one) => one.rr.same(rr),
+        None => false,
+    }
+}

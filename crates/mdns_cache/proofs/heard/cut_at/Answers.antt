@@ -4,10 +4,10 @@ use Rattle.std.proofs.lemmas.Map.Entries.{length-values_of}
 use Rattle.std.proofs.lemmas.Option.{get_or_from_slice_get, slice_get-get_or}
 use Rattle.indexmap.specs.Layout.{set_value_at}
 use Rattle.mdns_history.specs.declared.held.Held.{Held}
+use Rattle.by_name.specs.Filed.{AgreeBut}
 use Rattle.by_name.proofs.Changes.{agree-set}
 use Rattle.mdns_cache.specs.Ends.{IsPlayed}
 use Rattle.mdns_cache.specs.Named.{Entry}
-use Rattle.mdns_cache.proofs.Played.{played_changed}
 use Rattle.mdns_cache.proofs.heard.cut_at.Goals as goal
 
 pub returns-clause-entries : goal.returns-clause-entries
@@ -29,6 +29,5 @@ returns-clause-played c =
     let new : Held = record { rr = old.rr; heard = old.heard; word = old.word; end = c.min.result } in
     let is : c.set_end.new.self.entries ≡ set_value_at es index new = c.set_end.ensures.entries old there in
     let same : c.values-2.result.now ≡ values_of (set_value_at es index new) = c.values-2.ensures ∙ ap values_of is in
-    subst (λ (h : List Held). IsPlayed h [] c.mend.new.nodes) c.values-2.ensures
-    (c.mend.ensures [] (subst (λ (h : List Held). IsPlayed h (index ∷ []) c.args.nodes.now) (sym same)
-    (played_changed (values_of es) (values_of (set_value_at es index new)) (index ∷ []) c.args.nodes.now (agree-set es index new) c.requires.played)))
+    subst (λ (h : List Held). IsPlayed h [] c.mend_changed.new.nodes) c.values-2.ensures
+    (c.mend_changed.ensures (values_of es) (subst (λ (h : List Held). AgreeBut (index ∷ []) (values_of es) h) (sym same) (agree-set es index new)) c.requires.played)

@@ -4,12 +4,12 @@ use Rattle.indexmap.specs.Layout.{set_value_at}
 use Rattle.dns_record.proofs.Same.{same_tells}
 use Rattle.mdns_history.specs.declared.held.Held.{Held}
 use Rattle.mdns_history.specs.Lifetimes.{is_other}
+use Rattle.by_name.specs.Filed.{AgreeBut}
 use Rattle.by_name.proofs.Changes.{agree-set, values-set_value_at}
 use Rattle.by_name.proofs.Removed.{length-put}
 use Rattle.mdns_cache.specs.Ends.{IsPlayed}
 use Rattle.mdns_cache.specs.Named.{Entry, AreFiled}
 use Rattle.mdns_cache.proofs.Once.{one_same}
-use Rattle.mdns_cache.proofs.Played.{played_changed}
 use Rattle.mdns_cache.proofs.Visiting.{filed_put}
 use Rattle.mdns_cache.proofs.heard.put_at.Goals as goal
 
@@ -29,9 +29,8 @@ returns-clause-played c =
     let entries : List Entry = c.args.records.now.entries in
     let after : List Held = values_of (set_value_at entries c.args.index c.args.one) in
     let same : c.values.result.now ≡ after = c.values.ensures ∙ ap values_of c.put.ensures.entries in
-    subst (λ (h : List Held). IsPlayed h [] c.mend.new.nodes) c.values.ensures
-    (c.mend.ensures [] (subst (λ (h : List Held). IsPlayed h (c.args.index ∷ []) c.args.nodes.now) (sym same)
-    (played_changed (values_of entries) after (c.args.index ∷ []) c.args.nodes.now (agree-set entries c.args.index c.args.one) c.requires.played)))
+    subst (λ (h : List Held). IsPlayed h [] c.mend_changed.new.nodes) c.values.ensures
+    (c.mend_changed.ensures (values_of entries) (subst (λ (h : List Held). AgreeBut (c.args.index ∷ []) (values_of entries) h) (sym same) (agree-set entries c.args.index c.args.one)) c.requires.played)
 
 pub returns-clause-len : goal.returns-clause-len
 returns-clause-len c = ap length c.put.ensures.entries ∙ length-put c.args.records.now.entries c.args.index c.args.one
