@@ -3,6 +3,7 @@ ghost use Rattle.std.specs.Prelude.{IfOk, OnOk, [], ◌∷◌, map, ◌++◌, �
 ghost use Rattle.std.specs.List.{list_any};
 ghost use Rattle.lists.specs.Lists.{ordered};
 ghost use Rattle.dns_record.specs.Records.{record_cmp, same};
+ghost use Rattle.mdns_claimants.specs.Bits.{bit_of};
 ghost use Rattle.mdns_claims.specs.Behind.{ends_by};
 ghost use Rattle.mdns_claims.specs.Owned.{own_in};
 ghost use Rattle.mdns_claims.specs.Planned.{going_on};
@@ -14,6 +15,8 @@ use crate::announcing::send_to_all;
 use crate::responder::Responder;
 use dns_message::Rrs;
 use dns_record::{Rr, put_copies};
+use mdns_claimants::ours::has_record;
+use mdns_claimants::owners::bit_of;
 use mdns_claims::{Claimant, ends};
 use mdns_history::Sends;
 use mdns_pack::{in_order, pack_plain};
@@ -62,20 +65,22 @@ impl Responder<'_> {
     fn is_still_own(&self, rr: &Rr) -> bool
         ensures { result ≡ list_any (same rr.now) (own_in (going_on (told_by self.now.behind.now.means.happened.now) [] self.now.behind.now.groups.now)) }
     {
+        let bit = bit_of(&rr.owner);
         let groups = self.behind.groups;
         for one in groups {
-            if self.is_of(one, rr) {
+            if self.is_of(one, rr, bit) {
                 return true;
             }
         }
         false
     }
 
-    // Whether a group is sure, goes on and has a record.
-    fn is_of(&self, one: &Claimant, rr: &Rr) -> bool
+    // Whether a group is sure, goes on and has a record, whose owner's bit is given.
+    fn is_of(&self, one: &Claimant, rr: &Rr, bit: u64) -> bool
+        requires { bit ≡ bit_of rr.now.owner }
         ensures { result ≡ list_any (same rr.now) (own_in (going_on (told_by self.now.behind.now.means.happened.now) [] (one.now ∷ []))) }
     {
-        one.claim().sure && !self.has_ended(one) && has_record(one, rr)
+        !self.has_ended(one) && has_record(one, rr, bit)
     }
 
     // Whether a group ends with its operation.
@@ -86,18 +91,4 @@ impl Responder<'_> {
         let happened = behind.means.happened;
         ends(happened, &[], one.naming())
     }
-}
-
-// Whether a group has a record.
-fn has_record(one: &Claimant, rr: &Rr) -> bool
-    ensures { result ≡ list_any (same rr.now) (one.now.claim.unique ++ one.now.claim.shared) }
-{
-    let claim = one.claim();
-    has(claim.unique.as_slice(), rr) || has(claim.shared.as_slice(), rr)
-}
-
-fn has(some: &[Rr], rr: &Rr) -> bool
-    ensures { result ≡ list_any (same rr.now) some.now }
-{
-    some.iter().any(|one| rr.same(one))
 }
