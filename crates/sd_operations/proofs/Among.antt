@@ -1,9 +1,8 @@
--- Whether a list in order has an answer is what a binary search finds; a list of one answer is in order.
-use Rattle.std.proofs.Common.{◌≡◌, ℕ, true, false, List, length, Option, Some, None, get_or, refl, ap, ◌∙◌, sym, arith, inl, inr, Ordering, Less, Equal, Greater, Result, Ok, Err}
+-- Whether a list in order has an answer is what a binary search finds.
+use Rattle.std.proofs.Common.{◌≡◌, ℕ, ◌<◌, Bool, true, false, List, length, get_or, refl, ap, ◌∙◌, sym, arith, inl, inr, Ordering, Less, Equal, Greater, Result, Ok, Err}
 use Rattle.std.specs.List.{list_any}
 use Rattle.std.specs.List.Sorted.{IsSorted, IsBinarySearchResult, IsSearchInRange}
 use Rattle.std.specs.Ordering.{is_eq, ordering_reverse}
-use Rattle.std.specs.Option.{option_to_list}
 use Rattle.std.specs.Result.{is_ok}
 use Rattle.std.specs.Cmp.{IsTotalOrder}
 use Rattle.std.proofs.lemmas.Cmp.{on_total, nat_list_cmp_total}
@@ -38,6 +37,9 @@ found answer others sorted (Err i) within at =
     sym (list_any_none (answer_eq answer) others
     (λ k d h. elim (cases_lt k i) [ inl below ↦ apart answer (get_or others k d) Less refl (parts.0 k d (omega arith) below) | inr from ↦ apart answer (get_or others k d) Greater refl (parts.1 k d from h) ]))
 
-pub one_sorted : (answer : Option Answer) → IsSorted answer_cmp (option_to_list answer)
-one_sorted None = λ k d low high. absurd (omega arith)
-one_sorted (Some answer) = λ k d low high. absurd (omega arith)
+-- an answer that stands at a place is among them
+pub found_at : (answer other : Answer) (others : List Answer) (i : ℕ) (order : Ordering) (equal : Bool) → i < length others → other ≡ get_or others i answer → order ≡ answer_cmp answer other →
+    equal ≡ is_eq order → equal ≡ true → true ≡ list_any (answer_eq answer) others
+unfolding answer_eq
+found_at answer other others i order equal within is compared tested e =
+    sym (list_any_at (answer_eq answer) others i answer within (sym (tested ∙ ap is_eq (compared ∙ ap (answer_cmp answer) is)) ∙ e))
