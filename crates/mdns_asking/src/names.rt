@@ -1,5 +1,5 @@
 // Which names are to be walked for the questions.
-ghost use Rattle.std.specs.Prelude.{◌≡◌, ℕ, ◌<◌, List, [], Bool, ◌&&◌, true, length, OnOk};
+ghost use Rattle.std.specs.Prelude.{◌≡◌, ℕ, ◌<◌, List, [], Bool, ◌&&◌, true, length, slice_index_or, OnOk};
 ghost use Rattle.std.specs.List.{list_any, All, AllByRecursion};
 ghost use Rattle.dns_name.specs.Names.{folded_eq};
 ghost use Rattle.dns_record.specs.declared.record.Key.{Key};
@@ -33,10 +33,34 @@ pub fn put_names_at(
         → ArePutOnly (λ name. list_any (λ one. test one && folded_eq name one.key.name) questions.now) names.old.items names.new.items) }
     ensures once { OnOk result (ArePutOnce names.old.items names.new.items) }
 {
+    let mut near = 0;
     for place in places {
-        put_once(names, &questions[*place].key.name)?;
+        near = put_near(names, &questions[*place].key.name, near)?;
     }
     Ok(())
+}
+
+// Puts a name that isn't among others, case aside, and gives a place behind where it stands. It is looked for at the place `near` first:
+// mostly the names of touched questions are there already, in their order.
+fn put_near(names: &mut Vec<Name>, name: &Name, near: usize) -> Result<usize, AllocError>
+    ensures kept { OnOk result ((other : List (List ℕ)) → is_among names.old.items other ≡ true → is_among names.new.items other ≡ true) }
+    ensures put { OnOk result (is_among names.new.items name.now ≡ true) }
+    ensures only { OnOk result (ArePutOnly (λ other. folded_eq other name.now) names.old.items names.new.items) }
+    ensures once { OnOk result (ArePutOnce names.old.items names.new.items) }
+{
+    if is_name_at(names, name, near) {
+        return Ok(near.saturating_add(1));
+    }
+    put_once(names, name)?;
+    Ok(names.len())
+}
+
+// Whether the name at a place is this one, case aside.
+fn is_name_at(names: &[Name], name: &Name, place: usize) -> bool
+    ensures within { result ≡ true → place < length names.now }
+    ensures named { result ≡ true → (d : List (List ℕ)) → folded_eq name.now (slice_index_or names.now place d) ≡ true }
+{
+    place < names.len() && name.folded_eq(&names[place])
 }
 
 /// Puts the names of the questions that get a user. Refused only for want of memory.

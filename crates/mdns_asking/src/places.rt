@@ -89,8 +89,9 @@ impl Places {
     fn put_names(&mut self, asker: &Asker, names: &[Name]) -> Result<(), AllocError>
         ensures { OnOk result (ArePut (λ one. is_among names.now one.key.name) asker.now.questions self.old.places.items self.new.places.items) }
     {
+        let mut near = 0;
         for name in names {
-            self.put_name(asker, name)?;
+            near = self.put_name(asker, name, near)?;
         }
         Ok(())
     }
@@ -99,21 +100,23 @@ impl Places {
     fn put_walks(&mut self, asker: &Asker, walks: &[Walk]) -> Result<(), AllocError>
         ensures { OnOk result (ArePut (λ one. is_walked walks.now one.key.name) asker.now.questions self.old.places.items self.new.places.items) }
     {
+        let mut near = 0;
         for walk in walks {
-            self.put_name(asker, &walk.name)?;
+            near = self.put_name(asker, &walk.name, near)?;
         }
         Ok(())
     }
 
-    // Puts the places of the questions of a name.
-    fn put_name(&mut self, asker: &Asker, name: &Name) -> Result<(), AllocError>
+    // Puts the places of the questions of a name, and gives the place behind the last. They are found at once from a place near them:
+    // mostly names come in the order of their questions.
+    fn put_name(&mut self, asker: &Asker, name: &Name, near: usize) -> Result<usize, AllocError>
         ensures { OnOk result (ArePut (λ one. folded_eq name.now one.key.name) asker.now.questions self.old.places.items self.new.places.items) }
     {
-        let (first, end) = asker.places_of(name);
+        let (first, end) = asker.places_near(name, near);
         for place in first..end {
             self.places.push(place)?;
         }
-        Ok(())
+        Ok(end)
     }
 
     // Puts the places of the questions that an event may ask, by what is kept of them, and once time has passed by walks.

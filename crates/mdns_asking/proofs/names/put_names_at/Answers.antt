@@ -12,14 +12,14 @@ loop-place-preserved c =
     let place : ℕ = get_or c.args.places.now c.loop-place.place-index 0 in
     let is : place ≡ get_or c.args.places.now c.loop-place.place-index place = get_or_default c.args.places.now c.loop-place.place-index 0 place c.loop-place-test.true in
     record {
-      kept = λ name h. c.in_ok-put_once.ensures.kept name (c.loop-place.invariant.kept name h);
-      named = named_next c.args.questions.now c.args.places.now c.loop-place.place-index place c.index-questions-place.result c.loop-place.names.items c.put_once.new.names.items
-          c.loop-place-test.true is (c.requires c.loop-place.place-index 0 c.loop-place-test.true) c.index-questions-place.is c.in_ok-put_once.ensures.kept
-          (subst (λ (x : Tracked). is_among c.put_once.new.names.items x.key.name ≡ true) (sym c.index-questions-place.is) c.in_ok-put_once.ensures.put) c.loop-place.invariant.named;
+      kept = λ name h. c.in_ok-near.ensures.kept name (c.loop-place.invariant.kept name h);
+      named = named_next c.args.questions.now c.args.places.now c.loop-place.place-index place c.index-questions-place.result c.loop-place.names.items c.put_near.new.names.items
+          c.loop-place-test.true is (c.requires c.loop-place.place-index 0 c.loop-place-test.true) c.index-questions-place.is c.in_ok-near.ensures.kept
+          (subst (λ (x : Tracked). is_among c.put_near.new.names.items x.key.name ≡ true) (sym c.index-questions-place.is) c.in_ok-near.ensures.put) c.loop-place.invariant.named;
       only = λ test put. only_again test c.args.questions.now c.args.places.now c.loop-place.place-index place c.index-questions-place.result
-          c.args.names.now.items c.loop-place.names.items c.put_once.new.names.items c.loop-place-test.true is put c.index-questions-place.is (c.loop-place.invariant.only test put)
-          (subst (λ (x : Tracked). ArePutOnly (λ name. folded_eq name x.key.name) c.loop-place.names.items c.put_once.new.names.items) (sym c.index-questions-place.is) c.in_ok-put_once.ensures.only);
-      once = λ e. c.in_ok-put_once.ensures.once (c.loop-place.invariant.once e);
+          c.args.names.now.items c.loop-place.names.items c.put_near.new.names.items c.loop-place-test.true is put c.index-questions-place.is (c.loop-place.invariant.only test put)
+          (subst (λ (x : Tracked). ArePutOnly (λ name. folded_eq name x.key.name) c.loop-place.names.items c.put_near.new.names.items) (sym c.index-questions-place.is) c.in_ok-near.ensures.only);
+      once = λ e. c.in_ok-near.ensures.once (c.loop-place.invariant.once e);
     }
 
 pub returns-clause-named : goal.returns-clause-named

@@ -9,8 +9,8 @@ loop-left-init c = record { within = omega arith; told = none_yet c.args.walks.n
 pub loop-left-preserved : goal.loop-left-preserved
 loop-left-preserved c = record {
   within = omega arith;
-  told = walk_more c.args.walks.now (c.loop-left.left - 1) c.loop-left.left c.index-walks-left.result c.args.asker.now.questions c.loop-left.asker.questions c.tell_points_of.new.asker.questions
-      (omega arith) (omega arith) c.index-walks-left.is c.loop-left.invariant.told c.tell_points_of.ensures;
+  told = walk_more c.args.walks.now (c.loop-left.left - 1) c.loop-left.left c.index-walks-left.result c.args.asker.now.questions c.loop-left.asker.questions c.tell_points_of-near.new.asker.questions
+      (omega arith) (omega arith) c.index-walks-left.is c.loop-left.invariant.told c.tell_points_of-near.ensures;
 }
 
 pub returns : goal.returns

@@ -16,7 +16,7 @@ loop-name-preserved c =
     put_more (λ (one : Tracked) (name : List (List ℕ)). folded_eq one.key.name name) c.args.names.now c.loop-name.name-index c.name-item.result c.args.asker.now.questions
     c.args.self.now.places.items c.loop-name.self.places.items c.put_name.new.self.places.items c.loop-name-test.true c.name-item.is c.loop-name.invariant
     (put_like (λ one. folded_eq c.name-item.result one.key.name) (λ one. folded_eq one.key.name c.name-item.result) c.args.asker.now.questions c.loop-name.self.places.items c.put_name.new.self.places.items
-    (λ one. folded_eq-equivalence.symm c.name-item.result one.key.name) c.in_ok-put_name.ensures)
+    (λ one. folded_eq-equivalence.symm c.name-item.result one.key.name) c.in_ok-near.ensures)
 
 pub returns : goal.returns
 returns c =

@@ -14,7 +14,7 @@ loop-walk-init c = put_none (λ one. list_any (is_for one.key.name) (take 0 c.ar
 pub loop-walk-preserved : goal.loop-walk-preserved
 loop-walk-preserved c =
     put_more (λ (one : Tracked) (walk : Walk). is_for one.key.name walk) c.args.walks.now c.loop-walk.walk-index c.walk-item.result c.args.asker.now.questions
-    c.args.self.now.places.items c.loop-walk.self.places.items c.put_name.new.self.places.items c.loop-walk-test.true c.walk-item.is c.loop-walk.invariant c.in_ok-put_name.ensures
+    c.args.self.now.places.items c.loop-walk.self.places.items c.put_name.new.self.places.items c.loop-walk-test.true c.walk-item.is c.loop-walk.invariant c.in_ok-near.ensures
 
 pub returns : goal.returns
 returns c =
