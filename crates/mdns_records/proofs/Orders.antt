@@ -26,7 +26,7 @@ equal_from Less h = absurd (cc)
 equal_from Equal h = refl
 equal_from Greater h = absurd (cc)
 
-tied_alike : (one other : List (List ℕ)) → folded_eq one other ≡ is_eq (name_cmp one other)
+pub tied_alike : (one other : List (List ℕ)) → folded_eq one other ≡ is_eq (name_cmp one other)
 tied_alike one other =
     both (folded_eq one other) (is_eq (name_cmp one other))
     (λ e. ap is_eq ((name_cmp-equal one other).1 ((folded_eq-tells one other).0 e)))

@@ -16,6 +16,10 @@ held_after moment word heard held = after_hearings (filter (is_live_at moment) h
 abbrev pub is_named : List (List ℕ) → Rr → Bool
 is_named name rr = folded_eq rr.owner name
 
+-- what those of some records do that are of a name
+abbrev pub after_rest : ℕ → ℕ → List (List ℕ) → List Held → List Rr → List Held
+after_rest moment word name held heard = after_hearings held (map (hearing_at moment word) (filter (is_named name) heard))
+
 -- Names have all those whose records an event changes that brings these records: the records of any other name stay.
 abbrev pub AreTouched : ℕ → List Rr → List Held → List (List (List ℕ)) → Type 0
 AreTouched moment heard held names =

@@ -1,8 +1,8 @@
 // What hearings do to the records of a name, in a copy of them.
-ghost use Rattle.std.specs.Prelude.{◌≡◌, ◌+◌, ◌≤◌, ◌^◌, map, filter, IfOk, OnOk};
-ghost use Rattle.mdns_history.specs.Lifetimes.{cuts, is_live_at};
-ghost use Rattle.mdns_cache.specs.Lifetimes.{hearing_at, shortened, after_hearing};
-ghost use Rattle.mdns_records.specs.After.{held_after, is_named};
+ghost use Rattle.std.specs.Prelude.{◌≡◌, ◌+◌, ◌<◌, ◌≤◌, ◌^◌, ◌&&◌, ◌++◌, ◌∷◌, [], map, filter, length, position, IfOk, IfSome, OnOk};
+ghost use Rattle.mdns_history.specs.Lifetimes.{cuts, is_live_at, is_other};
+ghost use Rattle.mdns_cache.specs.Lifetimes.{hearing_at, shortened, renewed, after_hearing};
+ghost use Rattle.mdns_records.specs.After.{held_after, after_rest, is_named};
 
 use crate::copies::{put_copy, put_held};
 use dns_name::Name;
@@ -21,20 +21,51 @@ pub fn heard_copy(
 ) -> Result<Vec<Held>, AllocError>
     ensures { IfOk result (λ later. later.items ≡ held_after when.moment when.word (filter (is_named name.now) heard.now) earlier.now) }
 {
-    let mut later = live_copies(alloc, earlier, when.moment)?;
-    for rr in heard {
-        if rr.owner.folded_eq(name) {
-            hear_one(&mut later, when, rr)?;
+    match first_of(name, heard) {
+        Some(first) => {
+            let mut later = first_heard_copy(alloc, earlier, when, &heard[first])?;
+            hear_all(&mut later, name, when, &heard[first + 1..])?;
+            Ok(later)
+        }
+        None => {
+            let later = live_copies(alloc, earlier, when.moment)?;
+            Ok(later)
         }
     }
+}
+
+// The place of the first of some records that is of a name.
+fn first_of(name: &Name, heard: &[Rr]) -> Option<usize>
+    ensures is { result ≡ position (is_named name.now) heard.now }
+    ensures within { IfSome result (λ first. first < length heard.now) }
+{
+    heard.iter().position(|rr| rr.owner.folded_eq(name))
+}
+
+// The records that are live, copied, once one more is heard: what that is the same as isn't copied.
+fn first_heard_copy(
+    alloc: Global,
+    earlier: &[Held],
+    when: When,
+    rr: &Rr,
+) -> Result<Vec<Held>, AllocError>
+    ensures { IfOk result (λ later. later.items ≡ after_hearing (filter (is_live_at when.moment) earlier.now) (hearing_at when.moment when.word rr.now)) }
+{
+    if rr.ttl == 0 {
+        let mut later = live_copies(alloc, earlier, when.moment)?;
+        shorten(&mut later, when.moment, rr);
+        return Ok(later);
+    }
+    let mut later = other_copies(alloc, earlier, when.moment, rr)?;
+    renew(&mut later, when, rr)?;
     Ok(later)
 }
 
-// Those of the records that are live at `now`, in ms, copied. There is room for one more: most names own one record of a packet.
+// Those of the records that are live at `now`, in ms, copied.
 fn live_copies(alloc: Global, held: &[Held], now: u64) -> Result<Vec<Held>, AllocError>
     ensures { IfOk result (λ live. live.items ≡ filter (is_live_at now) held.now) }
 {
-    let mut live = Vec::with_capacity(alloc, held.len().saturating_add(1))?;
+    let mut live = Vec::with_capacity(alloc, held.len())?;
     for one in held {
         if now < one.end {
             put_copy(&mut live, one)?;
@@ -43,16 +74,55 @@ fn live_copies(alloc: Global, held: &[Held], now: u64) -> Result<Vec<Held>, Allo
     Ok(live)
 }
 
+// Those of them that aren't the same as a record. There is room for one more: most names own one record of a packet.
+fn other_copies(alloc: Global, held: &[Held], now: u64, rr: &Rr) -> Result<Vec<Held>, AllocError>
+    ensures { IfOk result (λ live. live.items ≡ filter (λ one. is_live_at now one && is_other rr.now one) held.now) }
+{
+    let mut live = Vec::with_capacity(alloc, held.len().saturating_add(1))?;
+    for one in held {
+        if is_live_other(one, now, rr) {
+            put_copy(&mut live, one)?;
+        }
+    }
+    Ok(live)
+}
+
+// Whether a record is live at `now`, in ms, and not the same as another.
+fn is_live_other(one: &Held, now: u64, rr: &Rr) -> bool
+    ensures { result ≡ (is_live_at now one.now && is_other rr.now one.now) }
+{
+    now < one.end && !one.rr.same(rr)
+}
+
+// Hears those of the records that are of a name, one after another.
+fn hear_all(held: &mut Vec<Held>, name: &Name, when: When, heard: &[Rr]) -> Result<(), AllocError>
+    ensures { OnOk result (held.new.items ≡ after_rest when.moment when.word name.now held.old.items heard.now) }
+{
+    for rr in heard {
+        if rr.owner.folded_eq(name) {
+            hear_one(held, when, rr)?;
+        }
+    }
+    Ok(())
+}
+
 // Hears one record: what it is the same as is dropped, other lives are cut, and it is held itself, copied.
 fn hear_one(held: &mut Vec<Held>, when: When, rr: &Rr) -> Result<(), AllocError>
     ensures { OnOk result (held.new.items ≡ after_hearing held.old.items (hearing_at when.moment when.word rr.now)) }
 {
-    let now = when.moment;
     if rr.ttl == 0 {
-        shorten(held, now, rr);
+        shorten(held, when.moment, rr);
         return Ok(());
     }
     drop_same(held, rr);
+    renew(held, when, rr)
+}
+
+// The same of one that isn't a goodbye, where what it is the same as isn't there.
+fn renew(held: &mut Vec<Held>, when: When, rr: &Rr) -> Result<(), AllocError>
+    ensures { OnOk result (held.new.items ≡ map (shortened (hearing_at when.moment when.word rr.now)) held.old.items ++ renewed (hearing_at when.moment when.word rr.now) ∷ []) }
+{
+    let now = when.moment;
     shorten(held, now, rr);
     let end = now + 1000 * u64::from(rr.ttl);
     put_held(held, rr, now, when.word, end)

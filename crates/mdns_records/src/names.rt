@@ -29,6 +29,6 @@ fn in_order(mut names: Vec<Name>) -> Result<Vec<Name>, AllocError>
     ensures { IfOk result (λ sorted. sorted.items ≡ ordered name_cmp names.items) }
 {
     names.sort_by(|left, right| left.folded_cmp(right))?;
-    names.dedup_by(|later, kept| later.folded_cmp(kept).is_eq());
+    names.dedup_by(|later, kept| later.folded_eq(kept));
     Ok(names)
 }
