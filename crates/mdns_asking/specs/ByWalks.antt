@@ -1,5 +1,5 @@
 -- What is asked and sent, as it is seen on the walks of names: questions of other names are as what is kept of them says. (RFC 6762 5.2, 7.1 and 7.3)
-use Rattle.std.specs.Prelude.{ℕ, Bool, List, [], map, filter, Option, Some, None, if◌then◌else◌}
+use Rattle.std.specs.Prelude.{ℕ, nat_le, Bool, List, [], map, filter, Option, Some, None, if◌then◌else◌}
 use Rattle.std.specs.List.{flat_map, filter_map}
 use Rattle.std.specs.Option.{option_map}
 use Rattle.dns_name.specs.Names.{folded_eq}
@@ -44,6 +44,11 @@ timed_by walks one = timed_in one (walk_of one.key.name walks)
 -- a question with the first refresh point of a walk's later records, if the walk is of its name
 abbrev pub timed_if : Walk → Tracked → Tracked
 timed_if walk one = if folded_eq walk.name one.key.name then timed walk.later.items one else one
+
+-- why a question whose turn in its series hasn't come is asked, if it is due by this refresh point
+abbrev pub refresh_cause : ℕ → Option ℕ → Option Cause
+refresh_cause moment None = None
+refresh_cause moment (Some point) = if nat_le point moment then Some cause.Refresh else None
 
 -- a question with its cause, if it is due
 abbrev pub due_by : List Walk → ℕ → Tracked → Option (Key × Cause)

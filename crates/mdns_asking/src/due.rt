@@ -5,7 +5,7 @@ ghost use Rattle.std.specs.Option.{option_map, option_to_list};
 ghost use Rattle.mdns_happened.specs.Told.{told_by};
 ghost use Rattle.mdns_question.specs.Refreshing.{cause_of};
 ghost use Rattle.mdns_asking.specs.Walked.{AreHeard};
-ghost use Rattle.mdns_asking.specs.ByWalks.{timed_by, cause_by, asked_by};
+ghost use Rattle.mdns_asking.specs.ByWalks.{timed_by, cause_by, refresh_cause, asked_by};
 
 use crate::message::is_heard_by;
 use crate::places::near_places;
@@ -89,21 +89,20 @@ fn put_asked(
     Ok(())
 }
 
-// Why the question is asked, if it is due.
+// Why the question is asked, if it is due. Its turn in the series goes before a refresh, so no refresh point is looked for then.
 fn cause_of(one: &Tracked, when: When, walks: &[Walk]) -> Option<Cause>
     ensures { result ≡ cause_of when.moment (timed_by walks.now one.now) }
 {
-    cause_with(one, point_of(one, walks), when.moment)
-}
-
-// Why a question is asked at `now`, in ms, if it is due where this is its refresh point: its turn in the series goes before a
-// refresh.
-fn cause_with(one: &Tracked, point: Option<u64>, now: u64) -> Option<Cause>
-    ensures { result ≡ cause_of now (record one.now { refresh = point }) }
-{
-    if one.next <= now {
+    if one.next <= when.moment {
         return Some(Cause::Series);
     }
+    refresh_cause(point_of(one, walks), when.moment)
+}
+
+// Why a question whose turn hasn't come is asked at `now`, in ms, if it is due where this is its refresh point.
+fn refresh_cause(point: Option<u64>, now: u64) -> Option<Cause>
+    ensures { result ≡ refresh_cause now point }
+{
     match point {
         Some(point) if point <= now => Some(Cause::Refresh),
         _ => None,
