@@ -17,3 +17,4 @@ pub mod FewUses
 pub mod ActiveKeys
 pub mod TrackedKeys
 pub mod Askings
+pub mod Listings

@@ -6,13 +6,12 @@ ghost use Rattle.mdns_asking.specs.Walked.{AreHeard};
 ghost use Rattle.mdns_asking.specs.ByWalks.{known_by, queries_by, sent_by};
 
 use crate::walked::later_of;
-use dns_message::Rrs;
-use dns_record::{Key, Rr};
+use dns_record::Key;
 use mdns_base::Dest;
 use mdns_happened::{Happened, Walk, When};
 use mdns_history::{Cause, Sends, Sent};
-use mdns_known::known_answers;
-use mdns_pack::{Messages, in_order, pack_query};
+use mdns_known::put_known_listings;
+use mdns_pack::{Listing, Messages, listings_in_order, pack_listings};
 use std::alloc::{AllocError, Global};
 
 /// The queries: once time has passed those of the questions that are asked, with the known answers of all of them. Refused only for
@@ -58,34 +57,25 @@ fn queries_for(
     ensures { IfOk result (λ messages. map to_all messages ≡ queries_by walks.now when.moment keys.now) }
 {
     let known = all_known(alloc, when, walks, keys)?;
-    pack_query(alloc, keys, &known)
+    pack_listings(alloc, keys, &known)
 }
 
 // The known answers of questions, each once and in record order: those of each question are over the later records of its name.
-#[tactic(auto, unfolding(crate::specs::ByWalks::known_by))]
-fn all_known(alloc: Global, when: When, walks: &[Walk], keys: &[Key]) -> Result<Rrs, AllocError>
+fn all_known<'a>(
+    alloc: Global,
+    when: When,
+    walks: &'a [Walk],
+    keys: &[Key],
+) -> Result<Vec<Listing<'a>>, AllocError>
     requires { AreHeard when.moment walks.now }
-    ensures { IfOk result (λ known. known ≡ known_by keys.now walks.now when.moment) }
+    ensures { IfOk result (λ known. known.items ≡ known_by keys.now walks.now when.moment) }
 {
     let mut all = Vec::new(alloc);
     for key in keys {
         let held = later_of(&key.name, walks);
-        let known = known_answers(alloc, key, held, when.moment)?;
-        put_all(&mut all, known.into_vec())?;
+        put_known_listings(alloc, &mut all, key, held, when.moment)?;
     }
-    in_order(all)
-}
-
-// Puts records behind others. Where there are no others, they stay where they stand.
-fn put_all(all: &mut Vec<Rr>, mut more: Vec<Rr>) -> Result<(), AllocError>
-    ensures { OnOk result (all.new.items ≡ all.old.items ++ more.items) }
-{
-    if all.is_empty() {
-        *all = more;
-    } else {
-        all.append(&mut more)?;
-    }
-    Ok(())
+    listings_in_order(all)
 }
 
 /// Puts messages behind others that are sent, each to all. Refused only for want of memory.
