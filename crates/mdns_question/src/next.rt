@@ -2,27 +2,36 @@
 ghost use Rattle.std.specs.Prelude.{◌≡◌, filter, min, IsTrue, if◌then◌else◌};
 ghost use Rattle.lists.specs.Lists.{least_of};
 ghost use Rattle.mdns_history.specs.Asking.{refresh_points};
-ghost use Rattle.mdns_question.specs.Next.{is_wanted, is_open, open_in};
+ghost use Rattle.mdns_history.specs.Lifetimes.{is_uncut};
+ghost use Rattle.mdns_question.specs.Next.{is_open, open_in};
 
 use crate::Tracked;
-use crate::points::{is_open, is_wanted, refresh_points};
+use crate::points::{is_open, is_uncut, refresh_points};
+use dns_record::matches;
 use mdns_history::Held;
 
 /// The least of a moment and of the refresh points of a record that call for an asking.
 pub fn next_with(one: &Tracked, told: &Held, earliest: u64) -> u64
     ensures { result ≡ least_of earliest (open_in one.now told.now) }
 {
-    if is_wanted(one, told) {
-        next_among(one, told, earliest)
+    if !is_uncut(told) {
+        return earliest;
+    }
+    // Names take longest to compare, so they are compared only where there is an earlier point.
+    let next = next_among(one, told, earliest);
+    if earliest <= next {
+        return earliest;
+    }
+    if matches(&one.key, &told.rr) {
+        next
     } else {
         earliest
     }
 }
 
-// The same of a record that answers the question.
-#[tactic(auto, using(crate::proofs::Ends::wanted_uncut))]
+// The same, whether or not the record answers the question.
 fn next_among(one: &Tracked, told: &Held, earliest: u64) -> u64
-    requires { IsTrue (is_wanted one.now told.now) }
+    requires { IsTrue (is_uncut told.now) }
     ensures { result ≡ least_of earliest (filter (is_open one.now told.now) (refresh_points told.now)) }
 {
     let mut next = earliest;

@@ -3,21 +3,13 @@ ghost use Rattle.std.specs.Prelude.{◌≡◌, ◌+◌, ◌*◌, IsTrue};
 ghost use Rattle.std.specs.Option.{option_to_list};
 ghost use Rattle.mdns_history.specs.Lifetimes.{is_uncut};
 ghost use Rattle.mdns_history.specs.Asking.{refresh_points, is_behind};
-ghost use Rattle.mdns_question.specs.Next.{is_wanted, is_open};
+ghost use Rattle.mdns_question.specs.Next.{is_open};
 
 use crate::Tracked;
-use dns_record::matches;
 use mdns_history::Held;
 
-/// Whether the record answers the question, and its end is that of its TTL.
-pub fn is_wanted(one: &Tracked, told: &Held) -> bool
-    ensures { result ≡ is_wanted one.now told.now }
-{
-    matches(&one.key, &told.rr) && is_uncut(told)
-}
-
-// Whether the record's end is that of its TTL.
-fn is_uncut(told: &Held) -> bool
+/// Whether the record's end is that of its TTL.
+pub fn is_uncut(told: &Held) -> bool
     ensures { result ≡ is_uncut told.now }
 {
     let ttl = u64::from(told.rr.ttl);
