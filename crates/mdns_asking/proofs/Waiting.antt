@@ -1,10 +1,10 @@
 -- When nothing is due, where every held record is live: before the first moment of each question, and before the end of each record.
-use Rattle.std.proofs.Common.{◌≡◌, ℕ, min, Bool, true, false, cond, not, ◌&&◌, ◌||◌, List, [], ◌∷◌, ◌++◌, map, nat_le, Option, Some, None, refl, ap, ◌∙◌, sym, arith, append-nil}
+use Rattle.std.proofs.Common.{◌≡◌, ℕ, min, Bool, true, false, cond, not, ◌&&◌, ◌||◌, List, [], ◌∷◌, ◌++◌, map, nat_le, Option, Some, None, refl, ap, ◌∙◌, sym, arith}
 use Rattle.std.specs.Prelude.{filter, nat_lt}
 use Rattle.std.specs.List.{list_any, list_all, flat_map, filter_map, cons_option}
 use Rattle.std.specs.Option.{option_map, option_to_list}
 use Rattle.std.proofs.lemmas.List.Folds.{list_all-append, list_all-map}
-use Rattle.lists.specs.Lists.{least, least_of}
+use Rattle.lists.specs.Lists.{least_of}
 use Rattle.dns_record.specs.declared.record.Key.{Key}
 use Rattle.mdns_history.specs.declared.mark.Cause.{Cause}
 use Rattle.mdns_history.specs.declared.mark.Cause.TheVariants as cause
@@ -16,7 +16,6 @@ use Rattle.mdns_question.specs.declared.tracked.Tracked.{Tracked}
 use Rattle.mdns_question.specs.Tracking.{active_of, is_refreshed, due_cause, due_with, due_at}
 use Rattle.mdns_question.specs.Next.{is_wanted, is_open, open_in, next_of}
 use Rattle.mdns_question.proofs.Refreshes.{refreshed_by}
-use Rattle.lists.proofs.Least.{least_of-min, least_of-append}
 use Rattle.mdns_asking.specs.State.{asker_of}
 
 -- What is below a number and below each of several is below the least of them.
@@ -41,28 +40,6 @@ below_least t n (m ∷ ms) =
     both true e true f = grind arith
     both true e false f = grind arith
     both false e b f = grind arith
-
--- The least of two lists is the less of the least of each, or that of the one that isn't empty.
-pub least-both : (one other : ℕ) (ones others : List ℕ) → Some one ≡ least ones → Some other ≡ least others → Some (min one other) ≡ least (ones ++ others)
-least-both one other [] others e f = absurd (cc)
-least-both one other (n ∷ ns) [] e f = absurd (cc)
-least-both one other (n ∷ ns) (m ∷ ms) e f =
-    let first : one ≡ least_of n ns = cc in
-    let second : other ≡ least_of m ms = cc in
-    ap (λ k. Some (min k other)) first
-    ∙ ap (λ k. Some (min (least_of n ns) k)) second
-    ∙ ap Some (sym (least_of-append n ns (m ∷ ms) ∙ sym (least_of-min (least_of n ns) m ms) ∙ ap (λ k. least_of k ms) (turned (least_of n ns) m) ∙ least_of-min m (least_of n ns) ms))
-  where
-    turned : (a b : ℕ) → min a b ≡ min b a
-    turned a b = omega arith
-
-pub least-first : (one : Option ℕ) (ones others : List ℕ) → one ≡ least ones → None ≡ least others → one ≡ least (ones ++ others)
-least-first one ones [] e f = e ∙ ap least (sym (append-nil ones))
-least-first one ones (m ∷ ms) e f = absurd (cc)
-
-pub least-second : (other : Option ℕ) (ones others : List ℕ) → None ≡ least ones → other ≡ least others → other ≡ least (ones ++ others)
-least-second other [] others e f = f
-least-second other (n ∷ ns) others e f = absurd (cc)
 
 -- whether a refresh point calls for an asking of a question
 abbrev calls : Tracked → ℕ → ℕ → Bool
