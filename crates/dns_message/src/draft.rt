@@ -6,14 +6,11 @@ ghost use Rattle.dns_message.specs.Packing.{is_within_length, bare_query, bare_r
 ghost use Rattle.dns_message.specs.Drafting.{with_question, with_answer, with_additional, records_of};
 
 use crate::writing::{put_question, put_record};
-use crate::{Message, Questions, Rrs};
+use crate::{LONGEST_MESSAGE, Message, Questions, Rrs};
 use dns_pointers::WrittenNames;
 use dns_record::{Question, Rdata, Rr};
 use std::alloc::{AllocError, Global};
 use std::marker::Model;
-
-// The bytes of the longest message. (RFC 6762 17)
-const LONGEST: usize = 8972;
 
 // The bytes of a message's header. (RFC 1035 4.1.1)
 const HEADER: [u8; 12] = [0; 12];
@@ -207,7 +204,7 @@ impl<'a> Draft<'a> {
         ensures grown { OnOk result (self.new ≡ with_answer self.old rr.now) }
         ensures err { OnErr result (self.new ≡ self.old) }
     {
-        if self.answer(rr, LONGEST)? {
+        if self.answer(rr, LONGEST_MESSAGE)? {
             return Ok(());
         }
         self.message.answers.push(rr.copy()?)?;
@@ -223,7 +220,7 @@ impl<'a> Draft<'a> {
         ensures grown { OnOk result (self.new ≡ with_question self.old question.now) }
         ensures err { OnErr result (self.new ≡ self.old) }
     {
-        if self.question(question, LONGEST)? {
+        if self.question(question, LONGEST_MESSAGE)? {
             return Ok(());
         }
         self.message.questions.push(copied(question))?;
@@ -247,8 +244,8 @@ fn is_too_long(rdata: &Rdata) -> bool
     ensures { IsTrue result → (names : Offsets) (at : ℕ) → 8972 < length (written_data names at rdata.now).bytes }
 {
     match rdata {
-        Rdata::Txt(bytes) | Rdata::Raw { bytes, .. } => bytes.as_slice().len() > LONGEST,
-        Rdata::Nsec { bitmap, .. } => bitmap.as_slice().len() > LONGEST,
+        Rdata::Txt(bytes) | Rdata::Raw { bytes, .. } => bytes.as_slice().len() > LONGEST_MESSAGE,
+        Rdata::Nsec { bitmap, .. } => bitmap.as_slice().len() > LONGEST_MESSAGE,
         _ => false,
     }
 }

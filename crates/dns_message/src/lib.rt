@@ -11,6 +11,6 @@ mod writing;
 
 pub use draft::Draft;
 pub use law::{one_message_is_spelled, what_is_written_is_read_again};
-pub use message::{Message, MessageError, Questions, Rrs, WriteError};
+pub use message::{LONGEST_MESSAGE, Message, MessageError, Questions, Rrs, WriteError};
 pub use reading::read;
 pub use writing::write;

@@ -9,6 +9,9 @@ use dns_record::{Question, Rr};
 use lists::List;
 use std::alloc::AllocError;
 
+/// The most bytes of a message. (RFC 6762 17)
+pub const LONGEST_MESSAGE: usize = 8972;
+
 /// A list of questions.
 pub type Questions = List<Question>;
 

@@ -5,7 +5,7 @@ ghost use Rattle.dns_message.specs.Reading.{Spells, spelled, fault, fault_number
 ghost use Rattle.dns_message.specs.Writing.{HasValidParts};
 
 use crate::sections::{read_questions, read_records};
-use crate::{Message, MessageError};
+use crate::{LONGEST_MESSAGE, Message, MessageError};
 use dns_pointers::Packet;
 use std::alloc::Global;
 
@@ -26,7 +26,7 @@ pub fn read(alloc: Global, bytes: &[u8]) -> Result<Message, MessageError>
     ensures valid { IfOk result (λ message. HasValidParts message) }
     ensures memory { result ≡ Err MessageError.NoMemory → 12 ≤ length bytes.now }
 {
-    if bytes.len() > 8972 {
+    if bytes.len() > LONGEST_MESSAGE {
         return Err(MessageError::TooLong);
     }
     read_short(alloc, bytes)

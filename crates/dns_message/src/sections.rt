@@ -5,14 +5,11 @@ ghost use Rattle.dns_message.specs.Reading.{question_at, record_at, data_end_at,
 use crate::data::read_rdata;
 use crate::{MessageError, Questions, Rrs};
 use dns_pointers::Packet;
-use dns_record::{Question, Rr};
+use dns_record::{Question, Rr, kinds};
 use std::alloc::Global;
 
+/// The class IN. (RFC 1035 3.2.4)
 const INTERNET: u16 = 1;
-
-const ANY: u16 = 255;
-
-const OPT: u16 = 41;
 
 // The bit of the class that asks for a unicast answer, or says that a record's set is complete.
 const TOP_BIT: u16 = 0x8000;
@@ -69,7 +66,7 @@ fn read_question(packet: &Packet<'_>, at: usize) -> Result<(Option<Question>, us
         return Err(MessageError::Truncated);
     }
     let class = packet.u16_at(fields + 2);
-    let kept = class % TOP_BIT == INTERNET || class % TOP_BIT == ANY;
+    let kept = class % TOP_BIT == INTERNET || class % TOP_BIT == kinds::ANY;
     let question = kept.then_some(Question {
         name,
         kind: packet.u16_at(fields),
@@ -89,7 +86,7 @@ fn read_record(
     let (owner, fields) = packet.name_at(at)?;
     let stop = data_end(packet, fields)?;
     let (kind, class) = (packet.u16_at(fields), packet.u16_at(fields + 2));
-    if kind == OPT || class % TOP_BIT != INTERNET {
+    if kind == kinds::OPT || class % TOP_BIT != INTERNET {
         return Ok((None, stop));
     }
     let rdata = read_rdata(alloc, packet, kind, fields + 10, stop)?;

@@ -8,7 +8,7 @@ ghost use Rattle.std.specs.Cmp.Lexicographic.{slice_cmp};
 ghost use Rattle.dns_name.specs.Names.{wire_of};
 ghost use Rattle.dns_record.specs.Records.{data_of, data_eq, identity_of, same, record_cmp, rdata_cmp, matches};
 
-use crate::{Key, Rdata, Rr};
+use crate::{Key, Rdata, Rr, kinds};
 use arrayvec::ArrayVec;
 use dns_name::Name;
 use std::cmp::Ordering;
@@ -186,7 +186,8 @@ pub fn rdata_cmp(left: &Rdata, right: &Rdata) -> Ordering
 pub fn matches(question: &Key, rr: &Rr) -> bool
     ensures { result ≡ matches question.now rr.now }
 {
-    question.name.folded_eq(&rr.owner) && (question.kind == 255 || question.kind == rr.rdata.kind())
+    question.name.folded_eq(&rr.owner)
+        && (question.kind == kinds::ANY || question.kind == rr.rdata.kind())
 }
 
 /// Whether one of the questions asks for the record.

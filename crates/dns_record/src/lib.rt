@@ -5,6 +5,7 @@ mod compare;
 mod copies;
 mod error;
 mod forms;
+pub mod kinds;
 mod law;
 mod read;
 mod record;

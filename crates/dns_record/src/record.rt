@@ -2,6 +2,7 @@
 ghost use Rattle.std.specs.Prelude.{◌≡◌, IfOk};
 ghost use Rattle.dns_record.specs.Records.{kind_of};
 
+use crate::kinds;
 use bytes::Bytes;
 use dns_name::Name;
 use std::alloc::{AllocError, Global};
@@ -47,13 +48,13 @@ impl Rdata {
         ensures { result ≡ kind_of self.now }
     {
         match self {
-            Rdata::A(_) => 1,
-            Rdata::Aaaa(_) => 28,
-            Rdata::Ptr(_) => 12,
-            Rdata::Cname(_) => 5,
-            Rdata::Srv { .. } => 33,
-            Rdata::Txt(_) => 16,
-            Rdata::Nsec { .. } => 47,
+            Rdata::A(_) => kinds::A,
+            Rdata::Aaaa(_) => kinds::AAAA,
+            Rdata::Ptr(_) => kinds::PTR,
+            Rdata::Cname(_) => kinds::CNAME,
+            Rdata::Srv { .. } => kinds::SRV,
+            Rdata::Txt(_) => kinds::TXT,
+            Rdata::Nsec { .. } => kinds::NSEC,
             Rdata::Raw { kind, .. } => *kind,
         }
     }
@@ -141,7 +142,7 @@ impl Default for Key {
     fn default() -> Key {
         Key {
             name: Name::root(),
-            kind: 255,
+            kind: kinds::ANY,
         }
     }
 }

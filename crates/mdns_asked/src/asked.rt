@@ -8,13 +8,10 @@ ghost use Rattle.mdns_asked.specs.Asked.{any_for, place_of, records_of, AreOf, I
 use by_name::{KeyedState, Place};
 use dns_message::Rrs;
 use dns_name::Name;
-use dns_record::{Question, Rr};
+use dns_record::{Question, Rr, kinds};
 use indexmap::IndexMap;
 use std::alloc::{AllocError, Global};
 use std::marker::Model;
-
-/// The type that asks for records of any type. (RFC 1035 3.2.3)
-const ANY: u16 = 255;
 
 /// The records of each question, by its folded name and its type.
 type Lists = IndexMap<Place, Rrs, KeyedState>;
@@ -74,7 +71,7 @@ pub fn any_for(name: &Name) -> Question
 {
     Question {
         name: name.copy(),
-        kind: ANY,
+        kind: kinds::ANY,
         unicast: false,
     }
 }
@@ -91,9 +88,9 @@ fn put(lists: &mut Lists, rr: &Rr) -> Result<(), AllocError>
     ensures { OnOk result (IsPut (rr.now ∷ []) lists.old.entries lists.new.entries) }
 {
     let kind = rr.rdata.kind();
-    let mut place = Place::new(&rr.owner, usize::from(ANY));
+    let mut place = Place::new(&rr.owner, usize::from(kinds::ANY));
     put_at(lists, &place, rr)?;
-    if kind != ANY {
+    if kind != kinds::ANY {
         place.go(usize::from(kind));
         put_at(lists, &place, rr)?;
     }

@@ -11,13 +11,12 @@ ghost use Rattle.mdns_asking.specs.ByWalks.{is_heard_by};
 
 use crate::walked::later_of;
 use dns_record::{Key, Question, Rr, matches};
+use mdns_base::MDNS_PORT;
 use mdns_happened::{Heard, Walk, When};
 use mdns_history::Held;
 use mdns_known::known_answers;
 use mdns_question::Tracked;
 use std::alloc::{AllocError, Global};
-
-const MDNS_PORT: u16 = 5353;
 
 /// Whether a message asks a question in the daemon's stead, by the later records of its name. Refused only for want of memory.
 pub fn is_heard_by(

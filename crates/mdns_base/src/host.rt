@@ -1,5 +1,8 @@
 // Hosts, and where packets go.
 
+/// The port of Multicast DNS. (RFC 6762 2)
+pub const MDNS_PORT: u16 = 5353;
+
 /// An address and a port of IPv4, as the sender of a packet has them.
 #[derive(Clone, Copy, Debug, PartialEq, Eq)]
 pub struct Host {

@@ -5,6 +5,6 @@ mod host;
 mod memory;
 mod outside;
 
-pub use host::{Dest, Host};
+pub use host::{Dest, Host, MDNS_PORT};
 pub use memory::{MemSink, MemSource};
 pub use outside::{Failed, Sink, Source};

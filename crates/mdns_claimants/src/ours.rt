@@ -14,14 +14,11 @@ use crate::claimant::Claimant;
 use crate::owners::bit_of;
 use dns_message::Rrs;
 use dns_name::Name;
-use dns_record::Rr;
+use dns_record::{Rr, kinds};
 use mdns_asked::Asked;
 use mdns_probe::Claim;
 use sd_service::{is_nsec_of, nsec_of};
 use std::alloc::{AllocError, Global};
-
-/// The number of the type NSEC.
-const NSEC: u16 = 47;
 
 /// Puts the NSEC records of a name behind others: those of the groups that have it and are sure. Refused only for want of memory.
 pub fn put_nsecs(
@@ -81,7 +78,7 @@ pub fn is_ours(groups: &[Claimant], rr: &Rr) -> bool
     requires mapped { HaveBitmaps groups.now }
     ensures { result ≡ is_ours groups.now rr.now }
 {
-    if rr.rdata.kind() == NSEC {
+    if rr.rdata.kind() == kinds::NSEC {
         is_sure_nsec(groups, rr)
     } else {
         is_own(groups, rr)

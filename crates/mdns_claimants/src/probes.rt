@@ -8,13 +8,10 @@ use crate::claimant::Claimant;
 use crate::claimants::Claimants;
 use dns_message::{Message, Questions, Rrs};
 use dns_name::Name;
-use dns_record::{Question, Rr};
+use dns_record::{Question, Rr, kinds};
 use mdns_base::Dest;
 use mdns_history::{Sends, Sent};
 use std::alloc::{AllocError, Global};
-
-/// The type of any record.
-const ANY: u16 = 255;
 
 /// The probes of the groups of which one is due at `now`, in ms. Groups of which nothing is due aren't looked at. Refused only for want of
 /// memory. (RFC 6762 8.1)
@@ -67,7 +64,7 @@ fn any_question(alloc: Global, name: &Name) -> Result<Questions, AllocError>
     let mut questions = Questions::new(alloc);
     questions.push(Question {
         name: name.copy(),
-        kind: ANY,
+        kind: kinds::ANY,
         unicast: true,
     })?;
     Ok(questions)

@@ -5,12 +5,11 @@ ghost use Rattle.mdns_contest.specs.Turning.{disturbance, is_clash, is_tie, said
 ghost use Rattle.mdns_probe.specs.Kept.{name_of};
 
 use dns_record::Rr;
+use mdns_base::MDNS_PORT;
 use mdns_claimants::Claimant;
 use mdns_conflict::{conflicts, loses_tie};
 use mdns_happened::Heard;
 use std::alloc::{AllocError, Global};
-
-const MDNS_PORT: u16 = 5353;
 
 /// What a packet does to the claim of a group.
 #[derive(Clone, Copy, Drop)]

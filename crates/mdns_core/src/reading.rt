@@ -16,7 +16,7 @@ use crate::outcomes::{boot, take, tick};
 use crate::plan::Kept;
 use dns_message::{Message, MessageError, Rrs, read};
 use dns_record::put_copies;
-use mdns_base::Host;
+use mdns_base::{Host, MDNS_PORT};
 use mdns_claims::Claims;
 use mdns_happened::{Happened, Heard, Idle, Refusal, When};
 use mdns_history::{Event, Mark};
@@ -24,8 +24,6 @@ use mdns_records::Records;
 use sd_call::{Request, well_formed};
 use sd_operations::Registering;
 use std::alloc::{AllocError, Global};
-
-const MDNS_PORT: u16 = 5353;
 
 /// An event, read once: what happened, and the records that are heard with it.
 #[derive(Drop)]

@@ -9,16 +9,10 @@ ghost use Rattle.mdns_hub.specs.Links.{quiet_link, is_pair, are_parted, is_for, 
 use crate::daemons::Daemons;
 use crate::delivery::{Delivery, Parted};
 use bytes::Bytes;
-use dns_message::{WriteError, write};
-use mdns_base::{Dest, Host};
+use dns_message::{LONGEST_MESSAGE, WriteError, write};
+use mdns_base::{Dest, Host, MDNS_PORT};
 use mdns_history::Sent;
 use std::alloc::{AllocError, Global};
-
-/// The port of Multicast DNS. (RFC 6762 section 2)
-const MDNS_PORT: u16 = 5353;
-
-/// The most bytes of a packet. (RFC 6762 section 17)
-const MOST_BYTES: usize = 8972;
 
 /// The link between daemons: how long packets are under way, in milliseconds, how many of the next are lost, which daemons are
 /// parted, and the packets under way, in the order in which they are heard.
@@ -197,7 +191,7 @@ impl Link {
             self.losses -= 1;
             return Ok(());
         }
-        match write(self.alloc, &sent.message, MOST_BYTES) {
+        match write(self.alloc, &sent.message, LONGEST_MESSAGE) {
             Ok(bytes) => {
                 let packet = Packet {
                     sender,

@@ -7,14 +7,11 @@ ghost use Rattle.mdns_history.specs.Lifetimes.{is_live_at, is_uncut};
 ghost use Rattle.mdns_history.specs.Asking.{is_half_fresh, listed, fits_alone};
 ghost use Rattle.mdns_known.specs.Known.{is_listed};
 
-use dns_message::{Message, Questions, Rrs, WriteError, write};
+use dns_message::{LONGEST_MESSAGE, Message, Questions, Rrs, WriteError, write};
 use dns_record::{Key, Rdata, Rr, matches};
 use mdns_history::Held;
 use mdns_pack::Listing;
 use std::alloc::{AllocError, Global};
-
-/// The longest message, in bytes. (RFC 6762 17)
-const LONGEST_MESSAGE: usize = 8972;
 
 /// Puts a held record as it is listed behind others, where it is a known answer of a question. Refused only for want of memory.
 pub fn put_listing(

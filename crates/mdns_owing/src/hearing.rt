@@ -22,21 +22,16 @@ use crate::terms::Terms;
 use by_name::{KeyedState, Place};
 use dns_message::{Questions, Rrs};
 use dns_name::Name;
-use dns_record::{Question, Rr};
+use dns_record::{Question, Rr, kinds};
 use indexmap::IndexSet;
-use mdns_base::Dest;
+use mdns_base::{Dest, MDNS_PORT};
 use mdns_claims::Claims;
 use mdns_happened::{Happened, Heard, When};
 use mdns_reply::Lasts;
 use std::alloc::{AllocError, Global};
 
-/// The type that asks for records of any type. (RFC 1035 3.2.3)
-const ANY: u16 = 255;
-
 /// For so many questions the groups are gone over one by one; for more, what all of them ask for is collected first.
 const FEW: usize = 8;
-
-const MDNS_PORT: u16 = 5353;
 
 /// What a query is answered from: the names that the daemon claims, and when it last multicast records.
 #[derive(Drop)]
@@ -155,7 +150,7 @@ impl Ours<'_> {
         ensures { OnOk result (owed.new.keys ≡ insert_all owed_eq owed.old.keys (owed_for (ours_in self.now.claims.now.contents.kept) (last_in self.now.lasts.now.lasts) (heard_in hearing.now.heard.now) hearing.now.moment question.now)) }
     {
         let own = found.own(question);
-        if question.kind == ANY || !own.is_empty() {
+        if question.kind == kinds::ANY || !own.is_empty() {
             return self.put_copies(owed, hearing, question, own);
         }
         self.put_copies(owed, hearing, question, found.nsecs(&question.name))
@@ -207,7 +202,7 @@ impl Ours<'_> {
         ensures { IfOk result (λ rrs. rrs ≡ owed_to (ours_in self.now.claims.now.contents.kept) question.now) }
     {
         let own = self.own_for(question)?;
-        if question.kind == ANY || !own.as_slice().is_empty() {
+        if question.kind == kinds::ANY || !own.as_slice().is_empty() {
             return Ok(own);
         }
         self.nsecs_of(&question.name)
@@ -218,7 +213,7 @@ impl Ours<'_> {
         ensures { IfOk result (λ own. own ≡ filter (matches (key_of question.now)) (own_in self.now.claims.now.contents.kept)) }
     {
         let mut own = self.own_of(&question.name)?.into_vec();
-        own.retain(|rr| question.kind == ANY || question.kind == rr.rdata.kind());
+        own.retain(|rr| question.kind == kinds::ANY || question.kind == rr.rdata.kind());
         Ok(Rrs::from_vec(own))
     }
 

@@ -12,13 +12,11 @@ use crate::owing::Owing;
 use crate::query::Query;
 use dns_message::Rrs;
 use dns_record::Rr;
-use mdns_base::{Dest, Host};
+use mdns_base::{Dest, Host, MDNS_PORT};
 use mdns_history::{Sends, Sent};
 use mdns_pack::{Messages, in_order, pack_legacy, pack_plain};
 use mdns_reply::Lasts;
 use std::alloc::{AllocError, Global};
-
-const MDNS_PORT: u16 = 5353;
 
 impl Owing {
     /// The records that go to all at `now`, in record order: what queries are owed that are due, but what was multicast less than a second

@@ -5,14 +5,11 @@ ghost use Rattle.std.specs.Prelude.{◌≡◌, ◌≤◌, None, IfSome, length};
 ghost use Rattle.mdns_outside.specs.Parts.{FitsBuffer};
 
 use crate::door::is_passing;
-use mdns_base::{Dest, Failed, Host};
+use mdns_base::{Dest, Failed, Host, MDNS_PORT};
 use mdns_outside::{Air, Arrival, Ear};
 use std::io;
 use std::net::{Ipv4Addr, SocketAddr, SocketAddrV4, UdpSocket};
 use std::sync::Arc;
-
-/// The port that the messages of Multicast DNS come from.
-const MDNS_PORT: u16 = 5353;
 
 /// The address of a port of this machine.
 pub(crate) fn loopback(port: u16) -> SocketAddr {

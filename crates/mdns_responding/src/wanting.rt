@@ -11,19 +11,10 @@ ghost use Rattle.mdns_responding.specs.Told.{is_free_by, wanted_told};
 use crate::responder::Responder;
 use dns_message::{Questions, Rrs};
 use dns_name::Name;
-use dns_record::{Rdata, Rr, put_copies};
+use dns_record::{Rdata, Rr, kinds, put_copies};
 use mdns_asked::{Asked, any_for};
 use mdns_pack::Wanting;
 use std::alloc::AllocError;
-
-/// The types of records. (RFC 1035 3.2.2, RFC 2782, RFC 3596 2.1)
-const A: u16 = 1;
-
-const TXT: u16 = 16;
-
-const AAAA: u16 = 28;
-
-const SRV: u16 = 33;
 
 /// For so many answers the groups are gone over one by one; for more, what all of them want is collected first. To go over the groups once
 /// for a name is quick, since a bit tells of most that they don't have it; to collect is not, since each record is looked up twice.
@@ -66,8 +57,8 @@ impl Responder<'_> {
             ++ flat_map (λ rr. srv_addresses (own_in (groups_behind self.now.behind.now)) rr.rdata) (own_of (own_in (groups_behind self.now.behind.now)) 33 name.now))) }
     {
         let own = self.own_of(near, name)?;
-        self.put_kind(wanted, own.as_slice(), SRV)?;
-        self.put_kind(wanted, own.as_slice(), TXT)?;
+        self.put_kind(wanted, own.as_slice(), kinds::SRV)?;
+        self.put_kind(wanted, own.as_slice(), kinds::TXT)?;
         self.put_targets(wanted, near, own.as_slice())?;
         Ok(())
     }
@@ -92,8 +83,8 @@ impl Responder<'_> {
         ensures { OnOk result (wanted.new ≡ wanted.old ++ filter (is_free_by self.now.lasts.now.lasts self.now.behind.now.means.moment) (addresses_of (own_in (groups_behind self.now.behind.now)) name.now)) }
     {
         let own = self.own_of(near, name)?;
-        self.put_kind(wanted, own.as_slice(), A)?;
-        self.put_kind(wanted, own.as_slice(), AAAA)?;
+        self.put_kind(wanted, own.as_slice(), kinds::A)?;
+        self.put_kind(wanted, own.as_slice(), kinds::AAAA)?;
         Ok(())
     }
 

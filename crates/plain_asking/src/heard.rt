@@ -13,12 +13,10 @@ use crate::known::known_answers;
 use crate::question::ActiveQuestion;
 use crate::series::series_due;
 use dns_record::{Key, Question, Rr, matches};
+use mdns_base::MDNS_PORT;
 use mdns_history::{Cause, Mark};
 use plain_history::{HeardMessage, HistoryEntry};
 use std::alloc::{AllocError, Global};
-
-/// The port of Multicast DNS.
-const MDNS_PORT: u16 = 5353;
 
 // Whether a question of the link asks the same without a unicast reply.
 #[tactic(auto, unfolding(dns_record::specs::Records::key_eq))]

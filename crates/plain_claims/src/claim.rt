@@ -10,6 +10,7 @@ ghost use Rattle.mdns_history.specs.Hearings.{counted_records};
 
 use dns_name::Name;
 use dns_record::Rr;
+use mdns_base::MDNS_PORT;
 use mdns_conflict::{conflicts, loses_tie};
 use mdns_history::Mark;
 use plain_groups::{
@@ -17,9 +18,6 @@ use plain_groups::{
 };
 use plain_history::{HeardMessage, HistoryEntry};
 use std::alloc::{AllocError, Global};
-
-/// The port of Multicast DNS.
-const MDNS_PORT: u16 = 5353;
 
 /// The greatest number of a name.
 const GREATEST_NUMBER: u32 = 999_999;

@@ -6,19 +6,13 @@ ghost use Rattle.mdns_history.specs.Sureness.{own_records};
 ghost use Rattle.mdns_history.specs.Debts.{is_nsec, is_ours, nsec_record, nsecs_of, owed_to};
 
 use dns_name::Name;
-use dns_record::{Key, Question, Rr, matches};
+use dns_record::{Key, Question, Rr, kinds, matches};
 use plain_groups::{
     LiveGroup, group_name, has_same, is_own, own_records, sure_groups, unique_records,
 };
 use plain_history::HistoryEntry;
 use sd_service::{nsec_of, unique_records_have_a_bitmap};
 use std::alloc::{AllocError, Global};
-
-/// The type ANY.
-const ANY: u16 = 255;
-
-/// The type NSEC.
-const NSEC: u16 = 47;
 
 // The record that says which types the name of a group has.
 fn nsec_of_group(
@@ -83,7 +77,7 @@ pub fn owed_to(
     ensures { IfOk result (λ owed. owed.items ≡ owed_to history.now question.now) }
 {
     let own = own_matching(alloc, question, history)?;
-    if !own.is_empty() || question.kind == ANY {
+    if !own.is_empty() || question.kind == kinds::ANY {
         return Ok(own);
     }
     nsecs_of(alloc, &question.name, history)
@@ -92,7 +86,7 @@ pub fn owed_to(
 fn is_nsec(rr: &Rr) -> bool
     ensures { result ≡ is_nsec rr.now }
 {
-    rr.rdata.kind() == NSEC
+    rr.rdata.kind() == kinds::NSEC
 }
 
 /// Whether a record is the daemon's to send: own, or the NSEC record of a sure name. Refused only for want of memory.

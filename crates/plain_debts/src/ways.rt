@@ -5,11 +5,8 @@ ghost use Rattle.mdns_history.specs.Debts.{debt_wait, way_of};
 
 use crate::last::{is_recent, last_multicast};
 use dns_record::{Question, Rr};
-use mdns_base::{Dest, Host};
+use mdns_base::{Dest, Host, MDNS_PORT};
 use plain_history::{HeardMessage, HistoryEntry};
-
-/// The port of Multicast DNS.
-const MDNS_PORT: u16 = 5353;
 
 /// Whether two hosts are one.
 pub fn host_eq(left: &Host, right: &Host) -> bool

@@ -11,13 +11,10 @@ use crate::names::group_name;
 use crate::registration::{registered_count, registers_service};
 use dns_message::Message;
 use dns_name::Name;
-use dns_record::Question;
+use dns_record::{Question, kinds};
 use mdns_history::{Entry, Event, Mark};
 use plain_history::HistoryEntry;
 use std::alloc::{AllocError, Global};
-
-/// The type ANY.
-const ANY: u16 = 255;
 
 // Whether a group was registered in an entry.
 fn registers(id: u64, entry: &HistoryEntry, past: &[HistoryEntry]) -> bool
@@ -61,7 +58,7 @@ pub fn sets_back(id: u64, entry: &HistoryEntry, past: &[HistoryEntry]) -> bool
 fn is_any_question(name: &Name, question: &Question) -> bool
     ensures { result ≡ is_any_question name.now question.now }
 {
-    question.name.folded_eq(name) && question.kind == ANY && question.unicast
+    question.name.folded_eq(name) && question.kind == kinds::ANY && question.unicast
 }
 
 /// Whether a message probes a name.

@@ -6,13 +6,10 @@ ghost use Rattle.mdns_history.specs.Hearings.{is_ignored, is_refusal, counted, b
 ghost use Rattle.mdns_history.specs.History.{has_mark};
 
 use dns_message::{Message, MessageError, Rrs, read};
-use mdns_base::Host;
+use mdns_base::{Host, MDNS_PORT};
 use mdns_history::{Entry, Event, Mark};
 use std::alloc::{AllocError, Global};
 use std::marker::Model;
-
-/// The port of Multicast DNS.
-const MDNS_PORT: u16 = 5353;
 
 /// A message and who sent it.
 #[derive(Drop)]

@@ -7,15 +7,12 @@ ghost use Rattle.mdns_history.specs.Sending.{probe_message, sent_probes, unflush
 use crate::sent::to_all;
 use dns_message::{Message, Questions, Rrs};
 use dns_name::Name;
-use dns_record::{Question, Rr};
+use dns_record::{Question, Rr, kinds};
 use mdns_history::Sent;
 use plain_claims::probed_groups;
 use plain_groups::{LiveGroup, group_name, unique_records};
 use plain_history::HistoryEntry;
 use std::alloc::{AllocError, Global};
-
-/// The type ANY.
-const ANY: u16 = 255;
 
 // A record without the flush bit.
 fn unflushed(rr: Rr) -> Rr
@@ -51,7 +48,7 @@ fn any_of(alloc: Global, name: Name) -> Result<Questions, AllocError>
     let mut questions = Questions::new(alloc);
     questions.push(Question {
         name,
-        kind: ANY,
+        kind: kinds::ANY,
         unicast: true,
     })?;
     Ok(questions)

@@ -11,14 +11,12 @@ ghost use Rattle.plain_history.specs.Kept.{kept_if};
 
 use crate::sent::{each_to_one, to_one};
 use dns_record::Rr;
+use mdns_base::MDNS_PORT;
 use mdns_history::Sent;
 use mdns_pack::{pack_legacy, pack_plain};
 use plain_debts::{StandingDebt, due_unicasts};
 use plain_history::{HeardMessage, HistoryEntry, heard_in, ordered_records};
 use std::alloc::{AllocError, Global};
-
-/// The port of Multicast DNS.
-const MDNS_PORT: u16 = 5353;
 
 // The one reply to another port than 5353.
 fn legacy_reply(alloc: Global, heard: &HeardMessage, rrs: &[Rr]) -> Result<Vec<Sent>, AllocError>

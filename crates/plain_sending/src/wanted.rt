@@ -7,20 +7,8 @@ ghost use Rattle.dns_record.specs.declared.record.Rdata.TheVariants.{Ptr};
 ghost use Rattle.mdns_history.specs.Sending.{addresses_of, own_of, srv_addresses, wanted_by};
 
 use dns_name::Name;
-use dns_record::{Rdata, Rr};
+use dns_record::{Rdata, Rr, kinds};
 use std::alloc::{AllocError, Global};
-
-/// The type A.
-const A: u16 = 1;
-
-/// The type AAAA.
-const AAAA: u16 = 28;
-
-/// The type SRV.
-const SRV: u16 = 33;
-
-/// The type TXT.
-const TXT: u16 = 16;
 
 // Whether a record has a name and a type.
 fn is_of(rr: &Rr, kind: u16, name: &Name) -> bool
@@ -55,8 +43,8 @@ fn own_of(alloc: Global, own: &[Rr], kind: u16, name: &Name) -> Result<Vec<Rr>, 
 fn addresses_of(alloc: Global, own: &[Rr], name: &Name) -> Result<Vec<Rr>, AllocError>
     ensures { IfOk result (λ found. found.items ≡ addresses_of own.now name.now) }
 {
-    let mut addresses = own_of(alloc, own, A, name)?;
-    let mut more = own_of(alloc, own, AAAA, name)?;
+    let mut addresses = own_of(alloc, own, kinds::A, name)?;
+    let mut more = own_of(alloc, own, kinds::AAAA, name)?;
     addresses.append(&mut more)?;
     Ok(addresses)
 }
@@ -87,9 +75,9 @@ fn addresses_of_all(alloc: Global, own: &[Rr], srvs: &[Rr]) -> Result<Vec<Rr>, A
 fn wanted_by_pointer(alloc: Global, own: &[Rr], target: &Name) -> Result<Vec<Rr>, AllocError>
     ensures { IfOk result (λ wanted. wanted.items ≡ wanted_by own.now (Ptr target.now)) }
 {
-    let mut srvs = own_of(alloc, own, SRV, target)?;
+    let mut srvs = own_of(alloc, own, kinds::SRV, target)?;
     let mut addresses = addresses_of_all(alloc, own, &srvs)?;
-    let mut txts = own_of(alloc, own, TXT, target)?;
+    let mut txts = own_of(alloc, own, kinds::TXT, target)?;
     txts.append(&mut addresses)?;
     srvs.append(&mut txts)?;
     Ok(srvs)

@@ -10,7 +10,7 @@ ghost use Rattle.sd_answer.specs.Known.{rrs_in};
 
 use crate::KnownRecords;
 use bytes::Bytes;
-use dns_record::{Key, Rdata, Rr, matches_any};
+use dns_record::{Key, Rdata, Rr, kinds, matches_any};
 use lists::List;
 use sd_call::{Answer, Request, answer_cmp};
 use std::alloc::{AllocError, Global};
@@ -47,9 +47,6 @@ fn ordered_once(mut answers: Vec<Answer>) -> Result<Answers, AllocError>
     answers.dedup_by(|later, kept| answer_cmp(later, kept).is_eq());
     Ok(Answers::from_vec(answers))
 }
-
-/// The type SRV. (RFC 2782)
-const SRV: u16 = 33;
 
 // Puts the answers that the matching records give.
 fn put_answers(
@@ -174,7 +171,7 @@ fn put_pairs(
 ) -> Result<(), AllocError>
     ensures { OnOk result (answers.new ≡ answers.old ++ filter_map (λ txt. resolved_with place.now txt.rdata) (matching questions.now (rrs_in known.now))) }
 {
-    if place.kind() != SRV {
+    if place.kind() != kinds::SRV {
         return Ok(());
     }
     for one in known.held {

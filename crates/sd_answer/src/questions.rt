@@ -8,20 +8,9 @@ ghost use Rattle.mdns_history.specs.Questions.{key_of, address_keys, browsed_nam
 
 use arrayvec::ArrayVec;
 use dns_name::{Label, Name};
-use dns_record::Key;
+use dns_record::{Key, kinds};
 use sd_call::{Request, Text};
 use sd_name::{RegType, full_name};
-
-/// The type A. (RFC 1035 section 3.4.1)
-const A: u16 = 1;
-/// The type PTR. (RFC 1035 section 3.3.12)
-const PTR: u16 = 12;
-/// The type TXT. (RFC 1035 section 3.3.14)
-const TXT: u16 = 16;
-/// The type AAAA. (RFC 3596 section 2.1)
-const AAAA: u16 = 28;
-/// The type SRV. (RFC 2782)
-const SRV: u16 = 33;
 
 /// The questions that a well formed request asks, none where it asks nothing: a Query its type, an Address the types of its
 /// families, a Browse PTR at its type or at its subtype, a Resolve SRV and TXT at the instance. It takes no memory.
@@ -74,9 +63,9 @@ fn address_questions(families: u8, name: &Name) -> ArrayVec<Key, 2>
     ensures { result.items ≡ address_keys families name.now }
 {
     match families {
-        1 => one_question(A, name.copy()),
-        2 => one_question(AAAA, name.copy()),
-        _ => two_questions(A, AAAA, name.copy()),
+        1 => one_question(kinds::A, name.copy()),
+        2 => one_question(kinds::AAAA, name.copy()),
+        _ => two_questions(kinds::A, kinds::AAAA, name.copy()),
     }
 }
 
@@ -85,7 +74,7 @@ fn browse_questions(regtype: &Text) -> ArrayVec<Key, 2>
     ensures { result.items ≡ browse_keys (service_type regtype.now) }
 {
     match RegType::parse(regtype.as_str()) {
-        Ok(regtype) => one_question(PTR, browsed_name(&regtype)),
+        Ok(regtype) => one_question(kinds::PTR, browsed_name(&regtype)),
         Err(_) => ArrayVec::new(),
     }
 }
@@ -110,7 +99,7 @@ fn resolve_questions(label: &Text, regtype: &Text) -> ArrayVec<Key, 2>
         return ArrayVec::new();
     };
     match RegType::parse(regtype.as_str()) {
-        Ok(regtype) => two_questions(SRV, TXT, full_name(&label, &regtype)),
+        Ok(regtype) => two_questions(kinds::SRV, kinds::TXT, full_name(&label, &regtype)),
         Err(_) => ArrayVec::new(),
     }
 }

@@ -4,11 +4,9 @@ ghost use Rattle.sd_name.specs.ServiceTypes.{service_type};
 ghost use Rattle.sd_call.specs.Requests.{well_formed, has_subtypes_up_to};
 
 use crate::{Request, Text};
+use dns_record::kinds;
 use sd_name::{RegType, is_service_label};
 use txt_record::is_txt;
-
-/// The type OPT, of records that are no data of a name. (RFC 6891 section 6.1)
-const OPT: u16 = 41;
 
 /// Whether a request is well formed: its type is one that can be asked for, its service type has as many subtypes as the
 /// request may have, its label can be that of a service, its families are IPv4, IPv6 or both, its port isn't 0, and its
@@ -17,7 +15,7 @@ pub fn well_formed(request: &Request) -> bool
     ensures { result ≡ well_formed request.now }
 {
     match request {
-        Request::Query { kind, .. } => !(*kind == 0 || *kind == OPT),
+        Request::Query { kind, .. } => !(*kind == 0 || *kind == kinds::OPT),
         Request::Browse { regtype } => has_subtypes_up_to(1, regtype),
         Request::Resolve { label, regtype } => {
             is_service_label(label.as_str().as_bytes()) && has_subtypes_up_to(0, regtype)

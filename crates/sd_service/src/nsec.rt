@@ -8,11 +8,8 @@ ghost use Rattle.sd_service.specs.Bitmaps.{kinds_of, bitmap_size, have_bitmap, U
 use crate::service::{HOST_TTL, unique_record};
 use bytes::Bytes;
 use dns_name::Name;
-use dns_record::{Rdata, Rr};
+use dns_record::{Rdata, Rr, kinds};
 use std::alloc::{AllocError, Global};
-
-/// The number of the type NSEC.
-const NSEC: u16 = 47;
 
 /// The NSEC record that says which types a sure name has, by its unique records. Refused only for want of memory. (RFC 6762 6.1)
 #[tactic(auto, unfolding(mdns_history::specs::Debts::nsec_record))]
@@ -50,7 +47,7 @@ fn is_data_of(rdata: &Rdata, name: &Name, unique: &[Rr]) -> bool
         Rdata::Nsec { next, bitmap } => {
             next.as_wire() == name.as_wire() && is_bitmap(bitmap.as_slice(), unique)
         }
-        Rdata::Raw { kind, bytes } => *kind == NSEC && is_in_bytes(bytes.as_slice(), name, unique),
+        Rdata::Raw { kind, bytes } => *kind == kinds::NSEC && is_in_bytes(bytes.as_slice(), name, unique),
         _ => false,
     }
 }
