@@ -19,19 +19,22 @@ use std::sync::Arc;
 /// The last moment that there is, 2 ^ 53 milliseconds.
 const LAST_MOMENT: u64 = 9_007_199_254_740_992;
 
+/// A daemon as threads share it: the turn at it, and the first seat there.
+#[derive(Drop)]
+pub struct SharedDaemon {
+    pub turn: Arc<Turn<Shared>>,
+    pub seat: Seat<Shared>,
+}
+
 /// Hands the plan of what is asked to a place and boots its daemon, as threads share it: one with that host, at the address of the
-/// plan. It boots at the moment that the place's clock tells, or at 2^53 ms where that is later, with a word of the place. The answer
-/// is the turn at the daemon and the first seat there; the error is a status:
+/// plan. It boots at the moment that the place's clock tells, or at 2^53 ms where that is later, with a word of the place. The error is
+/// a status:
 /// - 6: memory was refused.
 /// - 11: the link failed, so that the clock or the words couldn't be made.
-pub fn boot_plan<P: Place>(
-    alloc: Global,
-    asked: Asked,
-    place: &mut P,
-) -> Result<(Arc<Turn<Shared>>, Seat<Shared>), u8>
-    ensures seat { IfOk result (λ made. IsSeatOf (arc_value made.0) made.1) }
+pub fn boot_plan<P: Place>(alloc: Global, asked: Asked, place: &mut P) -> Result<SharedDaemon, u8>
+    ensures seat { IfOk result (λ made. IsSeatOf (arc_value made.turn) made.seat) }
     // The daemon that all threads share was booted with that host and the plan's address, and nothing happened to it since.
-    ensures boots { IfOk result (λ made. BootsAt asked.host asked.plan.address (arc_value made.0).opening) }
+    ensures boots { IfOk result (λ made. BootsAt asked.host asked.plan.address (arc_value made.turn).opening) }
     ensures place { OnOk result (P.counted place.new ≡ record (P.counted place.old) { plan = Some asked.plan }) }
     ensures failed { IfErr result (λ status. Serves asked.plan (P.counted place.old) (P.counted place.new) status × ((status ≡ 6) ⊎ (status ≡ 11))) }
 {
@@ -74,9 +77,9 @@ fn booted(
     host: HostLabel,
     address: u32,
     boot: Boot,
-) -> Result<(Arc<Turn<Shared>>, Seat<Shared>), AllocError>
-    ensures seat { IfOk result (λ made. IsSeatOf (arc_value made.0) made.1) }
-    ensures boots { IfOk result (λ made. Boots (config_with host address) (min boot.now (2 ^ 53)) boot.word (arc_value made.0).opening) }
+) -> Result<SharedDaemon, AllocError>
+    ensures seat { IfOk result (λ made. IsSeatOf (arc_value made.turn) made.seat) }
+    ensures boots { IfOk result (λ made. Boots (config_with host address) (min boot.now (2 ^ 53)) boot.word (arc_value made.turn).opening) }
 {
     let config = Config {
         address,
@@ -87,5 +90,6 @@ fn booted(
     };
     let (daemon, _) = Daemon::new(alloc, config, boot.now.min(LAST_MOMENT), boot.word)?;
     let (turn, seat) = Turn::new(alloc, Shared::new(alloc, daemon)?)?;
-    Ok((Arc::new(alloc, turn)?, seat))
+    let turn = Arc::new(alloc, turn)?;
+    Ok(SharedDaemon { turn, seat })
 }

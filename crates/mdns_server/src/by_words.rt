@@ -67,7 +67,7 @@ fn serve_asked<R: Wait + Copy + Send + 'static, P: Place, K: Sink>(
     ensures quiet { result ≢ 5 → K.faults output.new ≡ K.faults output.old }
 {
     match boot_plan(alloc, asked, place) {
-        Ok((turn, mut seat)) => serve(rt, alloc, &turn, &mut seat, place, output),
+        Ok(mut daemon) => serve(rt, alloc, &mut daemon, place, output),
         Err(status) => status,
     }
 }

@@ -16,7 +16,7 @@ mod status;
 mod stop;
 mod wrong;
 
-pub use booting::boot_plan;
+pub use booting::{SharedDaemon, boot_plan};
 pub use by_words::serve_by_words;
 pub use serving::serve;
 pub use wrong::say_wrong;

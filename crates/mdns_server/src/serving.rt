@@ -8,6 +8,7 @@ ghost use Rattle.mdns_server.specs.Endings.{Ends, IsServeStatus, IsLoopStatus, i
 ghost use Rattle.mdns_server.specs.Openings.{Opens};
 
 use crate::accepting::{Desk, accept_started};
+use crate::booting::SharedDaemon;
 use crate::chair::{Chair, chair_beside};
 use crate::closing::close;
 use crate::making::{Parts, make_parts};
@@ -31,11 +32,11 @@ struct Opening<R, E: Ear> {
     ear_slot: Arc<Slot<E>>,
 }
 
-/// Serves the daemon of a turn: it puts the line `serving`, accepts connections, and opens a session for each, with two
+/// Serves a daemon: it puts the line `serving`, accepts connections, and opens a session for each, with two
 /// halves in threads of their own; the ear and the ticker have threads, too. It ends when the door gives no more, or when
 /// something fails; then no more is accepted, and the sessions run to their end.
 ///
-/// The seat is used for the turns that open a session, one for each connection. A connection for which there is no room or
+/// The daemon's seat is used for the turns that open a session, one for each connection. A connection for which there is no room or
 /// no memory is finished at once. The status:
 /// - 0: the door gave its last connection, and all sessions ended.
 /// - 5: the output failed. Nothing was accepted.
@@ -46,14 +47,13 @@ struct Opening<R, E: Ear> {
 pub fn serve<R: Wait + Copy + Send + 'static, P: Place, K: Sink>(
     rt: R,
     alloc: Global,
-    turn: &Arc<Turn<Shared>>,
-    seat: &mut Seat<Shared>,
+    daemon: &mut SharedDaemon,
     place: &mut P,
     output: &mut K,
 ) -> u8
-    requires { IsSeatOf (arc_value turn.now) seat.old }
+    requires { IsSeatOf (arc_value daemon.old.turn) daemon.old.seat }
     ensures ends { Ends (P.counted place.old) (P.counted place.new) result }
-    ensures opens { Opens seat.old seat.new (P.counted place.old).given (P.counted place.new).given (is_done result) }
+    ensures opens { Opens daemon.old.seat daemon.new.seat (P.counted place.old).given (P.counted place.new).given (is_done result) }
     ensures status { IsServeStatus result }
     // The line `serving` was put, or a beginning of it.
     ensures put { (n : ℕ) × Appends (K.held output.old) (K.held output.new) (take n serving_line) }
@@ -65,8 +65,8 @@ pub fn serve<R: Wait + Copy + Send + 'static, P: Place, K: Sink>(
         Ok(parts) => parts,
         Err(status) => return status,
     };
-    match get_ready(rt, alloc, turn, seat, output) {
-        Ok(opening) => run(opening, parts, seat, place),
+    match get_ready(rt, alloc, &daemon.turn, &mut daemon.seat, output) {
+        Ok(opening) => run(opening, parts, &mut daemon.seat, place),
         Err(status) => {
             give_back(place, parts);
             status

@@ -17,7 +17,7 @@ mod why;
 use crate::help::help_for;
 use crate::outside::{Input, Output};
 use crate::stop::{DONE, WRITE_FAULT};
-use crate::top::mdnsd;
+use crate::top::{CommandLine, mdnsd};
 use crate::why::why;
 use mdns_real::RealPlace;
 use std::alloc::AllocError;
@@ -38,7 +38,8 @@ fn main(rt: HostRuntime) -> ExitCode {
     let mut output = Output::new(io::writer(&rt));
     let mut place = RealPlace::new(rt, alloc);
     let args = env::args(&rt);
-    let status = mdnsd(&rt, alloc, args, &mut input, &mut output, &mut place);
+    let line = CommandLine { alloc, args };
+    let status = mdnsd(&rt, line, &mut input, &mut output, &mut place);
     let stopped = output.stopped_at().map(|line| (input.kept(), line));
     if status != DONE
         && let Ok(why) = why(alloc, status, words.as_slice(), stopped, place.trouble())

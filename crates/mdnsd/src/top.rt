@@ -21,28 +21,33 @@ use std::env::Args;
 use std::io;
 use std::sync::Wait;
 
-/// All that the program does with its command line as it was read: the program's own name, and then the words. The
-/// answer is its status.
+/// The command line as it was read, the program's own name first, and what its words take memory from.
+#[derive(Drop)]
+pub struct CommandLine {
+    pub alloc: Global,
+    pub args: io::Result<Args>,
+}
+
+/// All that the program does with its command line. The answer is its status.
 ///
 /// The commands are `script`, with the statuses of `run_script`, `gen` with a number from 1 to 200, with those of `run_gen`, and
 /// `serve` with words that ask for a server, with those of `serve_by_words`. Other words, and a word that is no text, give 2; want of memory for the words gives 6. Then
 /// nothing is read, written or made.
 pub fn mdnsd<R: Wait + Copy + Send + 'static, S: Source, K: Sink, P: Place>(
     rt: &R,
-    alloc: Global,
-    args: io::Result<Args>,
+    line: CommandLine,
     input: &mut S,
     output: &mut K,
     place: &mut P,
 ) -> u8
-    ensures usage { result ≡ 2 → AreNoCommand args }
-    ensures unread { AreNoCommand args → ((result ≡ 2) ⊎ (result ≡ 6))
+    ensures usage { result ≡ 2 → AreNoCommand line.args }
+    ensures unread { AreNoCommand line.args → ((result ≡ 2) ⊎ (result ≡ 6))
         × (input.new ≡ input.old) × (output.new ≡ output.old) × (place.new ≡ place.old) }
-    ensures lacking { LackMemory args → (result ≡ 6)
+    ensures lacking { LackMemory line.args → (result ≡ 6)
         × (input.new ≡ input.old) × (output.new ≡ output.old) × (place.new ≡ place.old) }
 
     // A script.
-    ensures done { AreScript args → result ≡ 0 → ReadAll (S.left input.old) (S.left input.new)
+    ensures done { AreScript line.args → result ≡ 0 → ReadAll (S.left input.old) (S.left input.new)
         (λ script. PlaysScript script (K.held output.old) (K.held output.new)) }
     ensures bad { result ≡ 3 → ReadAll (S.left input.old) (S.left input.new)
         (λ script. Stops script (K.held output.old) (K.held output.new)) }
@@ -51,28 +56,29 @@ pub fn mdnsd<R: Wait + Copy + Send + 'static, S: Source, K: Sink, P: Place>(
     ensures quiet_source { result ≢ 4 → S.faults input.new ≡ S.faults input.old }
     ensures large { result ≡ 8 → IsTooLarge (S.left input.old) (S.left input.new) × (output.new ≡ output.old) }
     // A beginning of what was to be printed was then put.
-    ensures broken { AreScript args → result ≡ 5 → ReadAll (S.left input.old) (S.left input.new)
+    ensures broken { AreScript line.args → result ≡ 5 → ReadAll (S.left input.old) (S.left input.new)
         (λ script. BreaksOff script (K.held output.old) (K.held output.new)) }
-    ensures memory { AreScript args → result ≡ 6 → (output.new ≡ output.old) ⊎ ReadAll (S.left input.old) (S.left input.new)
+    ensures memory { AreScript line.args → result ≡ 6 → (output.new ≡ output.old) ⊎ ReadAll (S.left input.old) (S.left input.new)
         (λ script. BreaksOff script (K.held output.old) (K.held output.new)) }
-    ensures script { AreScript args → IsScriptStatus result × (place.new ≡ place.old) }
+    ensures script { AreScript line.args → IsScriptStatus result × (place.new ≡ place.old) }
 
     // A script that is made of a number: its summary was put, a beginning of it, or nothing.
-    ensures generated { (n : ℕ) → AreGen n args → IsGenStatus result × (input.new ≡ input.old) × (place.new ≡ place.old) }
-    ensures summary { (n : ℕ) → AreGen n args → result ≡ 0 → GainsSummary n (K.held output.old) (K.held output.new) }
-    ensures beginning { (n : ℕ) → AreGen n args → result ≡ 5 → BeginsSummary n (K.held output.old) (K.held output.new) }
-    ensures nothing { (n : ℕ) → AreGen n args → result ≡ 6 → output.new ≡ output.old }
+    ensures generated { (n : ℕ) → AreGen n line.args → IsGenStatus result × (input.new ≡ input.old) × (place.new ≡ place.old) }
+    ensures summary { (n : ℕ) → AreGen n line.args → result ≡ 0 → GainsSummary n (K.held output.old) (K.held output.new) }
+    ensures beginning { (n : ℕ) → AreGen n line.args → result ≡ 5 → BeginsSummary n (K.held output.old) (K.held output.new) }
+    ensures nothing { (n : ℕ) → AreGen n line.args → result ≡ 6 → output.new ≡ output.old }
 
     // A server. What its status says of the place, which was given the plan.
-    ensures serves { (plan : ServePlan) → AskFor plan args
+    ensures serves { (plan : ServePlan) → AskFor plan line.args
         → Serves plan (P.counted place.old) (P.counted place.new) result ⊎ ((result ≡ 6) × (place.new ≡ place.old)) }
-    ensures server { (plan : ServePlan) → AskFor plan args → IsServeStatus result × (input.new ≡ input.old) }
-    ensures serving { (plan : ServePlan) → AskFor plan args → result ≡ 0 → Appends (K.held output.old) (K.held output.new) serving_line }
-    ensures line { (plan : ServePlan) → AskFor plan args → (n : ℕ) × Appends (K.held output.old) (K.held output.new) (take n serving_line) }
+    ensures server { (plan : ServePlan) → AskFor plan line.args → IsServeStatus result × (input.new ≡ input.old) }
+    ensures serving { (plan : ServePlan) → AskFor plan line.args → result ≡ 0 → Appends (K.held output.old) (K.held output.new) serving_line }
+    ensures line { (plan : ServePlan) → AskFor plan line.args → (n : ℕ) × Appends (K.held output.old) (K.held output.new) (take n serving_line) }
 
     ensures write { result ≡ 5 → Rose (K.faults output.old) (K.faults output.new) }
     ensures quiet_sink { result ≢ 5 → K.faults output.new ≡ K.faults output.old }
 {
+    let CommandLine { alloc, args } = line;
     let words = match words_of(alloc, args) {
         Ok(words) => words,
         Err(status) => return status,

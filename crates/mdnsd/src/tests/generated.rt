@@ -1,6 +1,6 @@
 // Scripts that are made of a number.
 use crate::stop::{NO_MEMORY, WRITE_FAULT};
-use crate::top::mdnsd;
+use crate::top::{CommandLine, mdnsd};
 use mdns_base::{MemSink, MemSource};
 use mdns_real::RealPlace;
 use std::alloc::{AllocError, Global};
@@ -48,7 +48,13 @@ fn summaries(rt: HostRuntime) -> Result<(), Fail> {
         let mut source = MemSource::new(Vec::new(alloc), Vec::new(alloc));
         let mut sink = MemSink::new(alloc, Vec::new(alloc));
         let mut place = RealPlace::new(rt, alloc);
-        let found = mdnsd(&rt, alloc, args, &mut source, &mut sink, &mut place);
+        let found = mdnsd(
+            &rt,
+            CommandLine { alloc, args },
+            &mut source,
+            &mut sink,
+            &mut place,
+        );
         if found == NO_MEMORY || found == WRITE_FAULT {
             // A sink of which no call is listed fails for want of memory alone.
             assert_eq!(rt; sink.bytes(), b"".as_slice());
@@ -67,7 +73,13 @@ fn the_sink_fails(rt: HostRuntime) -> Result<(), Fail> {
     let mut source = MemSource::new(Vec::new(alloc), Vec::new(alloc));
     let mut sink = MemSink::new(alloc, Vec::from_slice(alloc, &[1])?);
     let mut place = RealPlace::new(rt, alloc);
-    let found = mdnsd(&rt, alloc, args, &mut source, &mut sink, &mut place);
+    let found = mdnsd(
+        &rt,
+        CommandLine { alloc, args },
+        &mut source,
+        &mut sink,
+        &mut place,
+    );
     if found == NO_MEMORY {
         Err(AllocError)?;
     }

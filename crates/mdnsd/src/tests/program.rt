@@ -4,7 +4,7 @@ ghost use Rattle.std.specs.Prelude.{None};
 use crate::script::run_script;
 use crate::stop::NO_MEMORY;
 use crate::tests::{expect, status_of};
-use crate::top::mdnsd;
+use crate::top::{CommandLine, mdnsd};
 use mdns_base::{Failed, MemSink, MemSource, Source};
 use mdns_real::RealPlace;
 use std::alloc::{AllocError, Global};
@@ -73,7 +73,13 @@ fn words(rt: HostRuntime) -> Result<(), Fail> {
         let mut source = MemSource::new(Vec::new(alloc), Vec::new(alloc));
         let mut sink = MemSink::new(alloc, Vec::new(alloc));
         let mut place = RealPlace::new(rt, alloc);
-        let found = mdnsd(&rt, alloc, args, &mut source, &mut sink, &mut place);
+        let found = mdnsd(
+            &rt,
+            CommandLine { alloc, args },
+            &mut source,
+            &mut sink,
+            &mut place,
+        );
         if found == NO_MEMORY && are_read {
             Err(AllocError)?;
         }

@@ -11,5 +11,5 @@ returns-in-Err-clause-line g c = λ plan asks. unput serving_line (g.K.Sink.held
 pub returns-in-Some-serve_words-clause-unread : goal.returns-in-Some-serve_words-clause-unread
 returns-in-Some-serve_words-clause-unread g c = λ none.
     let behind = ap (λ l. behind_serve (texts l)) (sym c.deref-3.ensures.value) ∙ c.in-Some-serve_words.ensures in
-    let w = c.serve_by_words.ensures.wrong (no_plan c.args.args _ _ none c.in-Ok.ensures.words behind) in
+    let w = c.serve_by_words.ensures.wrong (no_plan c.args.line.args _ _ none c.in-Ok.ensures.words behind) in
     (w.0, refl, w.2, w.1)
