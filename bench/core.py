@@ -10,7 +10,7 @@ import tempfile
 
 from tools import built, instructions, table
 
-STANDS_ON = "mdns_core mdns_history mdns_cache sd_call dns_record dns_name mdns_base bytes"
+STANDS_ON = "mdns_core mdns_happened mdns_history mdns_cache sd_call dns_record dns_name mdns_base bytes"
 WHY = "The daemon keeps plain lists, copies what it holds at each step, and goes over all of it for each live operation."
 PROGRAM = r"""//! Lets a daemon hear so many packets while operations are live.
 #![tactic(auto)]
@@ -18,9 +18,10 @@ ghost use Rattle.std.specs.Prelude.{◌≡◌, ◌<◌};
 
 use bytes::Bytes;
 use dns_name::Name;
-use mdns_base::Host;
+use mdns_base::{Host, Moment};
 use mdns_cache::Steps;
 use mdns_core::Daemon;
+use mdns_happened::When;
 use mdns_history::{Config, Event};
 use sd_call::Request;
 use std::alloc::{AllocError, Global};
@@ -61,13 +62,13 @@ fn one(alloc: Global, address: u32) -> Result<Vec<u8>, AllocError> {
 }
 
 fn tell<L: Ledger>(daemon: &mut Daemon, steps: &mut Steps<L>, event: Event) -> Result<(), AllocError> {
-    if daemon.last() > 0 {
+    if daemon.last().ms() > 0 {
         return Ok(());
     }
     match event {
         Event::Boot { .. } => Ok(()),
         _ => {
-            let _ = daemon.step(0, 0, event, steps)?;
+            let _ = daemon.step(When::new(Moment::default(), 0), event, steps)?;
             Ok(())
         }
     }
@@ -131,7 +132,7 @@ fn run<L: Ledger>(alloc: Global, blank: Blank, what: u32, times: u32) -> Result<
         address: 0x0a00_0001,
         host: None,
     };
-    let (mut daemon, _) = Daemon::new(alloc, config, 0, 0)?;
+    let (mut daemon, _) = Daemon::new(alloc, config, When::new(Moment::default(), 0))?;
     tell(&mut daemon, &mut steps, Event::Attach)?;
     if what == 0 {
         ten_operations(alloc, &mut daemon, &mut steps, times)

@@ -11,6 +11,9 @@ use std::alloc::Global;
 /// The class IN. (RFC 1035 3.2.4)
 const INTERNET: u16 = 1;
 
+/// In a question: any class. (RFC 1035 3.2.5)
+const ANY: u16 = 255;
+
 // The bit of the class that asks for a unicast answer, or says that a record's set is complete.
 const TOP_BIT: u16 = 0x8000;
 
@@ -66,7 +69,7 @@ fn read_question(packet: &Packet<'_>, at: usize) -> Result<(Option<Question>, us
         return Err(MessageError::Truncated);
     }
     let class = packet.u16_at(fields + 2);
-    let kept = class % TOP_BIT == INTERNET || class % TOP_BIT == kinds::ANY;
+    let kept = class % TOP_BIT == INTERNET || class % TOP_BIT == ANY;
     let question = kept.then_some(Question {
         name,
         kind: packet.u16_at(fields),

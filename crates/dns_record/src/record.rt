@@ -1,5 +1,5 @@
 // Records, their data, and questions.
-ghost use Rattle.std.specs.Prelude.{◌≡◌, IfOk};
+ghost use Rattle.std.specs.Prelude.{◌*◌, ◌<◌, ◌^◌, ◌≡◌, IfOk};
 ghost use Rattle.dns_record.specs.Records.{kind_of};
 
 use crate::kinds;
@@ -116,6 +116,14 @@ impl Rr {
             ttl: self.ttl,
             rdata: self.rdata.copy()?,
         })
+    }
+
+    /// The TTL in milliseconds: how long the record lives from when it is heard. (RFC 6762 10)
+    pub fn ttl_ms(&self) -> u64
+        ensures value { result ≡ 1000 * self.now.ttl }
+        ensures bound { result < 2 ^ 42 }
+    {
+        1000 * u64::from(self.ttl)
     }
 }
 

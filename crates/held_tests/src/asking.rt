@@ -8,6 +8,7 @@ use crate::causes::put_cause;
 use crate::read::{held, when};
 use dns_name::Name;
 use mdns_asking::{Asking, Plan};
+use mdns_base::Moment;
 use mdns_happened::{Happened, OwnWalk, Walk, When};
 use mdns_history::{Held, Marks, Sends};
 use row_words::{RowError, Told, key, name_of};
@@ -97,7 +98,7 @@ fn step(
     told.put_number(asking.first_due())?;
     let walked = walked(told.alloc, asking, &event, happened)?;
     told.put_count(", walked ", walked)?;
-    let walks = walks(told.alloc, event.when.moment, event.name, event.held)?;
+    let walks = walks(told.alloc, event.when.at(), event.name, event.held)?;
     carry_out(told, asking, event.when, happened, &walks)
 }
 
@@ -135,11 +136,11 @@ fn carry_out(
 }
 
 // The walk of a name: its record, once it was heard.
-fn walks(alloc: Global, now: u64, name: Name, one: Held) -> Result<Vec<Walk>, RowError>
+fn walks(alloc: Global, now: Moment, name: Name, one: Held) -> Result<Vec<Walk>, RowError>
     ensures { IfOk result (λ walks. AreHeard now walks.items) }
 {
     let mut later = Vec::new(alloc);
-    if one.heard <= now {
+    if one.heard.ms() <= now.ms() {
         later.push(one)?;
     }
     let mut walks = Vec::new(alloc);

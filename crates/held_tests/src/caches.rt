@@ -4,6 +4,7 @@ use crate::numbered::packet;
 use crate::read::{Packet, when};
 use dns_name::Name;
 use dns_record::Rr;
+use mdns_base::Moment;
 use mdns_cache::{Cache, HearError, Steps};
 use mdns_happened::When;
 use mdns_history::Held;
@@ -79,7 +80,7 @@ fn tell_visit<L: Ledger>(
     told.put_yes(cache.visit(name, place, steps).is_some())
 }
 
-fn tell_room(told: &mut Told, cache: &Cache, now: u64, heard: &[Rr]) -> Result<(), RowError> {
+fn tell_room(told: &mut Told, cache: &Cache, now: Moment, heard: &[Rr]) -> Result<(), RowError> {
     told.put_yes(cache.fits(now, heard))
 }
 
@@ -92,10 +93,10 @@ fn hear<L: Ledger>(
 ) -> Result<bool, RowError> {
     let when = packet.when;
     for _ in 0..=cache.len() {
-        match cache.expire(when.moment, steps) {
+        match cache.expire(when.at(), steps) {
             Some(one) => gone.push(one)?,
             None => {
-                return match cache.hear(when.moment, when.word, packet.heard) {
+                return match cache.hear(when.at(), when.word, packet.heard) {
                     Ok(()) => Ok(true),
                     Err(HearError::Full) => Ok(false),
                     Err(HearError::NoMemory) => Err(RowError::NoMemory(AllocError)),
@@ -124,7 +125,7 @@ fn put_gone(told: &mut Told, gone: &[Held]) -> Result<(), RowError> {
         told.put("\n  ended ")?;
         told.put_record(&one.rr)?;
         told.put(" from ")?;
-        told.put_decimal(one.heard)?;
+        told.put_decimal(one.heard.ms())?;
         told.put(" to ")?;
         told.put_decimal(one.end)?;
         told.put(" word ")?;

@@ -3,6 +3,7 @@
 use crate::numbered::of_names;
 use crate::read::Packet;
 use dns_name::Name;
+use mdns_base::Moment;
 use mdns_cache::Steps;
 use mdns_history::Held;
 use mdns_records::Records;
@@ -60,7 +61,7 @@ fn hear<L: Ledger>(
 
 // How many names a packet touches. Nothing is changed.
 fn tell_touched(told: &mut Told, held: &Records, packet: &Packet) -> Result<(), RowError> {
-    let touched = held.touched(packet.when.moment, packet.heard.as_slice())?;
+    let touched = held.touched(packet.when.at(), packet.heard.as_slice())?;
     told.put_count("touched ", touched.len())
 }
 
@@ -90,20 +91,20 @@ fn tell_looks<L: Ledger>(
     packet: &Packet,
 ) -> Result<(), RowError> {
     let heard = packet.heard.as_slice();
-    let names = held.touched(packet.when.moment, heard)?;
+    let names = held.touched(packet.when.at(), heard)?;
     let mut looks = 1usize;
     for walk in held.walk(packet.when, heard, names, steps)? {
-        let ended = ended_in(&walk.earlier, packet.when.moment);
+        let ended = ended_in(&walk.earlier, packet.when.at());
         looks = looks.saturating_add(walk.earlier.len().saturating_add(ended).saturating_add(1));
     }
     told.put_count("looks ", looks)
 }
 
 // How many records have ended by a moment.
-fn ended_in(held: &[Held], now: u64) -> usize {
+fn ended_in(held: &[Held], now: Moment) -> usize {
     let mut ended = 0usize;
     for one in held {
-        if one.end <= now {
+        if !one.is_live(now) {
             ended = ended.saturating_add(1);
         }
     }
@@ -128,7 +129,7 @@ fn carry_out<L: Ledger>(
     packet: Packet,
 ) -> Result<(), RowError> {
     let heard = packet.heard.as_slice();
-    if !held.fits(packet.when.moment, heard) {
+    if !held.fits(packet.when.at(), heard) {
         return told.put(", full");
     }
     held.reserve(heard.len())?;

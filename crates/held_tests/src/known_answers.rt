@@ -4,6 +4,7 @@ use crate::read::all_held;
 use bytes::Bytes;
 use dns_message::Rrs;
 use dns_record::{Key, Rdata, Rr};
+use mdns_base::Moment;
 use mdns_history::Held;
 use mdns_known::{all_known_answers, known_answers, suppresses};
 use row_words::{RowError, Told, key, name_of, number, record};
@@ -49,8 +50,8 @@ fn keys(alloc: Global, text: &str) -> Result<Vec<Key>, RowError> {
 }
 
 fn known_at(alloc: Global, question: &Key, held: &[Held], now: u32) -> Result<Rrs, RowError> {
-    let now = u64::from(now);
-    if held.iter().any(|one| one.heard > now) {
+    let now = Moment::at_most_last(u64::from(now));
+    if held.iter().any(|one| one.heard.ms() > now.ms()) {
         return Err(RowError::NotUnderstood);
     }
     Ok(known_answers(alloc, question, held, now)?)
@@ -62,8 +63,8 @@ fn all_known_at(
     held: &[Held],
     now: u32,
 ) -> Result<Rrs, RowError> {
-    let now = u64::from(now);
-    if held.iter().any(|one| one.heard > now) {
+    let now = Moment::at_most_last(u64::from(now));
+    if held.iter().any(|one| one.heard.ms() > now.ms()) {
         return Err(RowError::NotUnderstood);
     }
     Ok(all_known_answers(alloc, questions, held, now)?)
@@ -80,7 +81,7 @@ fn tell_long(told: &mut Told, size: u32) -> Result<(), RowError> {
     };
     let held = Held {
         rr,
-        heard: 0,
+        heard: Moment::default(),
         word: 0,
         end: 120_000,
     };

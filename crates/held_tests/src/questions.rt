@@ -3,6 +3,7 @@
 use crate::causes::put_cause;
 use crate::read::{held, when};
 use dns_record::Key;
+use mdns_base::Moment;
 use mdns_history::{Cause, Held};
 use mdns_question::{Asker, first_refresh};
 use row_words::{RowError, Told, key, moment, number};
@@ -38,7 +39,7 @@ impl Asked {
             }
             ["start", now, word, question] => {
                 let when = when(*now, *word)?;
-                self.asker.start(when.moment, when.word, &key(*question)?)?;
+                self.asker.start(when.at(), when.word, &key(*question)?)?;
                 told.put("done")
             }
             ["stop", question] => told.put_yes(self.asker.stop(&key(*question)?)),
@@ -94,7 +95,9 @@ impl Asked {
         told.put("due ")?;
         told.put_number(self.asker.first_due())?;
         told.put(", asked ")?;
-        let due = self.asker.due_by_kept(alloc, u64::from(now))?;
+        let due = self
+            .asker
+            .due_by_kept(alloc, Moment::at_most_last(u64::from(now)))?;
         for (place, one) in due.iter().enumerate() {
             told.put_plus(place)?;
             put_cause(told, one.1)?;
@@ -119,5 +122,5 @@ impl Asked {
 }
 
 fn note(asker: &mut Asker, now: u32, question: &Key, cause: Cause) {
-    asker.asked(u64::from(now), question, cause);
+    asker.asked(Moment::at_most_last(u64::from(now)), question, cause);
 }

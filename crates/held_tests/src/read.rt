@@ -3,15 +3,12 @@
 use dns_message::Rrs;
 use mdns_happened::When;
 use mdns_history::Held;
-use row_words::{RowError, moment, number, record, records};
+use row_words::{RowError, milliseconds, moment, number, record, records};
 use std::alloc::Global;
 
 /// When an event comes: its moment, in ms, and its random word.
 pub fn when(now: &str, word: &str) -> Result<When, RowError> {
-    Ok(When {
-        moment: u64::from(number::<u32>(now)?),
-        word: number(word)?,
-    })
+    Ok(When::new(moment(now)?, number(word)?))
 }
 
 /// A held record: its text, and the moments at which it was heard and at which it ends.
@@ -22,7 +19,7 @@ pub fn held(alloc: Global, text: &str) -> Result<Held, RowError> {
         rr: record(alloc, text)?,
         heard: moment(heard)?,
         word: 0,
-        end: moment(end)?,
+        end: milliseconds(end)?,
     })
 }
 

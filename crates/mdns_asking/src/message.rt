@@ -47,7 +47,7 @@ fn is_asked_by(
     if !may_stand_for(when, heard, one) {
         return Ok(false);
     }
-    let known = known_answers(alloc, &one.key, held, when.moment)?;
+    let known = known_answers(alloc, &one.key, held, when.at())?;
     let answers = heard.message.answers.as_slice();
     Ok(knows_no_more(&one.key, known.as_slice(), answers))
 }

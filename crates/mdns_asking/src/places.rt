@@ -14,6 +14,7 @@ ghost use Rattle.mdns_asking.specs.Places.{ArePut, is_near};
 use crate::message::{asks_openly, may_be_ours};
 use dns_name::Name;
 use dns_record::Question;
+use mdns_base::Moment;
 use mdns_happened::{Happened, Heard, Walk, When};
 use mdns_question::{Asker, Tracked};
 use std::alloc::{AllocError, Global};
@@ -146,14 +147,14 @@ impl Places {
         ensures { OnOk result (ArePut (may_be_asked (told_by happened.now) when.moment) asker.now.questions self.old.places.items self.new.places.items) }
     {
         match happened {
-            Happened::Ticked => self.put_due(asker, when.moment),
+            Happened::Ticked => self.put_due(asker, when.at()),
             Happened::Heard(heard) => self.put_heard(asker, when, heard),
             _ => Ok(()),
         }
     }
 
     // Puts the places of the questions that are due by what is kept of them.
-    fn put_due(&mut self, asker: &Asker, now: u64) -> Result<(), AllocError>
+    fn put_due(&mut self, asker: &Asker, now: Moment) -> Result<(), AllocError>
         ensures { OnOk result (ArePut (λ one. is_some (cause_of now one)) asker.now.questions self.old.places.items self.new.places.items) }
     {
         let questions = asker.questions();

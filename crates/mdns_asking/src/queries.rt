@@ -7,7 +7,7 @@ ghost use Rattle.mdns_asking.specs.ByWalks.{known_by, queries_by, sent_by};
 
 use crate::walked::later_of;
 use dns_record::Key;
-use mdns_base::Dest;
+use mdns_base::{Dest, Moment};
 use mdns_happened::{Happened, Walk, When};
 use mdns_history::{Cause, Sends, Sent};
 use mdns_known::put_known_listings;
@@ -56,24 +56,24 @@ fn queries_for(
     requires { AreHeard when.moment walks.now }
     ensures { IfOk result (λ messages. map to_all messages ≡ queries_by walks.now when.moment keys.now) }
 {
-    let known = all_known(alloc, when, walks, keys)?;
+    let known = all_known(alloc, when.at(), walks, keys)?;
     pack_listings(alloc, keys, &known)
 }
 
 // The known answers of questions, each once and in record order: those of each question are over the later records of its name.
 fn all_known<'a>(
     alloc: Global,
-    when: When,
+    now: Moment,
     walks: &'a [Walk],
     keys: &[Key],
 ) -> Result<Vec<Listing<'a>>, AllocError>
-    requires { AreHeard when.moment walks.now }
-    ensures { IfOk result (λ known. known.items ≡ known_by keys.now walks.now when.moment) }
+    requires { AreHeard now walks.now }
+    ensures { IfOk result (λ known. known.items ≡ known_by keys.now walks.now now) }
 {
     let mut all = Vec::new(alloc);
     for key in keys {
         let held = later_of(&key.name, walks);
-        put_known_listings(alloc, &mut all, key, held, when.moment)?;
+        put_known_listings(alloc, &mut all, key, held, now)?;
     }
     listings_in_order(all)
 }

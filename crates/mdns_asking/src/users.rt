@@ -104,7 +104,7 @@ pub fn begin(asker: &mut Asker, when: When, keys: &[Key])
     ensures { asker.new.questions ≡ all_begun when.moment when.word keys.now asker.old.questions }
 {
     for key in keys {
-        let _ = asker.start(when.moment, when.word, key);
+        let _ = asker.start(when.at(), when.word, key);
     }
 }
 
@@ -122,6 +122,6 @@ pub fn note(asker: &mut Asker, when: When, asked: &[(Key, Cause)])
     ensures { asker.new.questions ≡ all_asked when.moment asked.now asker.old.questions }
 {
     for one in asked {
-        asker.asked(when.moment, &one.0, one.1);
+        asker.asked(when.at(), &one.0, one.1);
     }
 }

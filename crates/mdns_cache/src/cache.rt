@@ -20,6 +20,7 @@ use crate::steps::Steps;
 use dns_message::Rrs;
 use dns_name::Name;
 use dns_record::Rr;
+use mdns_base::Moment;
 use mdns_history::Held;
 use std::alloc::{AllocError, Global};
 use std::marker::Model;
@@ -97,7 +98,7 @@ impl Cache {
     }
 
     /// Whether as many records may be live as would be after `hear` of these at `now`.
-    pub fn fits(&self, now: u64, heard: &[Rr]) -> bool
+    pub fn fits(&self, now: Moment, heard: &[Rr]) -> bool
         ensures live { (past : List Hearing) (word : ℕ) → Stands self.now.held past now
             → IsTrue result ↔ (length (live_of (hearings_at now word heard.now ++ past) now) ≤ self.now.limit) }
         // The same, told of what is then held.
@@ -113,8 +114,7 @@ impl Cache {
     /// Hears the records of a packet, in their order, at `now` with the packet's random word. `Full` where more records
     /// than the limit would be live, and `NoMemory` only where there is no room for all of `heard`. After an `Err` the
     /// cache is as before. (RFC 6762 10, 10.1 and 10.2)
-    pub fn hear(&mut self, now: u64, word: u32, heard: Rrs) -> Result<(), HearError>
-        requires bound { now ≤ 2 ^ 53 }
+    pub fn hear(&mut self, now: Moment, word: u32, heard: Rrs) -> Result<(), HearError>
         requires live { AllLive now self.old.held }
 
         // It holds exactly the live records, for every list of hearings with these in front.
@@ -169,7 +169,7 @@ impl Cache {
 
     /// The owners of all held records that have ended at `now`, in no promised order. Nothing is changed. Refused only for
     /// want of memory.
-    pub fn ended(&self, now: u64) -> Result<Vec<Name>, AllocError>
+    pub fn ended(&self, now: Moment) -> Result<Vec<Name>, AllocError>
         ensures all { IfOk result (λ names. HasEnded self.now.held now names.items) }
         ensures only { IfOk result (λ names. AreOfEnded self.now.held now names.items) }
     {
@@ -186,7 +186,7 @@ impl Cache {
     }
 
     /// Takes out the first record that has ended at `now`, by end and then by record, `None` exactly where none has ended.
-    pub fn expire<L: Ledger>(&mut self, now: u64, steps: &mut Steps<L>) -> Option<Held>
+    pub fn expire<L: Ledger>(&mut self, now: Moment, steps: &mut Steps<L>) -> Option<Held>
         // What stood for hearings at an earlier moment stands for them now.
         ensures stands { (heard : List Hearing) (before : ℕ) → before ≤ now → Stands self.old.held heard before
             → Stands self.new.held heard now }

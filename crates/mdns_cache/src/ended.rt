@@ -10,6 +10,7 @@ ghost use Rattle.by_name.specs.Filed.{in_layers};
 use crate::ends::winner;
 use crate::holdings::Holdings;
 use dns_name::Name;
+use mdns_base::Moment;
 use mdns_history::Held;
 use std::alloc::{AllocError, Global};
 
@@ -18,7 +19,7 @@ pub fn ended_names(
     alloc: Global,
     records: &Holdings,
     nodes: &[usize],
-    now: u64,
+    now: Moment,
 ) -> Result<Vec<Name>, AllocError>
     requires played { IsPlayed (values_of records.now.entries) [] nodes.now }
     requires room { length records.now.entries ≤ length nodes.now }
@@ -45,7 +46,7 @@ fn put_ended(
     held: &[Held],
     nodes: &[usize],
     node: usize,
-    now: u64,
+    now: Moment,
     names: &mut Vec<Name>,
 ) -> Result<(), AllocError>
     requires some { 1 ≤ node }
@@ -62,7 +63,7 @@ fn put_ended(
         None => return Ok(()),
         Some(one) => one,
     };
-    if one.end > now {
+    if one.end > now.ms() {
         return Ok(());
     }
     if node >= nodes.len() {

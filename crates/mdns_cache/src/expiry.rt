@@ -11,10 +11,11 @@ use crate::ends::first_of;
 use crate::holdings::Holdings;
 use crate::removal::take_out;
 use by_name::Place;
+use mdns_base::Moment;
 use mdns_history::Held;
 
 /// Takes out the first record that has ended at `now`, in ms, by end and then by record.
-pub fn expire_from(records: &mut Holdings, nodes: &mut [usize], now: u64) -> Option<Held>
+pub fn expire_from(records: &mut Holdings, nodes: &mut [usize], now: Moment) -> Option<Held>
     requires filed { AreFiled records.old.entries }
     requires played { IsPlayed (values_of records.old.entries) [] nodes.old }
     requires room { length records.old.entries ≤ length nodes.old }
@@ -33,7 +34,7 @@ pub fn expire_from(records: &mut Holdings, nodes: &mut [usize], now: u64) -> Opt
 }
 
 // The place of the first record that has ended.
-fn first_place(records: &Holdings, nodes: &[usize], now: u64) -> Option<Place>
+fn first_place(records: &Holdings, nodes: &[usize], now: Moment) -> Option<Place>
     requires filed { AreFiled records.now.entries }
     requires played { IsPlayed (values_of records.now.entries) [] nodes.now }
     requires room { length records.now.entries ≤ length nodes.now }
@@ -42,7 +43,7 @@ fn first_place(records: &Holdings, nodes: &[usize], now: u64) -> Option<Place>
 {
     let index = first_of(nodes, records.values())?;
     let (place, one) = records.entry(index)?;
-    if one.end > now {
+    if one.end > now.ms() {
         return None;
     }
     Some(place.other(place.number()))

@@ -18,17 +18,17 @@ use crate::holdings::Holdings;
 use crate::look::same_near;
 use by_name::Place;
 use dns_record::Rr;
+use mdns_base::Moment;
 use mdns_history::Held;
 
 /// Hears records one after another, where there is room for as many.
 pub fn hear_all(
     records: &mut Holdings,
     nodes: &mut [usize],
-    now: u64,
+    now: Moment,
     word: u32,
     mut heard: Vec<Rr>,
 )
-    requires bound { now ≤ 2 ^ 53 }
     requires filed { AreFiled records.old.entries }
     requires once { AreOnce (values_of records.old.entries) }
     requires played { IsPlayed (values_of records.old.entries) [] nodes.old }
@@ -60,7 +60,6 @@ fn hear_one(
     later: &[Rr],
     near: usize,
 ) -> usize
-    requires bound { one.heard ≤ 2 ^ 53 }
     requires renewed { one ≡ renewed (hearing_at one.heard one.word one.rr) }
     requires filed { AreFiled records.old.entries }
     requires once { AreOnce (values_of records.old.entries) }
@@ -83,8 +82,7 @@ fn hear_one(
 }
 
 // Cuts the lives of records to a second where a hearing does so: a goodbye does, and a flush that isn't put off.
-fn shorten(records: &mut Holdings, nodes: &mut [usize], now: u64, rr: &Rr, later: &[Rr])
-    requires bound { now ≤ 2 ^ 53 }
+fn shorten(records: &mut Holdings, nodes: &mut [usize], now: Moment, rr: &Rr, later: &[Rr])
     requires filed { AreFiled records.old.entries }
     requires once { AreOnce (values_of records.old.entries) }
     requires played { IsPlayed (values_of records.old.entries) [] nodes.old }
@@ -125,8 +123,7 @@ fn flushes_same(other: &Rr, rr: &Rr) -> bool
 }
 
 // The same of a goodbye, whatever it flushes: it cuts the life of the record that is the same, if one is held.
-fn take_back(records: &mut Holdings, nodes: &mut [usize], now: u64, rr: &Rr)
-    requires bound { now ≤ 2 ^ 53 }
+fn take_back(records: &mut Holdings, nodes: &mut [usize], now: Moment, rr: &Rr)
     requires goodbye { rr.now.ttl ≡ 0 }
     requires filed { AreFiled records.old.entries }
     requires once { AreOnce (values_of records.old.entries) }
@@ -145,8 +142,7 @@ fn take_back(records: &mut Holdings, nodes: &mut [usize], now: u64, rr: &Rr)
 }
 
 // Cuts the lives of records to a second where a hearing does so, going over all records of the name.
-fn shorten_all(records: &mut Holdings, nodes: &mut [usize], now: u64, rr: &Rr)
-    requires bound { now ≤ 2 ^ 53 }
+fn shorten_all(records: &mut Holdings, nodes: &mut [usize], now: Moment, rr: &Rr)
     requires filed { AreFiled records.old.entries }
     requires played { IsPlayed (values_of records.old.entries) [] nodes.old }
     requires room { length records.old.entries ≤ length nodes.old }
@@ -167,8 +163,7 @@ fn shorten_all(records: &mut Holdings, nodes: &mut [usize], now: u64, rr: &Rr)
 }
 
 // Cuts the life of the record at an index to a second where a hearing does so.
-fn shorten_at(records: &mut Holdings, nodes: &mut [usize], index: usize, now: u64, rr: &Rr)
-    requires bound { now ≤ 2 ^ 53 }
+fn shorten_at(records: &mut Holdings, nodes: &mut [usize], index: usize, now: Moment, rr: &Rr)
     requires index { index < length records.old.entries }
     requires played { IsPlayed (values_of records.old.entries) [] nodes.old }
     requires room { length records.old.entries ≤ length nodes.old }
@@ -178,27 +173,13 @@ fn shorten_at(records: &mut Holdings, nodes: &mut [usize], index: usize, now: u6
     ensures played { IsPlayed (values_of records.new.entries) [] nodes.new }
     ensures spare { records.new.spare ≡ records.old.spare }
 {
-    if is_cut(&records.values()[index], now, rr) {
+    if records.values()[index].is_cut_by(now, rr) {
         cut_at(records, nodes, index, now);
     }
 }
 
-// Whether a hearing cuts the life of a record: a goodbye, or a flush more than a second after it was heard.
-fn is_cut(one: &Held, now: u64, rr: &Rr) -> bool
-    ensures { result ≡ cuts one.now.rr one.now.heard (hearing_at now 0 rr.now) }
-{
-    if rr.ttl == 0 && one.rr.same(rr) {
-        return true;
-    }
-    rr.flush
-        && one.rr.owner.folded_eq(&rr.owner)
-        && one.rr.rdata.kind() == rr.rdata.kind()
-        && one.heard < now.saturating_sub(1000)
-}
-
 // Cuts the life of the record at an index to a second.
-fn cut_at(records: &mut Holdings, nodes: &mut [usize], index: usize, now: u64)
-    requires bound { now ≤ 2 ^ 53 }
+fn cut_at(records: &mut Holdings, nodes: &mut [usize], index: usize, now: Moment)
     requires index { index < length records.old.entries }
     requires played { IsPlayed (values_of records.old.entries) [] nodes.old }
     requires room { length records.old.entries ≤ length nodes.old }
@@ -209,15 +190,14 @@ fn cut_at(records: &mut Holdings, nodes: &mut [usize], index: usize, now: u64)
     ensures spare { records.new.spare ≡ records.old.spare }
 {
     let end = records.values()[index].end;
-    records.set_end(index, (now + 1000).min(end));
+    records.set_end(index, (now.ms() + 1000).min(end));
     mend_changed(nodes, records.values(), index);
 }
 
-fn renewed(now: u64, word: u32, rr: Rr) -> Held
-    requires { now ≤ 2 ^ 53 }
+fn renewed(now: Moment, word: u32, rr: Rr) -> Held
     ensures { result ≡ renewed (hearing_at now word rr) }
 {
-    let end = now + 1000 * u64::from(rr.ttl);
+    let end = now.ms() + rr.ttl_ms();
     Held {
         rr,
         heard: now,

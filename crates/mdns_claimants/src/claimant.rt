@@ -9,6 +9,7 @@ ghost use Rattle.mdns_probe.specs.Kept.{name_of};
 use crate::owners::with_bits;
 use crate::renewal::Renewal;
 use dns_name::Name;
+use mdns_base::Moment;
 use mdns_probe::{Claim, Naming};
 use std::marker::Model;
 
@@ -93,8 +94,7 @@ impl Claimant {
     }
 
     /// Notes a tick, with announcements where there are any.
-    pub fn tick(&mut self, now: u64, announces: bool)
-        requires { now ≤ 2 ^ 53 }
+    pub fn tick(&mut self, now: Moment, announces: bool)
         ensures { self.new ≡ ticked_at now announces self.old }
     {
         self.claim.note_tick(now, announces);

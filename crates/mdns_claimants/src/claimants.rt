@@ -10,6 +10,7 @@ use crate::claimant::Claimant;
 use crate::due::{next_due, renew_all, tick_due};
 use crate::moment::moment_of;
 use crate::renewal::Renewal;
+use mdns_base::Moment;
 use mdns_timer::Deadlines;
 use std::alloc::{AllocError, Global};
 use std::marker::Model;
@@ -79,12 +80,12 @@ impl Claimants {
 
     /// The place of the first group, from the place `from` on, whose moment has come at `now`, in ms; `None` exactly where there is none. Of
     /// the groups that are passed over nothing is due.
-    pub fn place_due(&self, from: usize, now: u64) -> Option<usize>
+    pub fn place_due(&self, from: usize, now: Moment) -> Option<usize>
         ensures none { IfNone result (NoneDue (map moment_of self.now.kept) now from (length self.now.kept)) }
         ensures within { IfSome result (λ place. place < length self.now.kept) }
         ensures some { IfSome result (IsFirstDue (map moment_of self.now.kept) now from) }
     {
-        self.deadlines.next_due(from, now)
+        self.deadlines.next_due(from, now.ms())
     }
 
     /// Puts a group behind the others. It takes no memory.
@@ -98,8 +99,7 @@ impl Claimants {
     }
 
     /// Notes a tick, with announcements where there are any. Groups of which nothing is due aren't looked at.
-    pub fn tick(&mut self, now: u64, announces: bool)
-        requires { now ≤ 2 ^ 53 }
+    pub fn tick(&mut self, now: Moment, announces: bool)
         ensures kept { self.new.kept ≡ map (ticked_at now announces) self.old.kept }
         ensures spare { self.new.spare ≡ self.old.spare }
     {

@@ -8,6 +8,7 @@ ghost use Rattle.mdns_claimants.specs.Named.{AreNamed, IsNamedAt, with_renewal, 
 use crate::claimant::Claimant;
 use crate::moment::{LAST_MOMENT, first_due, moment_of};
 use crate::renewal::Renewal;
+use mdns_base::Moment;
 use mdns_timer::Deadlines;
 
 /// The first moment, in ms, from which on something is due of a group by itself; `None` exactly where there is none. No group is
@@ -31,15 +32,14 @@ pub fn next_due(groups: &[Claimant], deadlines: &Deadlines, announces: bool) -> 
 
 /// Notes a tick, with announcements where there are any, at each group of which something is due. Of the others a tick makes
 /// nothing else.
-pub fn tick_due(groups: &mut [Claimant], deadlines: &mut Deadlines, now: u64, announces: bool)
-    requires now { now ≤ 2 ^ 53 }
+pub fn tick_due(groups: &mut [Claimant], deadlines: &mut Deadlines, now: Moment, announces: bool)
     requires timed { deadlines.old.moments ≡ map moment_of groups.old }
     ensures groups { groups.new ≡ map (ticked_at now announces) groups.old }
     ensures timed { deadlines.new.moments ≡ map moment_of groups.new }
     ensures spare { deadlines.new.spare ≡ deadlines.old.spare }
 {
     let mut from = 0;
-    while let Some(place) = deadlines.next_due(from, now) {
+    while let Some(place) = deadlines.next_due(from, now.ms()) {
         tick_at(groups, place, now, announces);
         let next = moment_of(&groups[place]);
         deadlines.set(place, next);
@@ -47,8 +47,7 @@ pub fn tick_due(groups: &mut [Claimant], deadlines: &mut Deadlines, now: u64, an
     }
 }
 
-fn tick_at(groups: &mut [Claimant], place: usize, now: u64, announces: bool)
-    requires now { now ≤ 2 ^ 53 }
+fn tick_at(groups: &mut [Claimant], place: usize, now: Moment, announces: bool)
     requires place { place < length groups.old }
     ensures { IsChangedAt (ticked_at now announces) place groups.old groups.new }
 {

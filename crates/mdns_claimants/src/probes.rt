@@ -9,13 +9,13 @@ use crate::claimants::Claimants;
 use dns_message::{Message, Questions, Rrs};
 use dns_name::Name;
 use dns_record::{Question, Rr, kinds};
-use mdns_base::Dest;
+use mdns_base::{Dest, Moment};
 use mdns_history::{Sends, Sent};
 use std::alloc::{AllocError, Global};
 
 /// The probes of the groups of which one is due at `now`, in ms. Groups of which nothing is due aren't looked at. Refused only for want of
 /// memory. (RFC 6762 8.1)
-pub fn due_probes(alloc: Global, groups: &Claimants, now: u64) -> Result<Sends, AllocError>
+pub fn due_probes(alloc: Global, groups: &Claimants, now: Moment) -> Result<Sends, AllocError>
     ensures { IfOk result (λ sent. sent ≡ probes_for groups.now.kept now) }
 {
     let mut sent = Sends::new(alloc);
@@ -28,7 +28,7 @@ pub fn due_probes(alloc: Global, groups: &Claimants, now: u64) -> Result<Sends, 
 }
 
 // Puts the probe of a group, if it is due.
-fn put_probe(sent: &mut Sends, alloc: Global, one: &Claimant, now: u64) -> Result<(), AllocError>
+fn put_probe(sent: &mut Sends, alloc: Global, one: &Claimant, now: Moment) -> Result<(), AllocError>
     ensures { OnOk result (sent.new ≡ sent.old ++ probes_for (one.now ∷ []) now) }
 {
     if one.claim().is_probe_due(now) {

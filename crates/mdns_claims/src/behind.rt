@@ -107,7 +107,7 @@ impl Behind<'_> {
         ensures within { IfSome result (λ place. place < length self.now.groups.now) }
         ensures some { IfSome result (IsFirstDue (map moment_of self.now.groups.now) self.now.means.moment from) }
     {
-        self.due.next_due(from, self.means.moment)
+        self.due.next_due(from, self.means.moment.ms())
     }
 
     /// The place of the first group, from a place on, that the plan may touch; it touches none of those that are passed over.

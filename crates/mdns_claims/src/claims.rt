@@ -31,6 +31,7 @@ use dns_message::Rrs;
 use dns_name::Name;
 use dns_record::Rr;
 use mdns_asked::Asked;
+use mdns_base::Moment;
 use mdns_claimants::answers::{group_of, registered_answer};
 use mdns_claimants::held::is_held_name;
 use mdns_claimants::ours::{is_ours, put_asked_nsecs, put_nsecs};
@@ -160,7 +161,7 @@ impl Claims {
         ensures { IfOk result (λ sent. sent ≡ probes_told (told_by happened.now).ticks self.now.contents.kept when.moment) }
     {
         match happened {
-            Happened::Ticked => due_probes(self.alloc, &self.groups, when.moment),
+            Happened::Ticked => due_probes(self.alloc, &self.groups, when.at()),
             _ => Ok(Sends::new(self.alloc)),
         }
     }
@@ -203,7 +204,7 @@ impl Claims {
     {
         let marks = claim_marks(self.alloc, self.groups.as_slice(), happened)?;
         let number = number_after(0, marks.as_slice(), self.number);
-        let storm = storm_after(&self.storm, when.moment, marks.as_slice());
+        let storm = storm_after(&self.storm, when.at(), marks.as_slice());
         let seen = Seen {
             when,
             happened,
@@ -241,7 +242,7 @@ impl Claims {
             groups: self.groups.as_slice(),
             due: self.groups.deadlines(),
             means: Means {
-                moment: when.moment,
+                moment: when.at(),
                 announces: self.announces,
                 happened,
                 marks: plan.marks.as_slice(),
@@ -275,7 +276,7 @@ impl Claims {
             deed,
         } = plan;
         let means = Means {
-            moment: when.moment,
+            moment: when.at(),
             announces: self.announces,
             happened,
             marks: marks.as_slice(),
@@ -331,7 +332,7 @@ fn host_claimant(
         txt: &Bytes::new(),
     };
     let wait = u64::from(when.word % 251);
-    begun_claimant(alloc, naming, when.moment, wait, &published)
+    begun_claimant(alloc, naming, when, wait, &published)
 }
 
 // The host's name under a number, and the root where there is no host.
@@ -345,7 +346,7 @@ fn host_under(config: &Config, number: u32) -> Name
 }
 
 // A storm with one conflict more for each mark of one.
-fn storm_after(storm: &Storm, now: u64, marks: &[Mark]) -> Storm
+fn storm_after(storm: &Storm, now: Moment, marks: &[Mark]) -> Storm
     ensures { result ≡ storm_told storm.now now marks.now }
 {
     let mut after = storm.copy();

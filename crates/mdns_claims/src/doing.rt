@@ -8,6 +8,7 @@ ghost use Rattle.mdns_claims.specs.Seen.{means_in};
 ghost use Rattle.mdns_happened.specs.Told.{told_by};
 
 use crate::plan::Deed;
+use mdns_base::Moment;
 use mdns_claimants::Claimants;
 use mdns_happened::Happened;
 use mdns_history::Mark;
@@ -16,7 +17,7 @@ use mdns_renewals::ends;
 /// What a deed is done with: when, whether there are announcements, what happened, and the marks that it gives to claims.
 #[derive(Drop)]
 pub struct Means<'a> {
-    pub moment: u64,
+    pub moment: Moment,
     pub announces: bool,
     pub happened: &'a Happened<'a>,
     pub marks: &'a [Mark],
@@ -25,7 +26,6 @@ pub struct Means<'a> {
 impl Means<'_> {
     /// Does a deed. It takes no memory.
     pub fn carry_out(&self, groups: &mut Claimants, deed: Deed)
-        requires bound { self.now.moment ≤ 2 ^ 53 }
         requires room { room_of deed ≤ groups.old.spare }
         requires fits { FitsGroups groups.old.kept deed }
         ensures { groups.new.kept ≡ kept_by (means_in self.now) groups.old.kept deed }

@@ -13,6 +13,7 @@ ghost use Rattle.mdns_probe.specs.Claiming.{is_settle_due};
 
 use crate::doing::Means;
 use crate::plan::Deed;
+use mdns_base::Moment;
 use mdns_claimants::answers::{is_of, named_if};
 use mdns_claimants::{Claimant, Renewal};
 use mdns_probe::{Claim, Naming};
@@ -115,7 +116,7 @@ fn as_is(one: &Claimant) -> Later<'_>
 }
 
 // A group, sure if that is due.
-fn settled(one: &Claimant, now: u64) -> Later<'_>
+fn settled(one: &Claimant, now: Moment) -> Later<'_>
     ensures { shown_by result ≡ record (shown_of one.now) { sure = one.now.claim.sure || is_settle_due now one.now.claim } }
 {
     let claim = one.claim();

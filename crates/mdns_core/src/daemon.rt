@@ -17,6 +17,7 @@ ghost use Rattle.sd_sessions.specs.Codes.{has_number};
 use crate::parts::{Done, Parts};
 use crate::plan::{Kept, make_plan};
 use mdns_asking::Asking;
+use mdns_base::Moment;
 use mdns_cache::Steps;
 use mdns_claims::Claims;
 use mdns_happened::When;
@@ -38,7 +39,7 @@ const ANNOUNCES: bool = true;
 #[derive(Drop)]
 pub struct Daemon {
     alloc: Global,
-    last: u64,
+    last: When,
     parts: Parts,
     key: u64,
 }
@@ -55,33 +56,26 @@ impl Model for Daemon {
 
     ghost Value = { State };
 
-    ghost view = { λ d. state_of d.last d.parts };
+    ghost view = { λ d. state_of d.last.moment d.parts };
 
-    ghost invariant = { λ d. (length d.parts.records.held ≤ room_for_records) × AllLive d.last d.parts.records.held
-        × AllHeard d.last d.parts.records.held × AreTimed d.parts.records.held d.parts.asking.questions × (have_data (rrs_of d.parts.records.held) ≡ true) };
+    ghost invariant = { λ d. (length d.parts.records.held ≤ room_for_records) × AllLive d.last.moment d.parts.records.held
+        × AllHeard d.last.moment d.parts.records.held × AreTimed d.parts.records.held d.parts.asking.questions × (have_data (rrs_of d.parts.records.held) ≡ true) };
 }
 
 impl Daemon {
     ghost use Rattle.mdns_step.specs.State.{Stands, due_of};
 
-    /// A daemon at its first moment `now`, in milliseconds, with an IPv4 address and maybe a host whose name it claims, and the
-    /// entry of its boot. `word` is a random number. Refused only for want of memory. (RFC 6762 section 8)
-    pub fn new(
-        alloc: Global,
-        config: Config,
-        now: u64,
-        word: u32,
-    ) -> Result<(Daemon, Entry), AllocError>
-        requires bound { now ≤ 2 ^ 53 }
+    /// A daemon that is booted `when`, with an IPv4 address and maybe a host whose name it claims, and the entry of its boot. Refused
+    /// only for want of memory. (RFC 6762 section 8)
+    pub fn new(alloc: Global, config: Config, when: When) -> Result<(Daemon, Entry), AllocError>
         requires host { IsTrue (is_host_label config.host) }
-        ensures entry { IfOk result (λ made. made.1 ≡ boot_entry now word config) }
+        ensures entry { IfOk result (λ made. made.1 ≡ boot_entry when.moment when.word config) }
         ensures stands { IfOk result (λ made. Stands made.0 (made.1 ∷ [])) }
-        ensures last { IfOk result (λ made. made.0.last ≡ now) }
+        ensures last { IfOk result (λ made. made.0.last ≡ when.moment) }
     {
-        let when = When { moment: now, word };
-        let key = u64::from(word);
+        let key = u64::from(when.word);
         let parts = Parts {
-            records: Records::new(alloc, word)?,
+            records: Records::new(alloc, when.word)?,
             claims: Claims::new(alloc, &config, when, ANNOUNCES)?,
             asking: Asking::new(alloc),
             sessions: Sessions::with_key(alloc, key),
@@ -90,13 +84,13 @@ impl Daemon {
         };
         let daemon = Daemon {
             alloc,
-            last: now,
+            last: when,
             parts,
             key,
         };
         let entry = Entry {
-            moment: now,
-            word,
+            moment: when.moment,
+            word: when.word,
             event: Event::Boot { config },
             marks: Marks::new(alloc),
             sent: Sends::new(alloc),
@@ -106,11 +100,11 @@ impl Daemon {
         Ok((daemon, entry))
     }
 
-    /// The moment of the last entry, in milliseconds.
-    pub fn last(&self) -> u64
+    /// The moment of the last entry.
+    pub fn last(&self) -> Moment
         ensures { result ≡ self.now.last }
     {
-        self.last
+        self.last.at()
     }
 
     /// Whether a session is attached.
@@ -131,24 +125,22 @@ impl Daemon {
         let parts = &self.parts;
         let due = earlier(parts.records.next_end(), parts.asking.first_due());
         let waits = earlier(parts.claims.next_due(), parts.owing.next_due(&parts.lasts));
-        not_before(self.last, earlier(due, waits))
+        not_before(self.last.moment, earlier(due, waits))
     }
 
-    /// Does one event at `now`, in milliseconds, and answers its entry: for every history that the daemon stands for it is
+    /// Does one event `when` it comes, and answers its entry: for every history that the daemon stands for it is
     /// the one that fits, and the daemon then stands for the history with it. After an `Err`, which comes only for want of
     /// memory, the daemon is as before.
     pub fn step<L: Ledger>(
         &mut self,
-        now: u64,
-        word: u32,
+        when: When,
         event: Event,
         steps: &mut Steps<L>,
     ) -> Result<Entry, AllocError>
-        requires later { self.old.last ≤ now }
-        requires bound { now ≤ 2 ^ 53 }
+        requires later { self.old.last ≤ when.moment }
         requires no_boot { is_boot event ≡ false }
 
-        ensures asked { IfOk result (λ entry. (entry.moment ≡ now) × (entry.word ≡ word) × (entry.event ≡ event)) }
+        ensures asked { IfOk result (λ entry. (entry.moment ≡ when.moment) × (entry.word ≡ when.word) × (entry.event ≡ event)) }
         ensures fits { IfOk result (λ entry. (history : List Entry) → Stands self.old history
             → Fits in_force entry history × Stands self.new (entry ∷ history)) }
         // Replaying the items of a session that is attached and not cut gives exactly the answers of its operations.
@@ -161,24 +153,23 @@ impl Daemon {
             → session_items session (entry ∷ history) ≡ taken_items session (entry ∷ history) ++ queue session (entry ∷ history)) }
         // Nothing unique is asserted before its probes, and nothing taken back that wasn't own.
         ensures asserts { IfOk result (λ entry. (history : List Entry) → Stands self.old history → IsEarned entry history) }
-        ensures last { OnOk result (self.new.last ≡ now) }
+        ensures last { OnOk result (self.new.last ≡ when.moment) }
         // After a tick of a daemon that stands for a history nothing is due by then.
-        ensures ticked { OnOk result ((history : List Entry) → Stands self.old history → event ≡ Event.Tick → IfSome (due_of self.new) (λ due. now < due)) }
+        ensures ticked { OnOk result ((history : List Entry) → Stands self.old history → event ≡ Event.Tick → IfSome (due_of self.new) (λ due. when.moment < due)) }
         ensures err { OnErr result (self.new ≡ self.old) }
         // Few records are looked at: eight visits at most for all that the entry touches, and for one more.
-        ensures visits { (history : List Entry) (entry : Entry) → Stands self.old history → FitsAt in_force history now word event entry
+        ensures visits { (history : List Entry) (entry : Entry) → Stands self.old history → FitsAt in_force history when.moment when.word event entry
             → steps.new ≤ steps.old + 8 * (touched entry history + 1) }
     {
-        let when = When { moment: now, word };
         let kept = Kept {
             alloc: self.alloc,
-            last: self.last,
+            last: self.last.moment,
             parts: &self.parts,
             key: self.key,
         };
         let plan = make_plan(&kept, when, &event, steps)?;
         self.parts.reserve(&plan)?;
-        self.last = now;
+        self.last = when;
         let Done {
             marks,
             sent,
@@ -186,8 +177,8 @@ impl Daemon {
             outcome,
         } = self.parts.apply(when, plan, steps);
         Ok(Entry {
-            moment: now,
-            word,
+            moment: when.moment,
+            word: when.word,
             event,
             marks,
             sent,

@@ -61,7 +61,6 @@ impl Parts {
 
     /// Carries a plan out. It takes no memory, and can't fail.
     pub fn apply<L: Ledger>(&mut self, when: When, plan: Plan<'_>, steps: &mut Steps<L>) -> Done
-        requires bound { when.moment ≤ 2 ^ 53 }
         requires timed { AreTimed self.old.records.held self.old.asking.questions }
         requires room { HasRoom plan self.old }
         requires planned { (last : ℕ) × (event : Event) × IsPlan (state_of last self.old) when.moment when.word event plan }
@@ -96,7 +95,7 @@ impl Parts {
         };
         self.owing.follow(&news, come);
         self.owing.keep_ours(&self.claims, keeps_own);
-        self.lasts.apply(when.moment, multicasts.into_rrs());
+        self.lasts.apply(when.at(), multicasts.into_rrs());
         drop(happened);
         Done {
             marks,

@@ -261,7 +261,7 @@ fn walk<L: Ledger>(
     let happened = &reading.happened;
     let heard = reading.heard.as_slice();
     let behind = kept.parts.claims.behind(when, happened, claims);
-    let mut touched = kept.parts.records.touched(when.moment, heard)?;
+    let mut touched = kept.parts.records.touched(when.at(), heard)?;
     behind.put_moved_names(kept.alloc, &mut touched)?;
     let mut names = Vec::new(kept.alloc);
     kept.parts

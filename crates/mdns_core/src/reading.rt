@@ -155,7 +155,7 @@ fn read_message<'a>(
         return brings_nothing(alloc, Happened::Nothing { why: Idle::Ignored });
     }
     let heard = records_of(alloc, &message)?;
-    if !records.fits(when.moment, heard.as_slice()) {
+    if !records.fits(when.at(), heard.as_slice()) {
         return brings_nothing(alloc, Happened::Refused { why: Refusal::Full });
     }
     Ok(Reading {

@@ -156,23 +156,28 @@ delivery_is law moment delivery rest hub played next stands first at from happen
   happens = happens;
 }
 
+-- what a delivery does at a moment that is its own
+at_its_moment : (moment : ℕ) (delivery : Delivery) (before after : Played) → delivery.moment ≡ moment → HappensAt delivery.daemon (event.Hear delivery.from delivery.bytes) moment before after
+    → HappensAt delivery.daemon (event.Hear delivery.from delivery.bytes) delivery.moment before after
+at_its_moment moment delivery before after at h = subst (λ (m : ℕ). HappensAt delivery.daemon (event.Hear delivery.from delivery.bytes) m before after) (sym at) h
+
 pub hear_advances : StatesAreDue → (moment : ℕ) (delivery : Delivery) (rest : List Delivery) (hub mid after : Hub) (o n : Option (List ℕ)) → hub.link.under_way.items ≡ delivery ∷ rest → delivery.moment ≡ moment
     → ComesFrom moment hub → mid.clock ≡ hub.clock → mid.words ≡ hub.words → mid.daemons.slots.items ≡ hub.daemons.slots.items → link_of mid.link ≡ record (link_of hub.link) { under_way = rest }
-    → Advances (HappensAt delivery.daemon (event.Hear delivery.from delivery.bytes) delivery.moment) mid after o n → Advances (AreSomeDone moment) hub after o n
+    → Advances (HappensAt delivery.daemon (event.Hear delivery.from delivery.bytes) moment) mid after o n → Advances (AreSomeDone moment) hub after o n
 hear_advances law moment delivery rest hub mid after o n first at from clock words slots link f = λ played stands.
     let d = f (with_under_way rest played) (taken_stands hub mid played rest clock words slots link stands) in
-    (d.0, (suc zero, (d.0, inl (delivery_is law moment delivery rest hub played d.0 stands first at from d.1), refl)), d.2, d.3)
+    (d.0, (suc zero, (d.0, inl (delivery_is law moment delivery rest hub played d.0 stands first at from (at_its_moment moment delivery (with_under_way rest played) d.0 at d.1)), refl)), d.2, d.3)
 
 pub hear_breaks : StatesAreDue → (moment : ℕ) (delivery : Delivery) (rest : List Delivery) (hub mid : Hub) (o n : Option (List ℕ)) → hub.link.under_way.items ≡ delivery ∷ rest → delivery.moment ≡ moment
     → ComesFrom moment hub → mid.clock ≡ hub.clock → mid.words ≡ hub.words → mid.daemons.slots.items ≡ hub.daemons.slots.items → link_of mid.link ≡ record (link_of hub.link) { under_way = rest }
-    → BreaksIn (OrNothing (HappensAt delivery.daemon (event.Hear delivery.from delivery.bytes) delivery.moment)) mid o n → BreaksIn (AreSomeDone moment) hub o n
+    → BreaksIn (OrNothing (HappensAt delivery.daemon (event.Hear delivery.from delivery.bytes) moment)) mid o n → BreaksIn (AreSomeDone moment) hub o n
 hear_breaks law moment delivery rest hub mid o n first at from clock words slots link f = λ played stands.
     let d = f (with_under_way rest played) (taken_stands hub mid played rest clock words slots link stands) in
     of played d.0 stands d.1 d.2
   where
-    of : (played next : Played) → StandsFor hub played → OrNothing (HappensAt delivery.daemon (event.Hear delivery.from delivery.bytes) delivery.moment) (with_under_way rest played) next
+    of : (played next : Played) → StandsFor hub played → OrNothing (HappensAt delivery.daemon (event.Hear delivery.from delivery.bytes) moment) (with_under_way rest played) next
         → PutsPart o n (with_under_way rest played) next → (reached : Played) × AreSomeDone moment played reached × PutsPart o n played reached
-    of played next stands (inl h) put = (next, (suc zero, (next, inl (delivery_is law moment delivery rest hub played next stands first at from h), refl)), put)
+    of played next stands (inl h) put = (next, (suc zero, (next, inl (delivery_is law moment delivery rest hub played next stands first at from (at_its_moment moment delivery (with_under_way rest played) next at h)), refl)), put)
     of played next stands (inr h) put = (played, (zero, refl), subst (λ (p : Played). PutsPart o n played (record p { link = played.link })) h put)
 
 -- The end of a run.

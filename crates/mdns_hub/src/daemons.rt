@@ -8,6 +8,7 @@ ghost use Rattle.mdns_hub.specs.Stepped.{IsStep};
 use crate::historic::Standing;
 use crate::steps::entry_of;
 use crate::tally::Tally;
+use mdns_base::Moment;
 use mdns_history::{Entry, Event};
 use std::alloc::{AllocError, Global};
 use std::marker::Brand;
@@ -115,13 +116,12 @@ impl Daemons {
     pub fn step(
         &mut self,
         number: u32,
-        now: u64,
+        now: Moment,
         word: u32,
         event: Event,
     ) -> Result<Entry, AllocError>
         requires kept { is_kept self.old.slots.items number ≡ true }
         requires behind { AreBehind now self.old.slots.items }
-        requires bound { now ≤ 2 ^ 53 }
         requires no_boot { is_boot event ≡ false }
 
         ensures done { IfOk result (λ entry. IsStep number now word event self.old.slots.items self.new.slots.items entry) }

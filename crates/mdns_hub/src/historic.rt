@@ -5,8 +5,10 @@ ghost use Rattle.mdns_history.specs.Fitting.{Fits, boot_entry, is_boot, is_host_
 ghost use Rattle.mdns_core.specs.InForce.{in_force};
 ghost use Rattle.mdns_core.specs.State.{Stands, due_of};
 
+use mdns_base::Moment;
 use mdns_cache::Steps;
 use mdns_core::Daemon;
+use mdns_happened::When;
 use mdns_history::{Config, Entry, Event};
 use std::alloc::{AllocError, Global};
 use std::marker::Model;
@@ -35,16 +37,15 @@ impl Standing {
     pub fn new(
         alloc: Global,
         config: Config,
-        now: u64,
+        now: Moment,
         word: u32,
     ) -> Result<(Standing, Entry), AllocError>
-        requires bound { now ≤ 2 ^ 53 }
         requires host { IsTrue (is_host_label config.host) }
         ensures entry { IfOk result (λ made. made.1 ≡ boot_entry now word config) }
         ensures stands { IfOk result (λ made. Stands made.0 (made.1 ∷ [])) }
         ensures last { IfOk result (λ made. made.0.last ≡ now) }
     {
-        let (daemon, entry) = Daemon::new(alloc, config, now, word)?;
+        let (daemon, entry) = Daemon::new(alloc, config, When::new(now, word))?;
         Ok((Standing { daemon }, entry))
     }
 
@@ -59,13 +60,12 @@ impl Standing {
     /// as before.
     pub fn step<L: Ledger>(
         &mut self,
-        now: u64,
+        now: Moment,
         word: u32,
         event: Event,
         steps: &mut Steps<L>,
     ) -> Result<Entry, AllocError>
         requires later { self.old.last ≤ now }
-        requires bound { now ≤ 2 ^ 53 }
         requires no_boot { is_boot event ≡ false }
 
         ensures is { IfOk result (λ entry. (entry.moment ≡ now) × (entry.word ≡ word) × (entry.event ≡ event)) }
@@ -75,6 +75,6 @@ impl Standing {
         ensures ticked { OnOk result (event ≡ Event.Tick → IfSome (due_of self.new) (λ due. now < due)) }
         ensures err { OnErr result (self.new ≡ self.old) }
     {
-        self.daemon.step(now, word, event, steps)
+        self.daemon.step(When::new(now, word), event, steps)
     }
 }

@@ -11,7 +11,7 @@ use crate::historic::Standing;
 use crate::link::Link;
 use crate::steps::put_entry;
 use crate::tally::Tally;
-use mdns_base::Sink;
+use mdns_base::{Moment, Sink};
 use mdns_draw::{SeedWords, Words};
 use mdns_history::{Config, Event, HostConfig};
 use mdns_script::Command;
@@ -21,19 +21,15 @@ use std::alloc::{AllocError, Global};
 /// A day in milliseconds: the furthest that one command runs ahead.
 const MOST_AHEAD: u64 = 86_400_000;
 
-/// The last moment that there is, 2 ^ 53 milliseconds.
-const LAST_MOMENT: u64 = 9_007_199_254_740_992;
-
-/// What a script runs on: the current moment in milliseconds, the random words of the events to come, the link, and the daemons
+/// What a script runs on: the current moment, the random words of the events to come, the link, and the daemons
 /// that were booted.
 #[derive(Drop)]
 pub struct Hub {
     pub(crate) alloc: Global,
-    pub(crate) clock: u64,
+    pub(crate) clock: Moment,
     pub(crate) words: Words,
     pub(crate) link: Link,
     pub(crate) daemons: Daemons,
-    ghost bound: { clock ≤ 2 ^ 53 },
     ghost behind: { AreBehind clock daemons.slots.items },
     ghost fit: { AreFit clock (is_kept daemons.slots.items) link.under_way.items } by { AreFit-prop clock (is_kept daemons.slots.items) link.under_way.items },
 }
@@ -53,7 +49,7 @@ impl Hub {
     {
         Hub {
             alloc,
-            clock: 0,
+            clock: Moment::new(0),
             words: Words::Same { word: 0 },
             link: Link::new(alloc),
             daemons: Daemons::new(alloc),
@@ -117,7 +113,8 @@ impl Hub {
     fn is_out_of_reach(&self, moment: u64) -> bool
         ensures { result ≡ is_out_of_reach self.now.clock moment }
     {
-        moment < self.clock || LAST_MOMENT < moment || self.clock + MOST_AHEAD < moment
+        let now = self.clock.ms();
+        moment < now || Moment::try_new(moment).is_none() || now + MOST_AHEAD < moment
     }
 
     // Does a command that isn't bad.
@@ -131,7 +128,7 @@ impl Hub {
     {
         match command {
             Command::Daemon { number, config } => self.boot(number, config, output),
-            Command::At { moment } => self.run_to(moment, output),
+            Command::At { moment } => self.run_to(Moment::new(moment), output),
             Command::Attach { daemon } => self.happen_now(daemon, Event::Attach, output),
             Command::Event { daemon, event } => self.happen_now(daemon, event, output),
             setting => {
@@ -186,6 +183,7 @@ impl Hub {
         ensures cause { HasWriteCause (K.faults output.old) (K.faults output.new) result }
         ensures good { result ≡ Err HubError.BadCommand → ⊥ }
     {
+        let _now = self.clock.ms();
         let word = self.words.take();
         let address = config.address;
         let (daemon, entry) = Standing::new(self.alloc, config, self.clock, word)?;

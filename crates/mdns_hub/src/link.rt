@@ -10,7 +10,7 @@ use crate::daemons::Daemons;
 use crate::delivery::{Delivery, Parted};
 use bytes::Bytes;
 use dns_message::{LONGEST_MESSAGE, WriteError, write};
-use mdns_base::{Dest, Host, MDNS_PORT};
+use mdns_base::{Dest, Host, MDNS_PORT, Moment};
 use mdns_history::Sent;
 use std::alloc::{AllocError, Global};
 
@@ -86,17 +86,17 @@ impl Link {
     }
 
     // Whether a packet is heard by a moment.
-    fn comes_by(&self, moment: u64) -> bool
+    fn comes_by(&self, moment: Moment) -> bool
         ensures { result ≡ comes_by moment self.now.under_way.items }
     {
         match self.under_way.as_slice() {
-            [first, ..] => first.moment <= moment,
+            [first, ..] => first.moment <= moment.ms(),
             [] => false,
         }
     }
 
     /// Takes the first packet that is under way, where it is heard by a moment.
-    pub fn take_by(&mut self, moment: u64) -> Option<Delivery>
+    pub fn take_by(&mut self, moment: Moment) -> Option<Delivery>
         ensures taken { IfSome result (λ delivery. (self.old.under_way.items ≡ delivery ∷ self.new.under_way.items) × (delivery.moment ≤ moment)) }
         ensures none { result ≡ None → (self.new ≡ self.old) × (comes_by moment self.old.under_way.items ≡ false) }
         ensures others { link_of self.new ≡ record (link_of self.old) { under_way = self.new.under_way.items } }
@@ -177,11 +177,10 @@ impl Link {
     fn send(
         &mut self,
         daemons: &Daemons,
-        now: u64,
+        now: Moment,
         sender: u32,
         sent: &Sent,
     ) -> Result<(), AllocError>
-        requires bound { now ≤ 2 ^ 53 }
         ensures done { OnOk result (link_of self.new ≡ with_packet (address_at daemons.now.slots.items) now sender sent.now (link_of self.old)) }
         ensures fit { (from : ℕ) → from ≤ now + 1 → AreFit from (is_kept daemons.now.slots.items) self.old.under_way.items
             → AreFit from (is_kept daemons.now.slots.items) self.new.under_way.items }
@@ -197,7 +196,7 @@ impl Link {
                     sender,
                     from: host_of(daemons, sender),
                     to: sent.to,
-                    moment: now + self.delay,
+                    moment: now.ms() + self.delay,
                     bytes,
                 };
                 self.spread(daemons, &packet)
@@ -212,11 +211,10 @@ impl Link {
     pub fn send_all(
         &mut self,
         daemons: &Daemons,
-        now: u64,
+        now: Moment,
         sender: u32,
         sent: &[Sent],
     ) -> Result<(), AllocError>
-        requires bound { now ≤ 2 ^ 53 }
         ensures done { OnOk result (link_of self.new ≡ with_packets (address_at daemons.now.slots.items) now sender sent.now (link_of self.old)) }
         ensures fit { (from : ℕ) → from ≤ now + 1 → AreFit from (is_kept daemons.now.slots.items) self.old.under_way.items
             → AreFit from (is_kept daemons.now.slots.items) self.new.under_way.items }

@@ -11,7 +11,7 @@ ghost use Rattle.mdns_hub.specs.Output.{HasWriteCause, OrNothing};
 use crate::HubError;
 use crate::hub::Hub;
 use crate::steps::put_entry;
-use mdns_base::Sink;
+use mdns_base::{Moment, Sink};
 use mdns_core::steps_follow_the_history;
 use mdns_history::{Entry, Event};
 
@@ -21,9 +21,8 @@ impl Hub {
     ghost use Rattle.mdns_hub.specs.Running.{HappensAt, ComesFrom, is_over, IsFollowed};
 
     /// Does all that is due up to a moment, in milliseconds, which is the current one then.
-    pub(crate) fn run_to<K: Sink>(&mut self, until: u64, output: &mut K) -> Result<(), HubError>
+    pub(crate) fn run_to<K: Sink>(&mut self, until: Moment, output: &mut K) -> Result<(), HubError>
         requires later { self.old.clock ≤ until }
-        requires bound { until ≤ 2 ^ 53 }
 
         ensures done { OnOk result (Advances (RunsTo until) self.old self.new (K.held output.old) (K.held output.new)) }
         ensures part { OnErr result (BreaksIn (AreSomeDone until) self.old (K.held output.old) (K.held output.new)) }
@@ -33,10 +32,10 @@ impl Hub {
         steps_follow_the_history();
         let mut next = self.next_moment();
         'moments: while let Some(moment) = next {
-            if moment > until {
+            if moment > until.ms() {
                 break;
             }
-            self.pass(moment, output)?;
+            self.pass(Moment::new(moment), output)?;
             next = self.next_moment();
         }
         self.clock = until;
@@ -62,15 +61,14 @@ impl Hub {
         ensures { result ≡ option_map (λ due. max due self.now.clock) (due_at self.now.daemons.slots.items number) }
     {
         match self.daemons.next_due(number) {
-            Some(due) => Some(due.max(self.clock)),
+            Some(due) => Some(due.max(self.clock.ms())),
             None => None,
         }
     }
 
     // Does all that is due at a moment, before which nothing is: first the packets, then the ticks.
-    fn pass<K: Sink>(&mut self, moment: u64, output: &mut K) -> Result<(), HubError>
+    fn pass<K: Sink>(&mut self, moment: Moment, output: &mut K) -> Result<(), HubError>
         requires later { self.old.clock ≤ moment }
-        requires bound { moment ≤ 2 ^ 53 }
         requires first { ComesFrom moment self.old }
 
         ensures done { OnOk result (Advances (AreSomeDone moment) self.old self.new (K.held output.old) (K.held output.new)) }
@@ -85,9 +83,8 @@ impl Hub {
     }
 
     // Lets the daemons hear the packets of a moment.
-    fn hear_all<K: Sink>(&mut self, moment: u64, output: &mut K) -> Result<(), HubError>
+    fn hear_all<K: Sink>(&mut self, moment: Moment, output: &mut K) -> Result<(), HubError>
         requires later { self.old.clock ≤ moment }
-        requires bound { moment ≤ 2 ^ 53 }
         requires first { ComesFrom moment self.old }
 
         ensures done { OnOk result (Advances (AreSomeDone moment) self.old self.new (K.held output.old) (K.held output.new)) }
@@ -104,15 +101,14 @@ impl Hub {
                 from: delivery.from,
                 bytes: delivery.bytes,
             };
-            self.happen(delivery.daemon, delivery.moment, event, output)?;
+            self.happen(delivery.daemon, moment, event, output)?;
         }
         Ok(())
     }
 
     // Lets the ticks of a moment happen.
-    fn tick_all<K: Sink>(&mut self, moment: u64, output: &mut K) -> Result<(), HubError>
+    fn tick_all<K: Sink>(&mut self, moment: Moment, output: &mut K) -> Result<(), HubError>
         requires later { self.old.clock ≤ moment }
-        requires bound { moment ≤ 2 ^ 53 }
         requires first { ComesFrom moment self.old }
         requires heard { AreFit (moment + 1) (is_kept self.old.daemons.slots.items) self.old.link.under_way.items }
 
@@ -130,9 +126,8 @@ impl Hub {
     }
 
     // Lets the tick of a daemon happen at a moment by which the ticks of lower numbers have, where it is due.
-    fn tick<K: Sink>(&mut self, number: u32, moment: u64, output: &mut K) -> Result<(), HubError>
+    fn tick<K: Sink>(&mut self, number: u32, moment: Moment, output: &mut K) -> Result<(), HubError>
         requires later { self.old.clock ≤ moment }
-        requires bound { moment ≤ 2 ^ 53 }
         requires first { ComesFrom moment self.old }
         requires heard { AreFit (moment + 1) (is_kept self.old.daemons.slots.items) self.old.link.under_way.items }
         requires lower { AreOver number moment self.old.daemons.slots.items }
@@ -154,11 +149,11 @@ impl Hub {
     }
 
     // Whether something of a daemon is due by a moment.
-    fn is_due(&self, number: u32, moment: u64) -> bool
+    fn is_due(&self, number: u32, moment: Moment) -> bool
         ensures { result ≡ is_over moment (due_at self.now.daemons.slots.items number) }
     {
         match self.daemons.next_due(number) {
-            Some(due) => due <= moment,
+            Some(due) => due <= moment.ms(),
             None => false,
         }
     }
@@ -168,14 +163,13 @@ impl Hub {
     pub(crate) fn happen<K: Sink>(
         &mut self,
         number: u32,
-        moment: u64,
+        moment: Moment,
         event: Event,
         output: &mut K,
     ) -> Result<(), HubError>
         requires kept { is_kept self.old.daemons.slots.items number ≡ true }
         requires no_boot { is_boot event ≡ false }
         requires later { self.old.clock ≤ moment }
-        requires bound { moment ≤ 2 ^ 53 }
         requires fit { AreFit moment (is_kept self.old.daemons.slots.items) self.old.link.under_way.items }
 
         ensures done { OnOk result (Advances (HappensAt number event moment) self.old self.new (K.held output.old) (K.held output.new)) }

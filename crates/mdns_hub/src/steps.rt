@@ -10,7 +10,7 @@ ghost use Rattle.mdns_hub.specs.Output.{HasWriteCause};
 
 use crate::HubError;
 use crate::historic::Standing;
-use mdns_base::Sink;
+use mdns_base::{Moment, Sink};
 use mdns_cache::Steps;
 use mdns_history::{Entry, Event, print_entry};
 use std::alloc::{AllocError, Global};
@@ -40,7 +40,7 @@ pub fn put_entry<K: Sink>(
 /// memory; then the daemon is as before.
 pub(crate) fn entry_of<L: Ledger>(
     daemon: &mut Standing,
-    now: u64,
+    now: Moment,
     word: u32,
     event: Event,
     blank: Blank,
@@ -49,7 +49,6 @@ pub(crate) fn entry_of<L: Ledger>(
     requires parts { blank.parts ≡ L.parts }
     requires some { 0 < L.parts }
     requires later { daemon.old.last ≤ now }
-    requires bound { now ≤ 2 ^ 53 }
     requires no_boot { is_boot event ≡ false }
 
     ensures is { IfOk result (λ entry. (entry.moment ≡ now) × (entry.word ≡ word) × (entry.event ≡ event)) }

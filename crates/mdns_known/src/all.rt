@@ -6,6 +6,7 @@ ghost use Rattle.mdns_known.specs.Known.{all_known_of};
 use crate::known::put_known_answers;
 use dns_message::Rrs;
 use dns_record::Key;
+use mdns_base::Moment;
 use mdns_history::Held;
 use mdns_pack::in_order;
 use std::alloc::{AllocError, Global};
@@ -16,9 +17,8 @@ pub fn all_known_answers(
     alloc: Global,
     questions: &[Key],
     held: &[Held],
-    now: u64,
+    now: Moment,
 ) -> Result<Rrs, AllocError>
-    requires bound { now ≤ 2 ^ 53 }
     requires heard { All (λ one. one.heard ≤ now) held.now }
     ensures { IfOk result (λ known. known ≡ all_known_of questions.now held.now now) }
 {

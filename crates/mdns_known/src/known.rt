@@ -6,6 +6,7 @@ ghost use Rattle.mdns_known.specs.Known.{known_of, listed_of};
 use crate::listing::{put_borrowed, put_listing};
 use dns_message::Rrs;
 use dns_record::{Key, Rr};
+use mdns_base::Moment;
 use mdns_history::Held;
 use mdns_pack::{Listing, sorted};
 use std::alloc::{AllocError, Global};
@@ -19,9 +20,8 @@ pub fn known_answers(
     alloc: Global,
     question: &Key,
     held: &[Held],
-    now: u64,
+    now: Moment,
 ) -> Result<Rrs, AllocError>
-    requires bound { now ≤ 2 ^ 53 }
     requires heard { All (λ one. one.heard ≤ now) held.now }
     ensures { IfOk result (λ known. known ≡ known_of question.now held.now now) }
 {
@@ -37,9 +37,8 @@ pub fn put_known_answers(
     known: &mut Vec<Rr>,
     question: &Key,
     held: &[Held],
-    now: u64,
+    now: Moment,
 ) -> Result<(), AllocError>
-    requires bound { now ≤ 2 ^ 53 }
     requires heard { All (λ one. one.heard ≤ now) held.now }
     ensures { OnOk result (known.new.items ≡ known.old.items ++ listed_of question.now held.now now) }
 {
@@ -55,9 +54,8 @@ pub fn put_known_listings<'a>(
     known: &mut Vec<Listing<'a>>,
     question: &Key,
     held: &'a [Held],
-    now: u64,
+    now: Moment,
 ) -> Result<(), AllocError>
-    requires bound { now ≤ 2 ^ 53 }
     requires heard { All (λ one. one.heard ≤ now) held.now }
     ensures { OnOk result (known.new.items ≡ known.old.items ++ listed_of question.now held.now now) }
 {

@@ -9,6 +9,7 @@ ghost use Rattle.mdns_known.specs.Known.{is_listed};
 
 use dns_message::{LONGEST_MESSAGE, Message, Questions, Rrs, WriteError, write};
 use dns_record::{Key, Rdata, Rr, matches};
+use mdns_base::Moment;
 use mdns_history::Held;
 use mdns_pack::Listing;
 use std::alloc::{AllocError, Global};
@@ -19,9 +20,8 @@ pub fn put_listing(
     known: &mut Vec<Rr>,
     question: &Key,
     one: &Held,
-    now: u64,
+    now: Moment,
 ) -> Result<(), AllocError>
-    requires bound { now ≤ 2 ^ 53 }
     requires heard { one.now.heard ≤ now }
     ensures { OnOk result (known.new.items ≡ known.old.items ++ option_to_list (if is_listed question.now now one.now then Some (listed now one.now) else None)) }
 {
@@ -38,9 +38,8 @@ pub fn put_borrowed<'a>(
     known: &mut Vec<Listing<'a>>,
     question: &Key,
     one: &'a Held,
-    now: u64,
+    now: Moment,
 ) -> Result<(), AllocError>
-    requires bound { now ≤ 2 ^ 53 }
     requires heard { one.now.heard ≤ now }
     ensures { OnOk result (known.new.items ≡ known.old.items ++ option_to_list (if is_listed question.now now one.now then Some (listed now one.now) else None)) }
 {
@@ -54,8 +53,7 @@ pub fn put_borrowed<'a>(
 }
 
 // Whether an uncut record as it is listed fits a message alone. Only a long one is copied and written to tell.
-fn fits_listed(alloc: Global, one: &Held, now: u64) -> Result<bool, AllocError>
-    requires bound { now ≤ 2 ^ 53 }
+fn fits_listed(alloc: Global, one: &Held, now: Moment) -> Result<bool, AllocError>
     requires heard { one.now.heard ≤ now }
     requires uncut { IsTrue (is_uncut one.now) }
     ensures { IfOk result (λ fits. fits ≡ fits_alone (listed now one.now)) }
@@ -68,31 +66,14 @@ fn fits_listed(alloc: Global, one: &Held, now: u64) -> Result<bool, AllocError>
 }
 
 // Whether a held record matches a question, is live and uncut, and has at least half of its TTL left.
-fn is_fresh(question: &Key, one: &Held, now: u64) -> bool
-    requires { one.now.heard ≤ 2 ^ 53 }
+fn is_fresh(question: &Key, one: &Held, now: Moment) -> bool
     ensures { result ≡ (matches question.now one.now.rr && is_live_at now one.now && is_uncut one.now && is_half_fresh now one.now) }
 {
-    matches(question, &one.rr) && now < one.end && is_uncut(one) && is_half_fresh(one, now)
-}
-
-// Whether the end of a held record is the one that its TTL gives.
-fn is_uncut(one: &Held) -> bool
-    requires { one.now.heard ≤ 2 ^ 53 }
-    ensures { result ≡ is_uncut one.now }
-{
-    one.end == one.heard + 1000 * u64::from(one.rr.ttl)
-}
-
-// Whether at least half of the TTL is left: half of a second is 500 ms.
-fn is_half_fresh(one: &Held, now: u64) -> bool
-    ensures { result ≡ is_half_fresh now one.now }
-{
-    500 * u64::from(one.rr.ttl) <= one.end.saturating_sub(now)
+    matches(question, &one.rr) && one.is_live(now) && one.is_uncut() && one.is_half_fresh(now)
 }
 
 // An uncut record as it is listed: without the flush bit, with the seconds that are left, rounded up.
-fn listed(one: &Held, now: u64) -> Result<Rr, AllocError>
-    requires bound { now ≤ 2 ^ 53 }
+fn listed(one: &Held, now: Moment) -> Result<Rr, AllocError>
     requires heard { one.now.heard ≤ now }
     requires uncut { IsTrue (is_uncut one.now) }
     ensures { IfOk result (λ rr. rr ≡ listed now one.now) }
@@ -106,13 +87,13 @@ fn listed(one: &Held, now: u64) -> Result<Rr, AllocError>
 }
 
 // The seconds of an uncut record's TTL that are left, rounded up.
-fn seconds_left(one: &Held, now: u64) -> u32
-    requires bound { now ≤ 2 ^ 53 }
+fn seconds_left(one: &Held, now: Moment) -> u32
     requires heard { one.now.heard ≤ now }
     requires uncut { IsTrue (is_uncut one.now) }
     ensures { result ≡ (one.now.end - now + 999) / 1000 }
 {
-    let left = (1000 * u64::from(one.rr.ttl)).saturating_sub(now - one.heard);
+    let _ttl = one.rr.ttl;
+    let left = one.rr.ttl_ms().saturating_sub(now.ms() - one.heard.ms());
     ((left + 999) / 1000) as u32
 }
 

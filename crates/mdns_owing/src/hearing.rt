@@ -24,7 +24,7 @@ use dns_message::{Questions, Rrs};
 use dns_name::Name;
 use dns_record::{Question, Rr, kinds};
 use indexmap::IndexSet;
-use mdns_base::{Dest, MDNS_PORT};
+use mdns_base::{Dest, MDNS_PORT, Moment};
 use mdns_claims::Claims;
 use mdns_happened::{Happened, Heard, When};
 use mdns_reply::Lasts;
@@ -59,7 +59,7 @@ impl Ours<'_> {
     fn query_from(&self, when: When, heard: &Heard<'_>) -> Result<Option<Query>, AllocError>
         ensures { IfOk result (λ query. option_to_list query ≡ filter has_owed (query_from (ours_in self.now.claims.now.contents.kept) (last_in self.now.lasts.now.lasts) (news_told (told_by (Happened.Heard heard.now)) when.moment when.word []) (heard_in heard.now) ∷ [])) }
     {
-        let owed = self.owed(when.moment, heard)?;
+        let owed = self.owed(when.at(), heard)?;
         if owed.is_empty() {
             return Ok(None);
         }
@@ -69,7 +69,7 @@ impl Ours<'_> {
     }
 
     // What a query is owed, each record and way once.
-    fn owed(&self, now: u64, heard: &Heard<'_>) -> Result<Vec<Owed>, AllocError>
+    fn owed(&self, now: Moment, heard: &Heard<'_>) -> Result<Vec<Owed>, AllocError>
         ensures { IfOk result (λ owed. owed.items ≡ owed_by (ours_in self.now.claims.now.contents.kept) (last_in self.now.lasts.now.lasts) (heard_in heard.now) now) }
     {
         let listed = Listed::new(self.alloc, self.key, heard.message.answers.as_slice())?;
@@ -253,7 +253,7 @@ impl Ours<'_> {
 // A query that is heard at a moment, in ms, with the answers that it lists.
 #[derive(Drop)]
 struct Hearing<'a> {
-    moment: u64,
+    moment: Moment,
     heard: &'a Heard<'a>,
     listed: Listed<'a>,
 }

@@ -13,7 +13,7 @@ use crate::owed::Owed;
 use crate::terms::Terms;
 use dns_message::Questions;
 use dns_record::Rr;
-use mdns_base::Host;
+use mdns_base::{Host, Moment};
 use mdns_claims::Claims;
 use mdns_reply::Lasts;
 use mdns_timer::Timed;
@@ -101,10 +101,10 @@ impl Query {
     }
 
     /// Whether what it is owed is due at `now`, in ms.
-    pub fn is_due(&self, now: u64) -> bool
+    pub fn is_due(&self, now: Moment) -> bool
         ensures { result ≡ nat_le self.now.due now }
     {
-        self.terms.due <= now
+        self.terms.due <= now.ms()
     }
 
     /// The moment, in ms, from which on what it is owed is due.

@@ -12,7 +12,7 @@ use crate::owing::Owing;
 use crate::query::Query;
 use dns_message::Rrs;
 use dns_record::Rr;
-use mdns_base::{Dest, Host, MDNS_PORT};
+use mdns_base::{Dest, Host, MDNS_PORT, Moment};
 use mdns_history::{Sends, Sent};
 use mdns_pack::{Messages, in_order, pack_legacy, pack_plain};
 use mdns_reply::Lasts;
@@ -22,7 +22,7 @@ impl Owing {
     /// The records that go to all at `now`, in record order: what queries are owed that are due, but what was multicast less than a second
     /// ago, or a quarter where a probe asks for it, has to wait. Refused only for want of memory. (RFC 6762 6)
     #[tactic(auto, unfolding(mdns_debts::specs::Releasing::released_by))]
-    pub fn released(&self, lasts: &Lasts, now: u64) -> Result<Rrs, AllocError>
+    pub fn released(&self, lasts: &Lasts, now: Moment) -> Result<Rrs, AllocError>
         ensures { IfOk result (λ rrs. rrs ≡ released_by (last_in lasts.now.lasts) now self.now.queries) }
     {
         let mut released = Vec::new(self.alloc);
@@ -35,12 +35,12 @@ impl Owing {
         &self,
         released: &mut Vec<Rr>,
         lasts: &Lasts,
-        now: u64,
+        now: Moment,
     ) -> Result<(), AllocError>
         ensures { OnOk result (released.new.items ≡ released.old.items ++ flat_map (released_of (last_in lasts.now.lasts) now self.now.queries) self.now.queries) }
     {
         let mut from = 0;
-        while let Some(place) = self.deadlines.next_due(from, now) {
+        while let Some(place) = self.deadlines.next_due(from, now.ms()) {
             self.put_released(released, lasts, now, &self.queries[place])?;
             from = place + 1;
         }
@@ -52,7 +52,7 @@ impl Owing {
         &self,
         released: &mut Vec<Rr>,
         lasts: &Lasts,
-        now: u64,
+        now: Moment,
         query: &Query,
     ) -> Result<(), AllocError>
         ensures { OnOk result (released.new.items ≡ released.old.items ++ released_of (last_in lasts.now.lasts) now self.now.queries query.now) }
@@ -68,7 +68,7 @@ impl Owing {
         &self,
         released: &mut Vec<Rr>,
         lasts: &Lasts,
-        now: u64,
+        now: Moment,
         all_owed: &[Owed],
     ) -> Result<(), AllocError>
         ensures { OnOk result (released.new.items ≡ released.old.items ++ filter (is_let_go (last_in lasts.now.lasts) now (flat_map (wanted_of now) self.now.queries)) (map (λ owed. owed.0) (filter is_to_all all_owed.now))) }
@@ -82,7 +82,7 @@ impl Owing {
     }
 
     // Whether a record's last multicast lets it go: a second has passed, or a quarter where a query that is due and asks for it is a probe.
-    fn lets_go(&self, lasts: &Lasts, now: u64, rr: &Rr) -> bool
+    fn lets_go(&self, lasts: &Lasts, now: Moment, rr: &Rr) -> bool
         ensures { result ≡ is_let_go (last_in lasts.now.lasts) now (flat_map (wanted_of now) self.now.queries) rr.now }
     {
         lasts.is_free(rr, now)
@@ -91,11 +91,11 @@ impl Owing {
 
     /// Puts the replies to the askers of the queries that are due behind what else is sent, in the order of hearing: to port 5353, or in the
     /// old way to another. Refused only for want of memory. (RFC 6762 5.4 and 6.7)
-    pub fn put_replies(&self, sent: &mut Sends, now: u64) -> Result<(), AllocError>
+    pub fn put_replies(&self, sent: &mut Sends, now: Moment) -> Result<(), AllocError>
         ensures { OnOk result (sent.new ≡ sent.old ++ flat_map (replies_at now) self.now.queries) }
     {
         let mut from = 0;
-        while let Some(place) = self.deadlines.next_due(from, now) {
+        while let Some(place) = self.deadlines.next_due(from, now.ms()) {
             put_reply(self.alloc, sent, now, &self.queries[place])?;
             from = place + 1;
         }
@@ -104,7 +104,7 @@ impl Owing {
 }
 
 // Whether a probe that is due asks for a record.
-fn is_probed(queries: &[Query], now: u64, rr: &Rr) -> bool
+fn is_probed(queries: &[Query], now: Moment, rr: &Rr) -> bool
     ensures { result ≡ list_any (is_probing_for now rr.now) queries.now }
 {
     queries.iter().any(|query| query.is_due(now) && query.is_probing() && wants(query.owed(), rr))
@@ -118,7 +118,7 @@ fn wants(owed: &[Owed], rr: &Rr) -> bool
 }
 
 // Puts the reply to a query's asker behind what else is sent, if it is due and its asker is owed something.
-fn put_reply(alloc: Global, sent: &mut Sends, now: u64, query: &Query) -> Result<(), AllocError>
+fn put_reply(alloc: Global, sent: &mut Sends, now: Moment, query: &Query) -> Result<(), AllocError>
     ensures { OnOk result (sent.new ≡ sent.old ++ replies_at now query.now) }
 {
     if !query.is_due(now) {

@@ -53,7 +53,7 @@ impl<'a> Listing<'a> {
         self.rr
     }
 
-    // Record order.
+    /// Record order.
     #[tactic(auto, unfolding(dns_record::specs::Records::record_cmp))]
     pub(crate) fn record_cmp(&self, other: &Listing<'_>) -> Ordering
         ensures { result ≡ record_cmp self.now other.now }

@@ -3,6 +3,7 @@ ghost use Rattle.std.specs.Prelude.{◌≡◌, ◌≤◌, ◌<◌, ◌^◌, true
 ghost use Rattle.mdns_probe.specs.Claiming.{begun, probed_if, settled_if, announced_if, set_back, ticked, after_tick, change_of, has_wait, is_probe_due, is_settle_due, is_announce_due};
 
 use dns_message::Rrs;
+use mdns_base::Moment;
 
 /// How long after a probe the next one is due, and the group sure after the third, in ms. (RFC 6762 8.1)
 const PROBE_GAP: u64 = 250;
@@ -63,8 +64,7 @@ pub enum Change {
 
 impl Claim {
     /// The claim of a group that is registered at `now`, and is first probed so much later.
-    pub fn begun(now: u64, wait: u64, group: u64, unique: Rrs, shared: Rrs) -> Claim
-        requires bound { now ≤ 2 ^ 53 }
+    pub fn begun(now: Moment, wait: u64, group: u64, unique: Rrs, shared: Rrs) -> Claim
         requires wait { wait ≤ 5000 }
         ensures { result ≡ begun now wait group unique shared }
     {
@@ -73,7 +73,7 @@ impl Claim {
             unique,
             shared,
             probes: 0,
-            due: now + wait,
+            due: now.ms() + wait,
             sure: false,
             announced: 0,
             next: 0,
@@ -81,13 +81,12 @@ impl Claim {
     }
 
     /// Lets the claim be probed anew, so much later.
-    pub fn set_back(&mut self, now: u64, wait: u64)
-        requires bound { now ≤ 2 ^ 53 }
+    pub fn set_back(&mut self, now: Moment, wait: u64)
         requires wait { wait ≤ 5000 }
         ensures { self.new ≡ set_back now wait self.old }
     {
         self.probes = 0;
-        self.due = now + wait;
+        self.due = now.ms() + wait;
         self.sure = false;
         self.announced = 0;
         self.next = 0;
@@ -95,8 +94,7 @@ impl Claim {
 
     /// Notes a tick: a probe that was due was sent, or else the claim becomes sure where that is due; and then it was
     /// announced where that is due and announcements are made at all.
-    pub fn note_tick(&mut self, now: u64, announces: bool)
-        requires { now ≤ 2 ^ 53 }
+    pub fn note_tick(&mut self, now: Moment, announces: bool)
         ensures { self.new ≡ after_tick now announces self.old }
     {
         self.note_time(now);
@@ -105,8 +103,7 @@ impl Claim {
         }
     }
 
-    fn note_time(&mut self, now: u64)
-        requires { now ≤ 2 ^ 53 }
+    fn note_time(&mut self, now: Moment)
         ensures { self.new ≡ ticked now self.old }
     {
         if self.is_probe_due(now) {
@@ -117,41 +114,38 @@ impl Claim {
     }
 
     /// Notes a probe, where one is due.
-    pub fn note_probe(&mut self, now: u64)
-        requires { now ≤ 2 ^ 53 }
+    pub fn note_probe(&mut self, now: Moment)
         ensures { self.new ≡ probed_if now self.old }
     {
         if self.is_probe_due(now) {
             self.probes += 1;
-            self.due = now + PROBE_GAP;
+            self.due = now.ms() + PROBE_GAP;
         }
     }
 
     /// Notes that the claim is sure, where that is due.
-    pub fn note_settled(&mut self, now: u64)
+    pub fn note_settled(&mut self, now: Moment)
         ensures { self.new ≡ settled_if now self.old }
     {
         if self.is_settle_due(now) {
             self.sure = true;
             self.announced = 0;
-            self.next = now;
+            self.next = now.ms();
         }
     }
 
     /// Notes an announcement, where one is due.
-    pub fn note_announcement(&mut self, now: u64)
-        requires { now ≤ 2 ^ 53 }
+    pub fn note_announcement(&mut self, now: Moment)
         ensures { self.new ≡ announced_if now true self.old }
     {
         if self.is_announce_due(now) {
             self.announced += 1;
-            self.next = now + ANNOUNCE_GAP;
+            self.next = now.ms() + ANNOUNCE_GAP;
         }
     }
 
     /// Makes a change. A wait is at most five seconds.
-    pub fn change(&mut self, now: u64, change: Change)
-        requires bound { now ≤ 2 ^ 53 }
+    pub fn change(&mut self, now: Moment, change: Change)
         requires wait { has_wait change }
         ensures { self.new ≡ change_of now change self.old }
     {
@@ -164,25 +158,25 @@ impl Claim {
     }
 
     /// Whether a probe is due.
-    pub fn is_probe_due(&self, now: u64) -> bool
+    pub fn is_probe_due(&self, now: Moment) -> bool
         ensures value { result ≡ is_probe_due now self.now }
         ensures few { result ≡ true → self.now.probes < 3 }
     {
-        !self.sure && self.probes < PROBES && self.due <= now
+        !self.sure && self.probes < PROBES && self.due <= now.ms()
     }
 
     /// Whether the claim becomes sure.
-    pub fn is_settle_due(&self, now: u64) -> bool
+    pub fn is_settle_due(&self, now: Moment) -> bool
         ensures { result ≡ is_settle_due now self.now }
     {
-        !self.sure && self.probes >= PROBES && self.due <= now
+        !self.sure && self.probes >= PROBES && self.due <= now.ms()
     }
 
     /// Whether an announcement is due.
-    pub fn is_announce_due(&self, now: u64) -> bool
+    pub fn is_announce_due(&self, now: Moment) -> bool
         ensures value { result ≡ is_announce_due now self.now }
         ensures few { result ≡ true → self.now.announced < 2 }
     {
-        self.sure && self.announced < ANNOUNCEMENTS && self.next <= now
+        self.sure && self.announced < ANNOUNCEMENTS && self.next <= now.ms()
     }
 }

@@ -4,6 +4,7 @@ ghost use Rattle.std.specs.Option.{option_to_list};
 ghost use Rattle.mdns_probe.specs.Claiming.{due_of, next_of};
 
 use crate::claim::Claim;
+use mdns_base::Moment;
 
 /// What is due of a group.
 #[derive(Clone, Copy, Drop)]
@@ -18,7 +19,7 @@ pub enum Due {
 
 impl Claim {
     /// What is due of the claim, where announcements are made or aren't.
-    pub fn due(&self, now: u64, announces: bool) -> Option<Due>
+    pub fn due(&self, now: Moment, announces: bool) -> Option<Due>
         ensures { result ≡ due_of announces now self.now }
     {
         let group = self.group;

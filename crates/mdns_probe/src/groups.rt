@@ -8,6 +8,7 @@ ghost use Rattle.mdns_probe.specs.Claiming.{begun, set_back, probed_if, settled_
 use crate::claim::{Change, Claim, Gone};
 use crate::due::Due;
 use dns_message::Rrs;
+use mdns_base::Moment;
 use mdns_timer::earlier;
 use std::alloc::{AllocError, Global};
 use std::marker::Model;
@@ -49,13 +50,12 @@ impl Groups {
     /// Registers a group, which is first probed so much later. Refused only for want of memory, and then nothing changes.
     pub fn register(
         &mut self,
-        now: u64,
+        now: Moment,
         wait: u64,
         group: u64,
         unique: Rrs,
         shared: Rrs,
     ) -> Result<(), AllocError>
-        requires bound { now ≤ 2 ^ 53 }
         requires wait { wait ≤ 5000 }
         requires new { list_any (is_of group) self.old.claims ≡ false }
         ensures ok { OnOk result (self.new.claims ≡ self.old.claims ++ begun now wait group unique shared ∷ []) }
@@ -71,16 +71,14 @@ impl Groups {
 
     /// Notes a tick: the probes that were due were sent, or else the groups become sure for which that is due, and then those
     /// were announced for which that is due, where announcements are made at all. It takes no memory.
-    pub fn tick(&mut self, now: u64, announces: bool)
-        requires { now ≤ 2 ^ 53 }
+    pub fn tick(&mut self, now: Moment, announces: bool)
         ensures { self.new.claims ≡ map (after_tick now announces) self.old.claims }
     {
         tick_all(&mut self.claims, now, announces);
     }
 
     /// Lets a group be probed anew, so much later. It takes no memory.
-    pub fn reset(&mut self, now: u64, wait: u64, group: u64)
-        requires bound { now ≤ 2 ^ 53 }
+    pub fn reset(&mut self, now: Moment, wait: u64, group: u64)
         requires wait { wait ≤ 5000 }
         ensures { self.new.claims ≡ map (changed_of group (set_back now wait)) self.old.claims }
     {
@@ -88,31 +86,28 @@ impl Groups {
     }
 
     /// Notes that a group was probed, where that is due. It takes no memory.
-    pub fn probe_sent(&mut self, now: u64, group: u64)
-        requires { now ≤ 2 ^ 53 }
+    pub fn probe_sent(&mut self, now: Moment, group: u64)
         ensures { self.new.claims ≡ map (changed_of group (probed_if now)) self.old.claims }
     {
         change_all(&mut self.claims, now, group, Change::Probed);
     }
 
     /// Notes that a group is sure, where that is due. It takes no memory.
-    pub fn settled(&mut self, now: u64, group: u64)
-        requires { now ≤ 2 ^ 53 }
+    pub fn settled(&mut self, now: Moment, group: u64)
         ensures { self.new.claims ≡ map (changed_of group (settled_if now)) self.old.claims }
     {
         change_all(&mut self.claims, now, group, Change::Settled);
     }
 
     /// Notes that a group was announced, where that is due. It takes no memory.
-    pub fn announced(&mut self, now: u64, group: u64)
-        requires { now ≤ 2 ^ 53 }
+    pub fn announced(&mut self, now: Moment, group: u64)
         ensures { self.new.claims ≡ map (changed_of group (announced_if now true)) self.old.claims }
     {
         change_all(&mut self.claims, now, group, Change::Announced);
     }
 
     /// Gives a group other records. It takes no memory.
-    pub fn replace(&mut self, now: u64, group: u64, unique: Rrs, shared: Rrs)
+    pub fn replace(&mut self, now: Moment, group: u64, unique: Rrs, shared: Rrs)
         ensures { self.new.claims ≡ changed_first group (replaced now unique shared) self.old.claims }
     {
         replace_in(&mut self.claims, now, group, unique, shared);
@@ -164,7 +159,7 @@ impl Groups {
 
     /// The place-th thing that is due, counted from 0, in the order of the groups, where announcements
     /// are made or aren't; `None` exactly past the last.
-    pub fn due(&self, now: u64, announces: bool, place: usize) -> Option<Due>
+    pub fn due(&self, now: Moment, announces: bool, place: usize) -> Option<Due>
         ensures { result ≡ slice_get (all_due announces now self.now.claims) place }
     {
         due_in(&self.claims, now, announces, place)
@@ -185,8 +180,7 @@ impl Groups {
     }
 }
 
-fn tick_all(claims: &mut [Claim], now: u64, announces: bool)
-    requires { now ≤ 2 ^ 53 }
+fn tick_all(claims: &mut [Claim], now: Moment, announces: bool)
     ensures { claims.new ≡ map (after_tick now announces) claims.old }
 {
     for claim in claims.iter_mut() {
@@ -194,8 +188,7 @@ fn tick_all(claims: &mut [Claim], now: u64, announces: bool)
     }
 }
 
-fn change_all(claims: &mut [Claim], now: u64, group: u64, change: Change)
-    requires bound { now ≤ 2 ^ 53 }
+fn change_all(claims: &mut [Claim], now: Moment, group: u64, change: Change)
     requires wait { has_wait change }
     ensures { claims.new ≡ map (changed_of group (change_of now change)) claims.old }
 {
@@ -204,8 +197,7 @@ fn change_all(claims: &mut [Claim], now: u64, group: u64, change: Change)
     }
 }
 
-fn change_one(claim: &mut Claim, now: u64, group: u64, change: Change)
-    requires bound { now ≤ 2 ^ 53 }
+fn change_one(claim: &mut Claim, now: Moment, group: u64, change: Change)
     requires wait { has_wait change }
     ensures { claim.new ≡ changed_of group (change_of now change) claim.old }
 {
@@ -215,7 +207,7 @@ fn change_one(claim: &mut Claim, now: u64, group: u64, change: Change)
 }
 
 // Gives the first claim of a group other records.
-fn replace_in(claims: &mut [Claim], now: u64, group: u64, unique: Rrs, shared: Rrs)
+fn replace_in(claims: &mut [Claim], now: Moment, group: u64, unique: Rrs, shared: Rrs)
     ensures { claims.new ≡ changed_first group (replaced now unique shared) claims.old }
 {
     if let Some(place) = place_of(claims, group) {
@@ -244,7 +236,7 @@ fn place_of(claims: &[Claim], group: u64) -> Option<usize>
 }
 
 #[tactic(auto, using(crate::proofs::Loops::given_here, crate::proofs::Loops::given_behind, crate::proofs::Loops::given_none))]
-fn due_in(claims: &[Claim], now: u64, announces: bool, place: usize) -> Option<Due>
+fn due_in(claims: &[Claim], now: Moment, announces: bool, place: usize) -> Option<Due>
     ensures { result ≡ slice_get (all_due announces now claims.now) place }
 {
     let mut left = place;

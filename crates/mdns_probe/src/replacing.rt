@@ -8,10 +8,11 @@ ghost use Rattle.mdns_probe.specs.Claiming.{replaced};
 use crate::claim::Claim;
 use dns_message::Rrs;
 use dns_record::Rr;
+use mdns_base::Moment;
 
 impl Claim {
     /// Gives the claim other records: a sure one is announced anew where they differ. (RFC 6762 8.4)
-    pub fn replace(&mut self, now: u64, unique: Rrs, shared: Rrs)
+    pub fn replace(&mut self, now: Moment, unique: Rrs, shared: Rrs)
         ensures { self.new ≡ replaced now unique shared self.old }
     {
         let renewed = self.replaced(now, unique, shared);
@@ -19,7 +20,7 @@ impl Claim {
     }
 
     /// The claim with other records: a sure one is announced anew where they differ. It takes no memory. (RFC 6762 8.4)
-    pub fn replaced(&self, now: u64, unique: Rrs, shared: Rrs) -> Claim
+    pub fn replaced(&self, now: Moment, unique: Rrs, shared: Rrs) -> Claim
         ensures { result ≡ replaced now unique shared self.now }
     {
         let renewed = self.sure && !are_same(&unique, &shared, self);
@@ -31,7 +32,7 @@ impl Claim {
             due: self.due,
             sure: self.sure,
             announced: if renewed { 0 } else { self.announced },
-            next: if renewed { now } else { self.next },
+            next: if renewed { now.ms() } else { self.next },
         }
     }
 }

@@ -14,6 +14,7 @@ use crate::named::{places_near, places_of};
 use crate::users::{add_user, take_user};
 use dns_name::Name;
 use dns_record::Key;
+use mdns_base::Moment;
 use mdns_history::Cause;
 use mdns_timer::Deadlines;
 use std::alloc::{AllocError, Global};
@@ -64,8 +65,7 @@ impl Asker {
     /// Gives a question one user more: a count of 2^64 - 1 stays. The first gives moment, random word and spelling, and the
     /// question is first due in its series 20 to 120 ms later. Refused only for want of memory, never where there is room,
     /// and then the questions are as before. (RFC 6762 5.2)
-    pub fn start(&mut self, now: u64, word: u32, question: &Key) -> Result<(), AllocError>
-        requires { now ≤ 2 ^ 53 }
+    pub fn start(&mut self, now: Moment, word: u32, question: &Key) -> Result<(), AllocError>
         ensures ok { OnOk result (self.new.questions ≡ with_user now word question.now self.old.questions) }
         ensures err { OnErr result (self.new.questions ≡ self.old.questions) }
         ensures reserved { 1 ≤ self.old.spare → IsOk result }
@@ -91,8 +91,7 @@ impl Asker {
 
     /// Notes that a question was asked. An asking of cause series or heard puts the next one of the series a gap later:
     /// a second behind the first, twice as long each time, an hour at most. (RFC 6762 5.2 and 7.3)
-    pub fn asked(&mut self, now: u64, question: &Key, cause: Cause)
-        requires { now ≤ 2 ^ 53 }
+    pub fn asked(&mut self, now: Moment, question: &Key, cause: Cause)
         ensures questions { self.new.questions ≡ with_asking now question.now cause self.old.questions }
         ensures spare { self.new.spare ≡ self.old.spare }
     {
@@ -126,7 +125,7 @@ impl Asker {
 
     /// The questions that are due at `now`, in ms, by what is kept of them, refresh points too: by folded name and then by
     /// type, each with its cause. No record is looked at. Refused only for want of memory. (RFC 6762 5.2)
-    pub fn due_by_kept(&self, alloc: Global, now: u64) -> Result<Vec<(Key, Cause)>, AllocError>
+    pub fn due_by_kept(&self, alloc: Global, now: Moment) -> Result<Vec<(Key, Cause)>, AllocError>
         ensures { IfOk result (λ due. due.items ≡ due_by_kept now self.now.questions) }
     {
         due_by_kept(alloc, &self.questions, &self.deadlines, now)
@@ -142,12 +141,12 @@ impl Asker {
 
     /// The place of the first question, from the place `from` on, that is due at `now`, in ms, by what is kept of it; `None` exactly
     /// where there is none. No record is looked at, and no question that isn't due.
-    pub fn next_due(&self, from: usize, now: u64) -> Option<usize>
+    pub fn next_due(&self, from: usize, now: Moment) -> Option<usize>
         ensures none { IfNone result (NoneDue (map moment_of self.now.questions) now from (length self.now.questions)) }
         ensures within { IfSome result (λ place. place < length self.now.questions) }
         ensures some { IfSome result (IsFirstDue (map moment_of self.now.questions) now from) }
     {
-        self.deadlines.next_due(from, now)
+        self.deadlines.next_due(from, now.ms())
     }
 
     /// The place of the first question of a name, case aside, and the place behind the last one; they are equal where there is none.

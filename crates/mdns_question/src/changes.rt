@@ -9,6 +9,7 @@ use crate::kept::moment_of;
 use crate::tracked::note_asking;
 use crate::users::place_of;
 use dns_record::Key;
+use mdns_base::Moment;
 use mdns_history::Cause;
 use mdns_timer::Deadlines;
 
@@ -16,11 +17,10 @@ use mdns_timer::Deadlines;
 pub fn note(
     questions: &mut [Tracked],
     deadlines: &mut Deadlines,
-    now: u64,
+    now: Moment,
     question: &Key,
     cause: Cause,
 )
-    requires now { now ≤ 2 ^ 53 }
     requires arranged { IsArranged questions.old deadlines.old.moments }
     ensures questions { questions.new ≡ with_asking now question.now cause questions.old }
     ensures spare { deadlines.new.spare ≡ deadlines.old.spare }
@@ -35,8 +35,7 @@ pub fn note(
     }
 }
 
-fn note_at(questions: &mut [Tracked], place: usize, now: u64, cause: Cause)
-    requires now { now ≤ 2 ^ 53 }
+fn note_at(questions: &mut [Tracked], place: usize, now: Moment, cause: Cause)
     requires place { place < length questions.old }
     ensures { IsChangedAt (asked_at now cause) place questions.old questions.new }
 {

@@ -8,6 +8,7 @@ ghost use Rattle.mdns_question.specs.Refreshing.{first_refresh, moment_of, cause
 use crate::Tracked;
 use crate::next::next_with;
 use dns_record::Key;
+use mdns_base::Moment;
 use mdns_history::{Cause, Held};
 use mdns_timer::Deadlines;
 use std::alloc::{AllocError, Global};
@@ -49,14 +50,14 @@ pub fn due_by_kept(
     alloc: Global,
     questions: &[Tracked],
     deadlines: &Deadlines,
-    now: u64,
+    now: Moment,
 ) -> Result<Vec<(Key, Cause)>, AllocError>
     requires { deadlines.now.moments ≡ map moment_of questions.now }
     ensures { IfOk result (λ due. due.items ≡ due_by_kept now questions.now) }
 {
     let mut due = Vec::new(alloc);
     let mut from = 0;
-    while let Some(place) = deadlines.next_due(from, now) {
+    while let Some(place) = deadlines.next_due(from, now.ms()) {
         put_due(&mut due, &questions[place], now)?;
         from = place + 1;
     }
@@ -64,7 +65,7 @@ pub fn due_by_kept(
 }
 
 // Puts a question with its cause, if it is due.
-fn put_due(due: &mut Vec<(Key, Cause)>, one: &Tracked, now: u64) -> Result<(), AllocError>
+fn put_due(due: &mut Vec<(Key, Cause)>, one: &Tracked, now: Moment) -> Result<(), AllocError>
     ensures { OnOk result (due.new.items ≡ due.old.items ++ option_to_list (with_cause now one.now)) }
 {
     if let Some(cause) = cause_of(one, now) {
@@ -74,12 +75,12 @@ fn put_due(due: &mut Vec<(Key, Cause)>, one: &Tracked, now: u64) -> Result<(), A
 }
 
 // Why the question is due at `now`, if it is: its turn in the series goes before a refresh.
-fn cause_of(one: &Tracked, now: u64) -> Option<Cause>
+fn cause_of(one: &Tracked, now: Moment) -> Option<Cause>
     ensures { result ≡ cause_of now one.now }
 {
-    if one.next <= now {
+    if one.next <= now.ms() {
         Some(Cause::Series)
-    } else if moment_of(one) <= now {
+    } else if moment_of(one) <= now.ms() {
         Some(Cause::Refresh)
     } else {
         None

@@ -6,7 +6,7 @@ ghost use Rattle.mdns_history.specs.Lifetimes.{is_uncut};
 ghost use Rattle.mdns_question.specs.Next.{is_open, open_in};
 
 use crate::Tracked;
-use crate::points::{is_open, is_uncut, refresh_points};
+use crate::points::{is_open, refresh_points};
 use dns_record::matches;
 use mdns_history::Held;
 
@@ -14,7 +14,7 @@ use mdns_history::Held;
 pub fn next_with(one: &Tracked, told: &Held, earliest: u64) -> u64
     ensures { result ≡ least_of earliest (open_in one.now told.now) }
 {
-    if !is_uncut(told) {
+    if !told.is_uncut() {
         return earliest;
     }
     // Names take longest to compare, so they are compared only where there is an earlier point.

@@ -6,15 +6,8 @@ ghost use Rattle.mdns_history.specs.Asking.{refresh_points, is_behind};
 ghost use Rattle.mdns_question.specs.Next.{is_open};
 
 use crate::Tracked;
+use mdns_base::Moment;
 use mdns_history::Held;
-
-/// Whether the record's end is that of its TTL.
-pub fn is_uncut(told: &Held) -> bool
-    ensures { result ≡ is_uncut told.now }
-{
-    let ttl = u64::from(told.rr.ttl);
-    told.heard <= told.end && told.end - told.heard == 1000 * ttl
-}
 
 /// The refresh points of a record whose end is that of its TTL: at 80, 85, 90 and 95 percent of the TTL, and up to two
 /// percent later. (RFC 6762 5.2)
@@ -23,14 +16,14 @@ pub fn refresh_points(told: &Held) -> [u64; 4]
     requires { IsTrue (is_uncut told.now) }
     ensures { result ≡ refresh_points told.now }
 {
-    let _end = told.end;
+    let heard = told.heard.ms();
     let ttl = u64::from(told.rr.ttl);
     let jitter = u64::from(told.word) % (20 * ttl + 1);
     [
-        told.heard + ttl * 800 + jitter,
-        told.heard + ttl * 850 + jitter,
-        told.heard + ttl * 900 + jitter,
-        told.heard + ttl * 950 + jitter,
+        heard + ttl * 800 + jitter,
+        heard + ttl * 850 + jitter,
+        heard + ttl * 900 + jitter,
+        heard + ttl * 950 + jitter,
     ]
 }
 
@@ -38,14 +31,14 @@ pub fn refresh_points(told: &Held) -> [u64; 4]
 pub fn is_open(one: &Tracked, told: &Held, point: u64) -> bool
     ensures { result ≡ is_open one.now told.now point }
 {
-    point < told.end && one.start < point && is_behind(point, one.last)
+    point < told.end && one.start.ms() < point && is_behind(point, one.last)
 }
 
-fn is_behind(point: u64, last: Option<u64>) -> bool
+fn is_behind(point: u64, last: Option<Moment>) -> bool
     ensures { result ≡ is_behind point (option_to_list last) }
 {
     match last {
-        Some(last) => last < point,
+        Some(last) => last.ms() < point,
         None => true,
     }
 }

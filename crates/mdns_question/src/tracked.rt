@@ -4,6 +4,7 @@ ghost use Rattle.mdns_history.specs.Asking.{is_counted};
 ghost use Rattle.mdns_question.specs.Tracking.{begun, asked_at};
 
 use dns_record::Key;
+use mdns_base::Moment;
 use mdns_history::Cause;
 
 /// The longest gap between two askings of the series: an hour, in ms. (RFC 6762 5.2)
@@ -15,7 +16,7 @@ pub struct Tracked {
     /// The question, as its first user spelled it.
     pub key: Key,
     /// The moment at which its first user came.
-    pub start: u64,
+    pub start: Moment,
     /// The random word of that moment's entry.
     pub word: u32,
     /// How many users it has. A count of 2^64 - 1 stays where one more comes.
@@ -25,7 +26,7 @@ pub struct Tracked {
     /// How long after the next asking that counts in the series the one behind it is due, in ms: an hour where this is more.
     pub gap: u64,
     /// The moment at which it was last asked, for any cause.
-    pub last: Option<u64>,
+    pub last: Option<Moment>,
     /// The first refresh point of the records that answer it which calls for an asking, as it was told last.
     pub refresh: Option<u64>,
 }
@@ -49,8 +50,7 @@ impl Tracked {
 }
 
 /// A question that gets its first user: it is first due 20 to 120 ms later. (RFC 6762 5.2)
-pub fn begun(now: u64, word: u32, question: &Key) -> Tracked
-    requires { now ≤ 2 ^ 53 }
+pub fn begun(now: Moment, word: u32, question: &Key) -> Tracked
     ensures { result ≡ begun now word question.now }
 {
     Tracked {
@@ -58,7 +58,7 @@ pub fn begun(now: u64, word: u32, question: &Key) -> Tracked
         start: now,
         word,
         users: 1,
-        next: now + 20 + u64::from(word % 101),
+        next: now.ms() + 20 + u64::from(word % 101),
         gap: 1000,
         last: None,
         refresh: None,
@@ -67,14 +67,13 @@ pub fn begun(now: u64, word: u32, question: &Key) -> Tracked
 
 /// Notes that the question was asked. An asking that counts in the series puts the next one a gap later, and doubles the
 /// gap. (RFC 6762 5.2)
-pub fn note_asking(one: &mut Tracked, now: u64, cause: Cause)
-    requires { now ≤ 2 ^ 53 }
+pub fn note_asking(one: &mut Tracked, now: Moment, cause: Cause)
     ensures { one.new ≡ asked_at now cause one.old }
 {
     one.last = Some(now);
     if is_counted(cause) {
         let gap = one.gap.min(HOUR);
-        one.next = now + gap;
+        one.next = now.ms() + gap;
         one.gap = 2 * gap;
     }
 }

@@ -12,6 +12,7 @@ use crate::kept::moment_of;
 use crate::keys::key_cmp;
 use crate::tracked::begun;
 use dns_record::Key;
+use mdns_base::Moment;
 use mdns_timer::Deadlines;
 use std::alloc::AllocError;
 
@@ -29,11 +30,10 @@ pub fn place_of(questions: &[Tracked], question: &Key) -> Result<usize, usize>
 pub fn add_user(
     questions: &mut Vec<Tracked>,
     deadlines: &mut Deadlines,
-    now: u64,
+    now: Moment,
     word: u32,
     question: &Key,
 ) -> Result<(), AllocError>
-    requires now { now ≤ 2 ^ 53 }
     requires arranged { IsArranged questions.old.items deadlines.old.moments }
     ensures ok { OnOk result (questions.new.items ≡ with_user now word question.now questions.old.items) }
     ensures err { OnErr result (questions.new.items ≡ questions.old.items) }

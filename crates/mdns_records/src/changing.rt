@@ -8,29 +8,35 @@ ghost use Rattle.mdns_records.specs.After.{held_after};
 ghost use Rattle.mdns_records.specs.Visits.{ended_in};
 
 use dns_message::Rrs;
+use mdns_base::Moment;
 use mdns_cache::{Cache, Steps};
-use mdns_happened::When;
 use std::sync::ledger::Ledger;
 
 /// Takes out what has ended and hears these records, where there is room for them.
-pub fn change<L: Ledger>(cache: &mut Cache, when: When, heard: Rrs, steps: &mut Steps<L>)
+pub fn change<L: Ledger>(
+    cache: &mut Cache,
+    now: Moment,
+    word: u32,
+    heard: Rrs,
+    steps: &mut Steps<L>,
+)
     requires room { length heard ≤ cache.old.spare }
-    requires fits { length (held_after when.moment when.word heard cache.old.held) ≤ cache.old.limit }
-    ensures held { IsPermutation cache.new.held (held_after when.moment when.word heard cache.old.held) }
+    requires fits { length (held_after now word heard cache.old.held) ≤ cache.old.limit }
+    ensures held { IsPermutation cache.new.held (held_after now word heard cache.old.held) }
     ensures limit { cache.new.limit ≡ cache.old.limit }
     ensures within { length cache.new.held ≤ cache.new.limit }
-    ensures live { AllLive when.moment cache.new.held }
-    ensures heard { AllHeard when.moment cache.old.held → AllHeard when.moment cache.new.held }
-    ensures holds { (past : List Hearing) (before : ℕ) → before ≤ when.moment → Holds cache.old.held past before
-        → Holds cache.new.held (hearings_at when.moment when.word heard ++ past) when.moment }
-    ensures visits { steps.new ≡ steps.old + length (ended_in when.moment cache.old.held) + 1 }
+    ensures live { AllLive now cache.new.held }
+    ensures heard { AllHeard now cache.old.held → AllHeard now cache.new.held }
+    ensures holds { (past : List Hearing) (before : ℕ) → before ≤ now → Holds cache.old.held past before
+        → Holds cache.new.held (hearings_at now word heard ++ past) now }
+    ensures visits { steps.new ≡ steps.old + length (ended_in now cache.old.held) + 1 }
 {
-    take_ended(cache, when.moment, steps);
-    let _ = cache.hear(when.moment, when.word, heard);
+    take_ended(cache, now, steps);
+    let _ = cache.hear(now, word, heard);
 }
 
 // Takes out all that has ended at `now`, in ms.
-fn take_ended<L: Ledger>(cache: &mut Cache, now: u64, steps: &mut Steps<L>)
+fn take_ended<L: Ledger>(cache: &mut Cache, now: Moment, steps: &mut Steps<L>)
     ensures held { IsPermutation cache.new.held (filter (is_live_at now) cache.old.held) }
     ensures live { AllLive now cache.new.held }
     ensures limit { cache.new.limit ≡ cache.old.limit }

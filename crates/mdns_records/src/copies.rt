@@ -2,6 +2,7 @@
 ghost use Rattle.std.specs.Prelude.{◌≡◌, ◌++◌, ◌∷◌, [], OnOk};
 
 use dns_record::Rr;
+use mdns_base::Moment;
 use mdns_history::Held;
 use std::alloc::AllocError;
 
@@ -17,7 +18,7 @@ pub fn put_copy(records: &mut Vec<Held>, one: &Held) -> Result<(), AllocError>
 pub fn put_held(
     records: &mut Vec<Held>,
     rr: &Rr,
-    heard: u64,
+    heard: Moment,
     word: u32,
     end: u64,
 ) -> Result<(), AllocError>

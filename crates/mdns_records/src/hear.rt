@@ -28,7 +28,7 @@ pub fn heard_copy(
             Ok(later)
         }
         None => {
-            let later = live_copies(alloc, earlier, when.moment)?;
+            let later = live_copies(alloc, earlier, when)?;
             Ok(later)
         }
     }
@@ -52,22 +52,22 @@ fn first_heard_copy(
     ensures { IfOk result (λ later. later.items ≡ after_hearing (filter (is_live_at when.moment) earlier.now) (hearing_at when.moment when.word rr.now)) }
 {
     if rr.ttl == 0 {
-        let mut later = live_copies(alloc, earlier, when.moment)?;
-        shorten(&mut later, when.moment, rr);
+        let mut later = live_copies(alloc, earlier, when)?;
+        shorten(&mut later, when, rr);
         return Ok(later);
     }
-    let mut later = other_copies(alloc, earlier, when.moment, rr)?;
+    let mut later = other_copies(alloc, earlier, when, rr)?;
     renew(&mut later, when, rr)?;
     Ok(later)
 }
 
-// Those of the records that are live at `now`, in ms, copied.
-fn live_copies(alloc: Global, held: &[Held], now: u64) -> Result<Vec<Held>, AllocError>
-    ensures { IfOk result (λ live. live.items ≡ filter (is_live_at now) held.now) }
+// Those of the records that are live then, copied.
+fn live_copies(alloc: Global, held: &[Held], when: When) -> Result<Vec<Held>, AllocError>
+    ensures { IfOk result (λ live. live.items ≡ filter (is_live_at when.moment) held.now) }
 {
     let mut live = Vec::with_capacity(alloc, held.len())?;
     for one in held {
-        if now < one.end {
+        if one.is_live(when.at()) {
             put_copy(&mut live, one)?;
         }
     }
@@ -75,23 +75,23 @@ fn live_copies(alloc: Global, held: &[Held], now: u64) -> Result<Vec<Held>, Allo
 }
 
 // Those of them that aren't the same as a record. There is room for one more: most names own one record of a packet.
-fn other_copies(alloc: Global, held: &[Held], now: u64, rr: &Rr) -> Result<Vec<Held>, AllocError>
-    ensures { IfOk result (λ live. live.items ≡ filter (λ one. is_live_at now one && is_other rr.now one) held.now) }
+fn other_copies(alloc: Global, held: &[Held], when: When, rr: &Rr) -> Result<Vec<Held>, AllocError>
+    ensures { IfOk result (λ live. live.items ≡ filter (λ one. is_live_at when.moment one && is_other rr.now one) held.now) }
 {
     let mut live = Vec::with_capacity(alloc, held.len().saturating_add(1))?;
     for one in held {
-        if is_live_other(one, now, rr) {
+        if is_live_other(one, when, rr) {
             put_copy(&mut live, one)?;
         }
     }
     Ok(live)
 }
 
-// Whether a record is live at `now`, in ms, and not the same as another.
-fn is_live_other(one: &Held, now: u64, rr: &Rr) -> bool
-    ensures { result ≡ (is_live_at now one.now && is_other rr.now one.now) }
+// Whether a record is live then, and not the same as another.
+fn is_live_other(one: &Held, when: When, rr: &Rr) -> bool
+    ensures { result ≡ (is_live_at when.moment one.now && is_other rr.now one.now) }
 {
-    now < one.end && !one.rr.same(rr)
+    one.is_live(when.at()) && !one.rr.same(rr)
 }
 
 // Hears those of the records that are of a name, one after another.
@@ -111,7 +111,7 @@ fn hear_one(held: &mut Vec<Held>, when: When, rr: &Rr) -> Result<(), AllocError>
     ensures { OnOk result (held.new.items ≡ after_hearing held.old.items (hearing_at when.moment when.word rr.now)) }
 {
     if rr.ttl == 0 {
-        shorten(held, when.moment, rr);
+        shorten(held, when, rr);
         return Ok(());
     }
     drop_same(held, rr);
@@ -122,41 +122,25 @@ fn hear_one(held: &mut Vec<Held>, when: When, rr: &Rr) -> Result<(), AllocError>
 fn renew(held: &mut Vec<Held>, when: When, rr: &Rr) -> Result<(), AllocError>
     ensures { OnOk result (held.new.items ≡ map (shortened (hearing_at when.moment when.word rr.now)) held.old.items ++ renewed (hearing_at when.moment when.word rr.now) ∷ []) }
 {
-    let now = when.moment;
-    shorten(held, now, rr);
-    let end = now + 1000 * u64::from(rr.ttl);
-    put_held(held, rr, now, when.word, end)
+    shorten(held, when, rr);
+    let end = when.moment + rr.ttl_ms();
+    put_held(held, rr, when.at(), when.word, end)
 }
 
 // Cuts the lives of records to a second where a hearing does so. (A hearing's word doesn't count here and below, so the
 // clauses write 0.)
-fn shorten(held: &mut [Held], now: u64, rr: &Rr)
-    requires { now ≤ 2 ^ 53 }
-    ensures { held.new ≡ map (shortened (hearing_at now 0 rr.now)) held.old }
+fn shorten(held: &mut [Held], when: When, rr: &Rr)
+    ensures { held.new ≡ map (shortened (hearing_at when.moment 0 rr.now)) held.old }
 {
     for one in held.iter_mut() {
-        shorten_one(one, now, rr);
+        shorten_one(one, when, rr);
     }
 }
 
-fn shorten_one(one: &mut Held, now: u64, rr: &Rr)
-    requires { now ≤ 2 ^ 53 }
-    ensures { one.new ≡ shortened (hearing_at now 0 rr.now) one.old }
+fn shorten_one(one: &mut Held, when: When, rr: &Rr)
+    ensures { one.new ≡ shortened (hearing_at when.moment 0 rr.now) one.old }
 {
-    if is_cut(one, now, rr) {
-        one.end = (now + 1000).min(one.end);
+    if one.is_cut_by(when.at(), rr) {
+        one.end = (when.moment + 1000).min(one.end);
     }
-}
-
-// Whether a hearing cuts the life of a record: a goodbye, or a flush more than a second after it was heard.
-fn is_cut(one: &Held, now: u64, rr: &Rr) -> bool
-    ensures { result ≡ cuts one.now.rr one.now.heard (hearing_at now 0 rr.now) }
-{
-    if rr.ttl == 0 && one.rr.same(rr) {
-        return true;
-    }
-    rr.flush
-        && one.rr.owner.folded_eq(&rr.owner)
-        && one.rr.rdata.kind() == rr.rdata.kind()
-        && one.heard < now.saturating_sub(1000)
 }

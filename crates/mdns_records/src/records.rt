@@ -17,6 +17,7 @@ use crate::names::with_owners;
 use dns_message::Rrs;
 use dns_name::Name;
 use dns_record::Rr;
+use mdns_base::Moment;
 use mdns_cache::{Cache, Steps};
 use mdns_happened::{OwnWalk, Walk, When};
 use mdns_history::Held;
@@ -84,7 +85,7 @@ impl Records {
     }
 
     /// Whether there is room for as many records as would be live with these, heard at `now`.
-    pub fn fits(&self, now: u64, heard: &[Rr]) -> bool
+    pub fn fits(&self, now: Moment, heard: &[Rr]) -> bool
         // No more than there is room for would be live, whatever was heard before.
         ensures told { (word : ℕ) (past : List Hearing) (before : ℕ) → before ≤ now → Holds self.now.held past before
             → IsTrue result ↔ (length (live_of (hearings_at now word heard.now ++ past) now) ≤ room_for_records) }
@@ -96,7 +97,7 @@ impl Records {
 
     /// The names whose records an event at `now` changes that brings these records, each once, case aside: the owners of records
     /// that have ended, and of those that are heard. Refused only for want of memory.
-    pub fn touched(&self, now: u64, heard: &[Rr]) -> Result<Vec<Name>, AllocError>
+    pub fn touched(&self, now: Moment, heard: &[Rr]) -> Result<Vec<Name>, AllocError>
         // The records of every other name stay as they are.
         ensures all { IfOk result (λ names. AreTouched now heard.now self.now.held names.items) }
         ensures only { IfOk result (λ names. list_all (is_of_event now heard.now self.now.held) names.items ≡ true) }
@@ -194,6 +195,6 @@ impl Records {
         // Only the records that have ended are looked at.
         ensures visits { steps.new ≡ steps.old + length (ended_in when.moment self.old.held) + 1 }
     {
-        change(&mut self.cache, when, heard, steps);
+        change(&mut self.cache, when.at(), when.word, heard, steps);
     }
 }

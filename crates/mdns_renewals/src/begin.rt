@@ -19,7 +19,7 @@ use bytes::Bytes;
 use dns_name::{Label, Name};
 use mdns_claimants::{Claimant, look_at};
 use mdns_contest::MOST_GROUPS;
-use mdns_happened::Happened;
+use mdns_happened::{Happened, When};
 use mdns_probe::{Claim, Naming, Published, Service};
 use sd_call::{Request, Text};
 use sd_name::RegType;
@@ -116,7 +116,7 @@ fn granted(
         txt: wish.txt,
     };
     let wait = seen.wait(naming.id());
-    let one = begun_claimant(alloc, naming, seen.when.moment, wait, &published)?;
+    let one = begun_claimant(alloc, naming, seen.when, wait, &published)?;
     Ok(one)
 }
 
@@ -125,18 +125,17 @@ fn granted(
 pub fn begun_claimant(
     alloc: Global,
     naming: Naming,
-    now: u64,
+    when: When,
     wait: u64,
     published: &Published<'_>,
 ) -> Result<Claimant, AllocError>
-    requires bound { now ≤ 2 ^ 53 }
     requires wait { wait ≤ 5000 }
     ensures typed { IfOk result (λ one. have_data (records_of one.claim) ≡ true) }
     ensures mapped { IfOk result (λ one. have_bitmap one.claim.unique ≡ true) }
     ensures value { IfOk result (λ one. one ≡ record {
       group = naming;
       number = naming.first;
-      claim = begun now wait naming.id (unique_named published.now.config.now published.now.host.now naming (numbered_name naming naming.first) published.now.txt.now) (shared_named naming (numbered_name naming naming.first));
+      claim = begun when.moment wait naming.id (unique_named published.now.config.now published.now.host.now naming (numbered_name naming naming.first) published.now.txt.now) (shared_named naming (numbered_name naming naming.first));
     }) }
 {
     let number = naming.first();
@@ -145,7 +144,7 @@ pub fn begun_claimant(
     let shared = naming.shared_records(alloc, &name)?;
     look_at(unique.as_slice());
     look_at(shared.as_slice());
-    let claim = Claim::begun(now, wait, naming.id(), unique, shared);
+    let claim = Claim::begun(when.at(), wait, naming.id(), unique, shared);
     Ok(Claimant::new(naming, number, claim))
 }
 

@@ -116,9 +116,9 @@ impl Seen<'_> {
     {
         let id = one.naming().id();
         if is_set_back(self.marks, id) {
-            Claim::begun(self.when.moment, self.wait(id), id, unique, shared)
+            Claim::begun(self.when.at(), self.wait(id), id, unique, shared)
         } else {
-            one.claim().replaced(self.when.moment, unique, shared)
+            one.claim().replaced(self.when.at(), unique, shared)
         }
     }
 

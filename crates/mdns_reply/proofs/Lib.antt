@@ -1,4 +1,3 @@
 pub mod Standing
 pub mod Steps
 pub mod Taking
-pub mod Bounds

@@ -69,7 +69,3 @@ IsLeft moment before after = (after ≡ before) ⊎ (after ≡ if_kept moment be
 abbrev pub free_at : ℕ → Option ℕ → ℕ
 free_at gap None = 0
 free_at gap (Some last) = last + gap
-
--- no last multicast is later than a moment
-abbrev pub AreBy : ℕ → List Last → Type 0
-AreBy bound lasts = (rr : Rr) → IfSome (last_of rr lasts) (λ last. last ≤ bound)

@@ -13,6 +13,7 @@ use by_name::KeyedState;
 use dns_message::Rrs;
 use dns_record::Rr;
 use indexmap::IndexMap;
+use mdns_base::Moment;
 use std::alloc::{AllocError, Global};
 use std::marker::Model;
 
@@ -30,21 +31,18 @@ const FEW: usize = 64;
 #[derive(Drop)]
 pub struct Lasts {
     moments: Moments,
-    // How many were left when the old ones were last forgotten, and when that was, in ms.
+    // How many were left when the old ones were last forgotten, and when that was.
     left: usize,
-    looked: u64,
+    looked: Moment,
 }
 
 impl Model for Lasts {
     ghost use Rattle.indexmap.specs.IndexMap.{spare as places_left};
-    ghost use Rattle.std.specs.Prelude.{◌^◌};
-    ghost use Rattle.mdns_reply.specs.Lasts.{State, AreBy};
+    ghost use Rattle.mdns_reply.specs.Lasts.{State};
 
     ghost Value = { State };
 
     ghost view = { λ l. record { lasts = l.moments.entries; spare = places_left l.moments } };
-
-    ghost invariant = { λ l. AreBy (2 ^ 53) l.moments.entries };
 }
 
 impl Lasts {
@@ -57,7 +55,7 @@ impl Lasts {
         Lasts {
             moments: IndexMap::with_hasher(alloc, KeyedState::new(key)),
             left: 0,
-            looked: 0,
+            looked: Moment::new(0),
         }
     }
 
@@ -75,17 +73,16 @@ impl Lasts {
         self.moments.is_empty()
     }
 
-    /// When a record was last multicast, if that is kept: at 2^53 ms at the latest.
-    pub fn last(&self, rr: &Rr) -> Option<u64>
-        ensures last { result ≡ last_of rr.now self.now.lasts }
-        ensures bound { IfSome result (λ last. last ≤ 2 ^ 53) }
+    /// When a record was last multicast, if that is kept.
+    pub fn last(&self, rr: &Rr) -> Option<Moment>
+        ensures { result ≡ last_of rr.now self.now.lasts }
     {
         self.moments.get(&Mark::sought(rr)).copied()
     }
 
     /// Whether a second has passed at `now` since a record's last multicast, so that it may be multicast. (RFC 6762 6)
     #[tactic(auto, using(crate::proofs::Standing::gap_told))]
-    pub fn is_free(&self, rr: &Rr, now: u64) -> bool
+    pub fn is_free(&self, rr: &Rr, now: Moment) -> bool
         ensures kept { result ≡ is_long_ago multicast_gap now (last_of rr.now self.now.lasts) }
         ensures history { (history : List Entry) → Stands self.now.lasts history → moment_of history ≤ now
             → result ≡ is_long_ago multicast_gap now (last_multicast rr.now history) }
@@ -111,7 +108,7 @@ impl Lasts {
     /// Whether a quarter of a second has passed at `now` since a record's last multicast, so that it may be multicast to defend its
     /// name. (RFC 6762 6)
     #[tactic(auto, using(crate::proofs::Standing::gap_told))]
-    pub fn is_free_to_defend(&self, rr: &Rr, now: u64) -> bool
+    pub fn is_free_to_defend(&self, rr: &Rr, now: Moment) -> bool
         ensures kept { result ≡ is_long_ago defence_gap now (last_of rr.now self.now.lasts) }
         ensures history { (history : List Entry) → Stands self.now.lasts history → moment_of history ≤ now
             → result ≡ is_long_ago defence_gap now (last_multicast rr.now history) }
@@ -122,7 +119,7 @@ impl Lasts {
     /// Whether less than a quarter of an own record's TTL has passed at `now` since its last multicast, so that a unicast answer is
     /// enough. (RFC 6762 5.4)
     #[tactic(auto, using(crate::proofs::Standing::recent_told))]
-    pub fn is_recent(&self, rr: &Rr, now: u64) -> bool
+    pub fn is_recent(&self, rr: &Rr, now: Moment) -> bool
         ensures kept { result ≡ is_recent rr.now now (last_of rr.now self.now.lasts) }
         ensures history { (history : List Entry) → Stands self.now.lasts history → moment_of history ≤ now → rr.now.ttl ≤ most_ttl
             → result ≡ is_recent rr.now now (last_multicast rr.now history) }
@@ -143,8 +140,7 @@ impl Lasts {
     /// Notes that these records were multicast at `now` in responses, where there is room for them: those with TTL 0 are taken
     /// back, and then each with another TTL has this moment. The moments stand for the longer history, then. It takes no
     /// memory, and may give back what isn't used. (RFC 6762 6)
-    pub fn apply(&mut self, now: u64, sent: Rrs)
-        requires bound { now ≤ 2 ^ 53 }
+    pub fn apply(&mut self, now: Moment, sent: Rrs)
         requires room { length sent ≤ self.old.spare }
         ensures stands { (entry : Entry) (past : List Entry) → entry.moment ≡ now → moment_of past ≤ now → multicasts_in entry ≡ sent
             → Stands self.old.lasts past → Stands self.new.lasts (entry ∷ past) }
@@ -159,12 +155,12 @@ impl Lasts {
 
     // Forgets what is so long ago that nobody can tell, where there are twice as many as were left the last time, or nothing that was
     // left then can be worth keeping.
-    fn forget_in_time(&mut self, now: u64)
+    fn forget_in_time(&mut self, now: Moment)
         ensures { (rr : Rr) → IsLeft now (last_of rr self.old.lasts) (last_of rr self.new.lasts) }
     {
         let len = self.moments.len();
         let has_grown = len > FEW && len / 2 > self.left;
-        if has_grown || now.saturating_sub(self.looked) > KEPT_TIME {
+        if has_grown || now.ms().saturating_sub(self.looked.ms()) > KEPT_TIME {
             forget_old(&mut self.moments, now);
             self.left = self.moments.len();
             self.looked = now;
@@ -173,33 +169,32 @@ impl Lasts {
 }
 
 // The moment so much time behind another, if there is one.
-fn free_at(gap: u64, last: Option<u64>) -> u64
+fn free_at(gap: u64, last: Option<Moment>) -> u64
     requires gap { gap ≤ 1000 }
-    requires last { IfSome last (λ last. last ≤ 2 ^ 53) }
     ensures { result ≡ free_at gap last }
 {
     match last {
         None => 0,
-        Some(last) => last + gap,
+        Some(last) => last.ms() + gap,
     }
 }
 
 // Whether so much time has passed since a moment, if there is one.
-fn is_long_ago(gap: u64, now: u64, last: Option<u64>) -> bool
+fn is_long_ago(gap: u64, now: Moment, last: Option<Moment>) -> bool
     ensures { result ≡ is_long_ago gap now last }
 {
     match last {
         None => true,
-        Some(last) => last <= now && now - last >= gap,
+        Some(last) => last.ms() <= now.ms() && now.ms() - last.ms() >= gap,
     }
 }
 
 // Whether less than a quarter of a record's TTL has passed since a moment, if there is one.
-fn is_recent(rr: &Rr, now: u64, last: Option<u64>) -> bool
+fn is_recent(rr: &Rr, now: Moment, last: Option<Moment>) -> bool
     ensures { result ≡ is_recent rr.now now last }
 {
     match last {
         None => false,
-        Some(last) => now.saturating_sub(last) < 250 * u64::from(rr.ttl),
+        Some(last) => now.ms().saturating_sub(last.ms()) < 250 * u64::from(rr.ttl),
     }
 }

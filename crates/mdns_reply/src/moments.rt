@@ -10,6 +10,7 @@ use crate::mark::Mark;
 use by_name::KeyedState;
 use dns_record::Rr;
 use indexmap::IndexMap;
+use mdns_base::Moment;
 
 /// For how long a last multicast is kept, in ms: a quarter of the greatest TTL that own records have.
 pub const KEPT_TIME: u64 = 1_125_000;
@@ -17,12 +18,12 @@ pub const KEPT_TIME: u64 = 1_125_000;
 // A record that is kept.
 type Kept = Mark<'static>;
 
-/// The moments of the last multicasts, in ms, by record.
-pub type Moments = IndexMap<Kept, u64, KeyedState>;
+/// The moments of the last multicasts, by record.
+pub type Moments = IndexMap<Kept, Moment, KeyedState>;
 
 /// Notes what is sent at a moment, where there is room: the records with TTL 0 are taken out, and then each with another TTL has
 /// this moment.
-pub fn note_all(moments: &mut Moments, now: u64, sent: Vec<Rr>)
+pub fn note_all(moments: &mut Moments, now: Moment, sent: Vec<Rr>)
     requires room { length sent.items ≤ spare moments.old }
     ensures lasts { (rr : Rr) → last_of rr moments.new.entries
         ≡ (if is_multicast rr sent.items then Some now else if is_goodbye rr sent.items then None else last_of rr moments.old.entries) }
@@ -55,7 +56,7 @@ fn take_out(moments: &mut Moments, rr: &Rr)
 }
 
 // Notes the moment of the records that are sent with a TTL above 0, where there is room for them.
-fn note(moments: &mut Moments, now: u64, mut sent: Vec<Rr>)
+fn note(moments: &mut Moments, now: Moment, mut sent: Vec<Rr>)
     requires room { length sent.items ≤ spare moments.old }
     ensures lasts { (rr : Rr) → last_of rr moments.new.entries ≡ (if is_multicast rr sent.items then Some now else last_of rr moments.old.entries) }
     ensures room { spare moments.old ≤ spare moments.new + length sent.items }
@@ -68,7 +69,7 @@ fn note(moments: &mut Moments, now: u64, mut sent: Vec<Rr>)
 }
 
 // Gives a record a moment, where there is room for one more.
-fn put(moments: &mut Moments, now: u64, rr: Rr)
+fn put(moments: &mut Moments, now: Moment, rr: Rr)
     requires room { 0 < spare moments.old }
     ensures lasts { (other : Rr) → last_of other moments.new.entries ≡ (if same rr other then Some now else last_of other moments.old.entries) }
     ensures room { spare moments.old ≤ spare moments.new + 1 }
@@ -77,13 +78,13 @@ fn put(moments: &mut Moments, now: u64, rr: Rr)
 }
 
 /// Forgets the moments that are so long ago that nobody can tell, and gives back the room that is left beyond as much again.
-pub fn forget_old(moments: &mut Moments, now: u64)
+pub fn forget_old(moments: &mut Moments, now: Moment)
     ensures { moments.new.entries ≡ filter (λ (one : Last). is_kept now one.1) moments.old.entries }
 {
     moments.retain(
-        |_mark: &Kept, moment: &mut u64| -> bool
+        |_mark: &Kept, moment: &mut Moment| -> bool
             ensures { (result ≡ is_kept now moment.old) × (moment.new ≡ moment.old) }
-        { now.saturating_sub(*moment) <= KEPT_TIME },
+        { now.ms().saturating_sub(moment.ms()) <= KEPT_TIME },
     );
     let twice = moments.len().saturating_mul(2);
     moments.shrink_to(twice);

@@ -11,7 +11,7 @@ ghost use Rattle.mdns_announcing.specs.Told.{announced_in, records_in};
 use crate::responder::Responder;
 use dns_message::Rrs;
 use dns_record::Rr;
-use mdns_base::Dest;
+use mdns_base::{Dest, Moment};
 use mdns_claims::Claimant;
 use mdns_history::{Mark, Marks, Sends, Sent};
 use mdns_pack::{Messages, in_order, pack_reply};
@@ -97,7 +97,7 @@ impl Responder<'_> {
 }
 
 // Puts the mark of a group behind others, if a tick at a moment announces it. Refused only for want of memory.
-fn put_mark(marks: &mut Marks, one: &Claimant, now: u64) -> Result<(), AllocError>
+fn put_mark(marks: &mut Marks, one: &Claimant, now: Moment) -> Result<(), AllocError>
     ensures { OnOk result (marks.new ≡ marks.old ++ announced_for (one.now.claim ∷ []) now) }
 {
     let claim = one.claim();
@@ -108,7 +108,7 @@ fn put_mark(marks: &mut Marks, one: &Claimant, now: u64) -> Result<(), AllocErro
 }
 
 // Whether a tick at a moment announces a group: it is sure by then, and an announcement is due.
-fn is_announced(claim: &Claim, now: u64) -> bool
+fn is_announced(claim: &Claim, now: Moment) -> bool
     ensures { result ≡ is_announce_due now (ticked now claim.now) }
 {
     claim.is_settle_due(now) || claim.is_announce_due(now)

@@ -6,7 +6,8 @@ mod serving;
 
 use bytes::Bytes;
 use dns_name::Name;
-use mdns_base::Host;
+use mdns_base::{Host, Moment};
+use mdns_happened::When;
 use mdns_history::{Config, Event};
 use mdns_outside::{Clock, Incoming, MemAir, MemClock, MemEar, MemWords};
 use mdns_serve::{
@@ -26,7 +27,7 @@ fn shared_daemon(alloc: Global) -> Result<(Turn<Shared>, Seat<Shared>), AllocErr
         address: 0x0a00_0001,
         host: None,
     };
-    let (daemon, _) = Daemon::new(alloc, config, 0, 0)?;
+    let (daemon, _) = Daemon::new(alloc, config, When::new(Moment::default(), 0))?;
     Turn::new(alloc, Shared::new(alloc, daemon)?)
 }
 

@@ -7,7 +7,8 @@ ghost use Rattle.mdns_server.specs.Booting.{Boots, BootsAt, config_with};
 ghost use Rattle.mdns_server.specs.Serving.{Serves};
 
 use crate::status::{LINK_FAULT, NO_MEMORY};
-use mdns_base::Failed;
+use mdns_base::{Failed, Moment};
+use mdns_happened::When;
 use mdns_history::{Config, HostConfig};
 use mdns_outside::{Clock, Place, Words};
 use mdns_serve::{Daemon, Shared};
@@ -15,9 +16,6 @@ use mdns_turn::{Seat, Turn};
 use mdns_words::{Asked, HostLabel};
 use std::alloc::{AllocError, Global};
 use std::sync::Arc;
-
-/// The last moment that there is, 2 ^ 53 milliseconds.
-const LAST_MOMENT: u64 = 9_007_199_254_740_992;
 
 /// A daemon as threads share it: the turn at it, and the first seat there.
 #[derive(Drop)]
@@ -88,7 +86,8 @@ fn booted(
             v6: None,
         }),
     };
-    let (daemon, _) = Daemon::new(alloc, config, boot.now.min(LAST_MOMENT), boot.word)?;
+    let when = When::new(Moment::at_most_last(boot.now), boot.word);
+    let (daemon, _) = Daemon::new(alloc, config, when)?;
     let (turn, seat) = Turn::new(alloc, Shared::new(alloc, daemon)?)?;
     let turn = Arc::new(alloc, turn)?;
     Ok(SharedDaemon { turn, seat })

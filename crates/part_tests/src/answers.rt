@@ -2,6 +2,7 @@
 
 use bytes::Bytes;
 use dns_record::{Key, Rr};
+use mdns_base::Moment;
 use mdns_history::Held;
 use row_words::{RowError, Told, name_of, number, record};
 use sd_answer::{Answers, KnownRecords, answers_of, questions_of};
@@ -41,7 +42,7 @@ impl Known {
     fn put_held(&mut self, told: &mut Told, rr: Rr) -> Result<(), RowError> {
         self.held.push(Held {
             rr,
-            heard: 0,
+            heard: Moment::default(),
             word: 0,
             end: 0,
         })?;

@@ -5,8 +5,9 @@ ghost use Rattle.dns_name.specs.Names.{folded_eq};
 
 use dns_name::Name;
 use dns_record::Rr;
+use mdns_base::Moment;
 use mdns_conflict::{Storm, compare_sets, conflicts, loses_tie};
-use row_words::{RowError, Told, moment, name_of, number, records};
+use row_words::{RowError, Told, milliseconds, moment, name_of, number, records};
 use std::alloc::Global;
 
 /// A row of conflicts: `clash` has unique records and heard ones, `tie` a name, its unique records and the authority records of a query,
@@ -57,7 +58,7 @@ fn are_named(name: &Name, unique: &[Rr]) -> bool
 /// tells whether they are a storm.
 pub fn storm_row(told: &mut Told, storm: &mut Storm, row: &[&str]) -> Result<(), RowError> {
     match row {
-        ["new", count, step] => *storm = storm_of(number(*count)?, moment(*step)?),
+        ["new", count, step] => *storm = storm_of(number(*count)?, milliseconds(*step)?),
         ["note", now] => storm.note(moment(*now)?),
         _ => return Err(RowError::NotUnderstood),
     }
@@ -67,7 +68,8 @@ pub fn storm_row(told: &mut Told, storm: &mut Storm, row: &[&str]) -> Result<(),
 fn storm_of(count: u32, step: u64) -> Storm {
     let mut storm = Storm::new();
     for place in 0..count {
-        storm.note(step.saturating_mul(u64::from(place)).saturating_add(1000));
+        let ms = step.saturating_mul(u64::from(place)).saturating_add(1000);
+        storm.note(Moment::at_most_last(ms));
     }
     storm
 }

@@ -3,10 +3,10 @@
 use bytes::Bytes;
 use dns_message::{Message, Questions, Rrs};
 use dns_record::{Rdata, Rr};
-use mdns_base::Dest;
+use mdns_base::{Dest, Moment};
 use mdns_history::Sent;
 use mdns_reply::{Lasts, multicasts};
-use row_words::{RowError, Told, moment, name_of, number, record};
+use row_words::{RowError, Told, milliseconds, moment, name_of, number, record};
 use std::alloc::Global;
 
 /// A row of last multicasts: `send` multicasts a record in a response, `update` multicasts so many updates of a TXT record a second apart,
@@ -21,7 +21,7 @@ pub fn last_row(told: &mut Told, lasts: &mut Lasts, row: &[&str]) -> Result<(), 
         ["send", now, rr] => send(told, lasts, number(*now)?, record(told.alloc, *rr)?),
         ["update", count, least, greatest] => {
             let most = update(told.alloc, lasts, number(*count)?)? as u64;
-            let (least, greatest) = (moment(*least)?, moment(*greatest)?);
+            let (least, greatest) = (milliseconds(*least)?, milliseconds(*greatest)?);
             told.put_yes(least < most && most < greatest)
         }
         _ => last_look(told, lasts, row),
@@ -40,10 +40,10 @@ fn send(told: &mut Told, lasts: &mut Lasts, now: u32, rr: Rr) -> Result<(), RowE
 fn last_look(told: &mut Told, lasts: &Lasts, row: &[&str]) -> Result<(), RowError> {
     match row {
         ["empty"] => told.put_yes(lasts.is_empty()),
-        ["kept", count] => told.put_yes(lasts.len() as u64 == moment(*count)?),
+        ["kept", count] => told.put_yes(lasts.len() as u64 == milliseconds(*count)?),
         ["of", rr] => {
             let rr = record(told.alloc, *rr)?;
-            told.put_number(lasts.last(&rr))
+            told.put_number(lasts.last(&rr).map(|last| last.ms()))
         }
         [asked, now, rr] => {
             let rr = record(told.alloc, *rr)?;
@@ -54,7 +54,7 @@ fn last_look(told: &mut Told, lasts: &Lasts, row: &[&str]) -> Result<(), RowErro
 }
 
 // Whether a record is free to be multicast, or to defend its name, or was multicast of late.
-fn is_so(lasts: &Lasts, asked: &str, now: u64, rr: &Rr) -> Result<bool, RowError> {
+fn is_so(lasts: &Lasts, asked: &str, now: Moment, rr: &Rr) -> Result<bool, RowError> {
     match asked {
         "free" => Ok(lasts.is_free(rr, now)),
         "defend" => Ok(lasts.is_free_to_defend(rr, now)),
@@ -66,7 +66,7 @@ fn is_so(lasts: &Lasts, asked: &str, now: u64, rr: &Rr) -> Result<bool, RowError
 // Takes room for what is multicast, and notes it.
 fn note(lasts: &mut Lasts, now: u32, sent: Rrs) -> Result<(), RowError> {
     lasts.reserve(&sent)?;
-    lasts.apply(u64::from(now), sent);
+    lasts.apply(Moment::at_most_last(u64::from(now)), sent);
     Ok(())
 }
 

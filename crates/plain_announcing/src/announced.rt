@@ -1,11 +1,10 @@
 // Which groups are announced. (RFC 6762 8.3)
-ghost use Rattle.std.specs.Prelude.{◌≡◌, ◌≤◌, ◌<◌, ◌^◌, length, true, IfOk};
-ghost use Rattle.std.specs.List.{list_all};
-ghost use Rattle.plain_groups.specs.Moments.{is_moment};
+ghost use Rattle.std.specs.Prelude.{◌≡◌, ◌<◌, ◌^◌, length, IfOk};
 ghost use Rattle.mdns_history.specs.Announcing.{announced_groups, is_announced_at, next_announcement};
 
 use crate::claim::claim_moment;
 use crate::moments::announcement_moments;
+use mdns_base::Moment;
 use plain_groups::{LiveGroup, sure_groups};
 use plain_history::HistoryEntry;
 use std::alloc::{AllocError, Global};
@@ -15,22 +14,21 @@ const ANNOUNCEMENT_GAP: u64 = 1000;
 
 /// The moment, in ms, from which on a group is announced that has its records since a moment and was announced at these, of which
 /// the last stands first.
-pub fn next_announcement(claimed: u64, moments: &[u64]) -> u64
-    requires { list_all is_moment moments.now ≡ true }
+pub fn next_announcement(claimed: Moment, moments: &[Moment]) -> u64
     ensures { result ≡ next_announcement claimed moments.now }
 {
     match moments {
-        [last, ..] => *last + ANNOUNCEMENT_GAP,
-        [] => claimed,
+        [last, ..] => last.ms() + ANNOUNCEMENT_GAP,
+        [] => claimed.ms(),
     }
 }
 
-/// Whether a tick at a moment, in ms, announces a sure group; the tick is the last entry of the history. Refused only for want of
+/// Whether a tick at a moment announces a sure group; the tick is the last entry of the history. Refused only for want of
 /// memory.
 pub fn is_announced_at(
     alloc: Global,
     history: &[HistoryEntry],
-    moment: u64,
+    moment: Moment,
     group: &LiveGroup,
 ) -> Result<bool, AllocError>
     requires { length history.now < 2 ^ 30 }
@@ -38,16 +36,16 @@ pub fn is_announced_at(
 {
     let moments = announcement_moments(alloc, group, history)?;
     let claimed = claim_moment(alloc, group, history)?;
-    Ok(moments.len() < 2 && next_announcement(claimed, &moments) <= moment)
+    Ok(moments.len() < 2 && next_announcement(claimed, &moments) <= moment.ms())
 }
 
-/// The groups that a tick at a moment, in ms, announces, by number; the tick is the last entry of the history. Refused only for
+/// The groups that a tick at a moment announces, by number; the tick is the last entry of the history. Refused only for
 /// want of memory.
 #[tactic(auto, unfolding(mdns_history::specs::Announcing::announced_groups))]
 pub fn announced_groups(
     alloc: Global,
     history: &[HistoryEntry],
-    moment: u64,
+    moment: Moment,
 ) -> Result<Vec<LiveGroup>, AllocError>
     requires { length history.now < 2 ^ 30 }
     ensures { IfOk result (λ groups. groups.items ≡ announced_groups history.now moment) }

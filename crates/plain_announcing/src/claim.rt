@@ -8,6 +8,7 @@ ghost use Rattle.mdns_history.specs.Announcing.{claim_moment, same_records};
 ghost use Rattle.plain_announcing.specs.Renewed.{renews_last};
 
 use dns_record::Rr;
+use mdns_base::Moment;
 use plain_groups::{LiveGroup, group_records, has_same, is_sure};
 use plain_history::HistoryEntry;
 use std::alloc::{AllocError, Global};
@@ -75,14 +76,14 @@ pub fn renews_last(
     is_renewed(alloc, group, history, past)
 }
 
-/// The moment, in ms, of the last entry with which a group became sure or its records changed, 0 where there is none. Refused only
-/// for want of memory.
+/// The moment of the last entry with which a group became sure or its records changed, 0 where there is none. Refused only for want
+/// of memory.
 #[tactic(auto, using(crate::proofs::Renewals::claim_here, crate::proofs::Renewals::claim_before, crate::proofs::Renewals::claim_never))]
 pub fn claim_moment(
     alloc: Global,
     group: &LiveGroup,
     history: &[HistoryEntry],
-) -> Result<u64, AllocError>
+) -> Result<Moment, AllocError>
     requires { length history.now < 2 ^ 30 }
     ensures { IfOk result (λ moment. moment ≡ claim_moment group.now history.now) }
 {
@@ -94,5 +95,5 @@ pub fn claim_moment(
         }
         rest = past;
     }
-    Ok(0)
+    Ok(Moment::default())
 }

@@ -1,11 +1,10 @@
 // When groups were announced. (RFC 6762 8.3)
-ghost use Rattle.std.specs.Prelude.{◌≡◌, ◌≤◌, ◌<◌, ◌^◌, length, true, IfOk};
-ghost use Rattle.std.specs.List.{list_all};
-ghost use Rattle.plain_groups.specs.Moments.{is_moment};
+ghost use Rattle.std.specs.Prelude.{◌≡◌, ◌<◌, ◌^◌, length, IfOk};
 ghost use Rattle.mdns_history.specs.History.{has_mark};
 ghost use Rattle.mdns_history.specs.Announcing.{announcement_moments, is_announcement_of};
 
 use crate::claim::renews_last;
+use mdns_base::Moment;
 use mdns_history::{Entry, Mark};
 use plain_groups::{LiveGroup, put_moment_if};
 use plain_history::HistoryEntry;
@@ -31,17 +30,16 @@ fn announces(id: u64, entry: &Entry) -> bool
         .any(|mark| is_announcement_of(id, mark))
 }
 
-/// The moments, in ms, at which a group was announced, from the last entry on with which it became sure or its records changed; the
+/// The moments at which a group was announced, from the last entry on with which it became sure or its records changed; the
 /// last first. Refused only for want of memory.
 #[tactic(auto, using(crate::proofs::Renewals::announced_never))]
 pub fn announcement_moments(
     alloc: Global,
     group: &LiveGroup,
     history: &[HistoryEntry],
-) -> Result<Vec<u64>, AllocError>
+) -> Result<Vec<Moment>, AllocError>
     requires { length history.now < 2 ^ 30 }
-    ensures value { IfOk result (λ moments. moments.items ≡ announcement_moments group.now history.now) }
-    ensures bound { IfOk result (λ moments. list_all is_moment moments.items ≡ true) }
+    ensures { IfOk result (λ moments. moments.items ≡ announcement_moments group.now history.now) }
 {
     let mut moments = Vec::new(alloc);
     let mut rest = history;

@@ -1,6 +1,6 @@
--- The refresh points of records: they lie before the end, and one of those of some records is one of those of one of them.
+-- The refresh points of records: how far they move, and one of those of some records is one of those of one of them.
 use Rattle.std.proofs.Common.{◌≡◌, ℕ, zero, ◌+◌, ◌*◌, ◌%◌, ◌<◌, ◌≤◌, Bool, true, false, ◌&&◌, ◌||◌, cond, List, [], ◌∷◌, ◌++◌, refl, ap, sym, ◌∙◌, arith}
-use Rattle.std.specs.Prelude.{IsTrue, filter}
+use Rattle.std.specs.Prelude.{filter}
 use Rattle.std.specs.List.{list_any, flat_map}
 use Rattle.std.proofs.Math.Nat.{mod-lt}
 use Rattle.dns_record.specs.Records.{matches}
@@ -15,9 +15,6 @@ jitter_within word ttl =
     let positive : zero < 20 * ttl + 1 = omega arith in
     let less : word % (20 * ttl + 1) < 20 * ttl + 1 = mod-lt word positive in
     omega arith
-
-pub uncut_end : (held : Held) → IsTrue (is_uncut held) → held.end ≡ held.heard + 1000 * held.rr.ttl
-uncut_end held h = grind arith
 
 -- one of two lists has an element that passes a test
 any_append : {X : Type 0} (p : X → Bool) (xs ys : List X) → list_any p (xs ++ ys) ≡ list_any p xs || list_any p ys

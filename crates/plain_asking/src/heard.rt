@@ -1,5 +1,5 @@
 // The questions that another's query asks in the daemon's stead. (RFC 6762 7.3)
-ghost use Rattle.std.specs.Prelude.{◌≡◌, ◌≤◌, ◌^◌, ◌&&◌, ◌==◌, ◌++◌, not, ◌||◌, true, IfOk, OnOk};
+ghost use Rattle.std.specs.Prelude.{◌≡◌, ◌&&◌, ◌==◌, ◌++◌, not, ◌||◌, true, IfOk, OnOk};
 ghost use Rattle.std.specs.List.{list_all, list_any};
 ghost use Rattle.std.specs.Option.{option_copied};
 ghost use Rattle.mdns_base.specs.Hosts.{mdns_port};
@@ -13,7 +13,7 @@ use crate::known::known_answers;
 use crate::question::ActiveQuestion;
 use crate::series::series_due;
 use dns_record::{Key, Question, Rr, matches};
-use mdns_base::MDNS_PORT;
+use mdns_base::{MDNS_PORT, Moment};
 use mdns_history::{Cause, Mark};
 use plain_history::{HeardMessage, HistoryEntry};
 use std::alloc::{AllocError, Global};
@@ -61,19 +61,18 @@ fn is_known(known: &[Rr], rr: &Rr) -> bool
 fn is_asked_by(
     alloc: Global,
     history: &[HistoryEntry],
-    moment: u64,
+    moment: Moment,
     heard: &HeardMessage,
     active: &ActiveQuestion,
 ) -> Result<bool, AllocError>
-    requires bound { moment ≤ 2 ^ 53 }
-    requires by { are_by moment history.now ≡ true }
+    requires { are_by moment history.now ≡ true }
     ensures { IfOk result (λ asked. asked ≡ is_asked_by history.now moment heard.now active.now) }
 {
     if !is_query_for(&active.key, heard) {
         return Ok(false);
     }
     let due = series_due(alloc, active, history)?;
-    if due > moment + 1000 {
+    if due > moment.ms() + 1000 {
         return Ok(false);
     }
     let known = known_answers(alloc, &active.key, history, moment)?;
@@ -84,17 +83,16 @@ fn is_asked_by(
     ))
 }
 
-/// The marks of the questions that a heard message at a moment, in ms, asks behind a history in the daemon's stead, by folded name
+/// The marks of the questions that a heard message at a moment asks behind a history in the daemon's stead, by folded name
 /// and then by type. No entry may be later than the moment. Refused only for want of memory.
 #[tactic(auto, using(crate::proofs::Lists::made_more), unfolding(mdns_history::specs::Asking::heard_askings))]
 pub fn heard_askings(
     alloc: Global,
     history: &[HistoryEntry],
-    moment: u64,
+    moment: Moment,
     heard: Option<&HeardMessage>,
 ) -> Result<Vec<Mark>, AllocError>
-    requires bound { moment ≤ 2 ^ 53 }
-    requires by { are_by moment history.now ≡ true }
+    requires { are_by moment history.now ≡ true }
     ensures { IfOk result (λ marks. marks.items ≡ heard_askings history.now moment (option_copied heard.entry)) }
 {
     let mut marks = Vec::new(alloc);

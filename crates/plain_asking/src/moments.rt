@@ -1,11 +1,12 @@
 // When questions were asked.
-ghost use Rattle.std.specs.Prelude.{◌≡◌, ◌≤◌, ◌^◌, ◌++◌, All, IfOk, OnOk};
+ghost use Rattle.std.specs.Prelude.{◌≡◌, ◌++◌, IfOk, OnOk};
 ghost use Rattle.mdns_history.specs.History.{has_mark};
 ghost use Rattle.mdns_history.specs.Asking.{asking_moments, is_asking, is_counted, is_series_asking, series_moments};
 ghost use Rattle.plain_history.specs.Kept.{kept_if};
 
 use crate::begun::entries_since;
 use dns_record::Key;
+use mdns_base::Moment;
 use mdns_history::{Cause, Entry, Mark};
 use plain_history::{HistoryEntry, key_eq};
 use std::alloc::{AllocError, Global};
@@ -63,16 +64,15 @@ fn asks(question: &Key, entry: &Entry) -> bool
         .any(|mark| is_asking(question, mark))
 }
 
-/// The moments, in ms, at which a question was asked in its series since it became active, the last first. Refused only for want
+/// The moments at which a question was asked in its series since it became active, the last first. Refused only for want
 /// of memory.
 #[tactic(auto, unfolding(mdns_history::specs::Asking::series_moments))]
 pub fn series_moments(
     alloc: Global,
     question: &Key,
     history: &[HistoryEntry],
-) -> Result<Vec<u64>, AllocError>
-    ensures value { IfOk result (λ moments. moments.items ≡ series_moments question.now history.now) }
-    ensures bound { IfOk result (λ moments. All (λ moment. moment ≤ 2 ^ 53) moments.items) }
+) -> Result<Vec<Moment>, AllocError>
+    ensures { IfOk result (λ moments. moments.items ≡ series_moments question.now history.now) }
 {
     let mut moments = Vec::new(alloc);
     let entries = entries_since(alloc, question, history)?;
@@ -83,14 +83,14 @@ pub fn series_moments(
     Ok(moments)
 }
 
-/// The moments, in ms, at which a question was asked since it became active, for any cause, the last first. Refused only for want
+/// The moments at which a question was asked since it became active, for any cause, the last first. Refused only for want
 /// of memory.
 #[tactic(auto, unfolding(mdns_history::specs::Asking::asking_moments))]
 pub fn asking_moments(
     alloc: Global,
     question: &Key,
     history: &[HistoryEntry],
-) -> Result<Vec<u64>, AllocError>
+) -> Result<Vec<Moment>, AllocError>
     ensures { IfOk result (λ moments. moments.items ≡ asking_moments question.now history.now) }
 {
     let mut moments = Vec::new(alloc);
@@ -103,9 +103,12 @@ pub fn asking_moments(
 }
 
 // Puts the moment of an entry behind others, where a test passed.
-fn put_moment_if(moments: &mut Vec<u64>, test: bool, entry: &HistoryEntry) -> Result<(), AllocError>
-    ensures value { OnOk result (moments.new.items ≡ moments.old.items ++ kept_if test entry.now.moment) }
-    ensures bound { OnOk result (All (λ moment. moment ≤ 2 ^ 53) moments.old.items → All (λ moment. moment ≤ 2 ^ 53) moments.new.items) }
+fn put_moment_if(
+    moments: &mut Vec<Moment>,
+    test: bool,
+    entry: &HistoryEntry,
+) -> Result<(), AllocError>
+    ensures { OnOk result (moments.new.items ≡ moments.old.items ++ kept_if test entry.now.moment) }
 {
     if test {
         moments.push(entry.moment())?;

@@ -1,5 +1,5 @@
 // When records that answer a question are to be refreshed. (RFC 6762 5.2)
-ghost use Rattle.std.specs.Prelude.{◌≡◌, ◌&&◌, IsTrue, IfOk};
+ghost use Rattle.std.specs.Prelude.{◌≡◌, ◌&&◌, IfOk};
 ghost use Rattle.std.specs.List.{list_any};
 ghost use Rattle.dns_record.specs.Records.{matches};
 ghost use Rattle.mdns_history.specs.Lifetimes.{is_uncut};
@@ -8,56 +8,46 @@ ghost use Rattle.mdns_history.specs.Asking.{calls_at, is_behind, is_refresh_due,
 use crate::moments::asking_moments;
 use crate::question::ActiveQuestion;
 use dns_record::matches;
+use mdns_base::Moment;
 use mdns_history::Held;
 use plain_history::{HistoryEntry, live_records};
 use std::alloc::{AllocError, Global};
 
-// Whether the end of a record is that of its TTL.
-fn is_uncut(held: &Held) -> bool
-    ensures { result ≡ is_uncut held.now }
-{
-    let ttl = u64::from(held.rr.ttl);
-    held.heard <= held.end && held.end - held.heard == 1000 * ttl
-}
-
-/// The refresh points, in ms, of a record whose end is that of its TTL: at 80, 85, 90 and 95 percent of the TTL, and up to two
-/// percent later.
-#[tactic(auto, using(crate::proofs::Refreshes::jitter_within, crate::proofs::Refreshes::uncut_end))]
+/// The refresh points, in ms, of a record: at 80, 85, 90 and 95 percent of its TTL, and up to two percent later.
+#[tactic(auto, using(crate::proofs::Refreshes::jitter_within))]
 pub fn refresh_points(held: &Held) -> [u64; 4]
-    requires { IsTrue (is_uncut held.now) }
     ensures { result ≡ refresh_points held.now }
 {
-    let _end = held.end;
+    let heard = held.heard.ms();
     let ttl = u64::from(held.rr.ttl);
     let jitter = u64::from(held.word) % (20 * ttl + 1);
     [
-        held.heard + ttl * 800 + jitter,
-        held.heard + ttl * 850 + jitter,
-        held.heard + ttl * 900 + jitter,
-        held.heard + ttl * 950 + jitter,
+        heard + ttl * 800 + jitter,
+        heard + ttl * 850 + jitter,
+        heard + ttl * 900 + jitter,
+        heard + ttl * 950 + jitter,
     ]
 }
 
-// Whether a point is later than the last of some moments.
-fn is_behind(point: u64, moments: &[u64]) -> bool
+// Whether a point, in ms, is later than the last of some moments.
+fn is_behind(point: u64, moments: &[Moment]) -> bool
     ensures { result ≡ is_behind point moments.now }
 {
     match moments.first() {
-        Some(last) => *last < point,
+        Some(last) => last.ms() < point,
         None => true,
     }
 }
 
-// Whether a refresh point calls for an asking at a moment, behind the askings at these moments.
-fn calls_at(active: &ActiveQuestion, askings: &[u64], moment: u64, point: u64) -> bool
+// Whether a refresh point, in ms, calls for an asking at a moment, behind the askings at these moments.
+fn calls_at(active: &ActiveQuestion, askings: &[Moment], moment: Moment, point: u64) -> bool
     ensures { result ≡ calls_at active.now askings.now moment point }
 {
-    point <= moment && active.start < point && is_behind(point, askings)
+    point <= moment.ms() && active.start.ms() < point && is_behind(point, askings)
 }
 
 // Whether one of the refresh points of a record calls for an asking.
-fn is_one_due(active: &ActiveQuestion, askings: &[u64], moment: u64, held: &Held) -> bool
-    requires { IsTrue (is_uncut held.now) }
+fn is_one_due(active: &ActiveQuestion, askings: &[Moment], moment: Moment, held: &Held) -> bool
     ensures { result ≡ list_any (calls_at active.now askings.now moment) (refresh_points held.now) }
 {
     let points = refresh_points(held);
@@ -67,20 +57,20 @@ fn is_one_due(active: &ActiveQuestion, askings: &[u64], moment: u64, held: &Held
 }
 
 // Whether a record answers a question, is uncut, and is to be refreshed.
-fn is_wanted(active: &ActiveQuestion, askings: &[u64], moment: u64, held: &Held) -> bool
+fn is_wanted(active: &ActiveQuestion, askings: &[Moment], moment: Moment, held: &Held) -> bool
     ensures { result ≡ ((matches active.now.key held.now.rr && is_uncut held.now) && list_any (calls_at active.now askings.now moment) (refresh_points held.now)) }
 {
-    matches(&active.key, &held.rr) && is_uncut(held) && is_one_due(active, askings, moment, held)
+    matches(&active.key, &held.rr) && held.is_uncut() && is_one_due(active, askings, moment, held)
 }
 
-/// Whether a live record that answers a question is to be refreshed at a moment, in ms: one of its refresh points has come, and is
-/// later than the start of the question and than its last asking. Refused only for want of memory.
+/// Whether a live record that answers a question is to be refreshed at a moment: one of its refresh points has come, and is later
+/// than the start of the question and than its last asking. Refused only for want of memory.
 #[tactic(auto, using(crate::proofs::Refreshes::refresh_told))]
 pub fn is_refresh_due(
     alloc: Global,
     active: &ActiveQuestion,
     history: &[HistoryEntry],
-    moment: u64,
+    moment: Moment,
 ) -> Result<bool, AllocError>
     ensures { IfOk result (λ due. due ≡ is_refresh_due active.now history.now moment) }
 {
@@ -90,7 +80,7 @@ pub fn is_refresh_due(
 }
 
 // Whether one of the records is to be refreshed.
-fn is_one_wanted(active: &ActiveQuestion, askings: &[u64], moment: u64, live: &[Held]) -> bool
+fn is_one_wanted(active: &ActiveQuestion, askings: &[Moment], moment: Moment, live: &[Held]) -> bool
     ensures { result ≡ list_any (λ held. (matches active.now.key held.rr && is_uncut held) && list_any (calls_at active.now askings.now moment) (refresh_points held)) live.now }
 {
     live.iter()

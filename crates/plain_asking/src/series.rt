@@ -1,9 +1,10 @@
 // The series in which a question is asked. (RFC 6762 5.2)
-ghost use Rattle.std.specs.Prelude.{◌≡◌, ◌≤◌, ◌^◌, suc, All, IfOk};
+ghost use Rattle.std.specs.Prelude.{◌≡◌, ◌≤◌, suc, IfOk};
 ghost use Rattle.mdns_history.specs.Asking.{next_in_series, series_due, series_gap};
 
 use crate::moments::series_moments;
 use crate::question::ActiveQuestion;
+use mdns_base::Moment;
 use plain_history::HistoryEntry;
 use std::alloc::{AllocError, Global};
 
@@ -23,14 +24,13 @@ fn gap_behind(earlier: usize) -> u64
     gap
 }
 
-// The moment of the next asking behind those at these moments.
-fn next_in_series(active: &ActiveQuestion, moments: &[u64]) -> u64
-    requires { All (λ moment. moment ≤ 2 ^ 53) moments.now }
+// The moment, in ms, of the next asking behind those at these moments.
+fn next_in_series(active: &ActiveQuestion, moments: &[Moment]) -> u64
     ensures { result ≡ next_in_series active.now moments.now }
 {
     match moments.split_first() {
-        Some((last, earlier)) => *last + gap_behind(earlier.len()),
-        None => active.start + 20 + u64::from(active.word % 101),
+        Some((last, earlier)) => last.ms() + gap_behind(earlier.len()),
+        None => active.start.ms() + 20 + u64::from(active.word % 101),
     }
 }
 

@@ -7,6 +7,7 @@ use crate::active::active_questions;
 use crate::question::ActiveQuestion;
 use crate::refresh::is_refresh_due;
 use crate::series::series_due;
+use mdns_base::Moment;
 use mdns_history::{Cause, Mark};
 use plain_history::HistoryEntry;
 use std::alloc::{AllocError, Global};
@@ -16,12 +17,12 @@ fn tick_cause(
     alloc: Global,
     active: &ActiveQuestion,
     history: &[HistoryEntry],
-    moment: u64,
+    moment: Moment,
 ) -> Result<Option<Cause>, AllocError>
     ensures { IfOk result (λ cause. cause ≡ tick_cause history.now moment active.now) }
 {
     let due = series_due(alloc, active, history)?;
-    if due <= moment {
+    if due <= moment.ms() {
         return Ok(Some(Cause::Series));
     }
     let refreshed = is_refresh_due(alloc, active, history, moment)?;
@@ -31,13 +32,13 @@ fn tick_cause(
     Ok(None)
 }
 
-/// The marks of the questions that a tick at a moment, in ms, asks behind a history, by folded name and then by type: each that is
+/// The marks of the questions that a tick at a moment asks behind a history, by folded name and then by type: each that is
 /// due in its series, or for which a record is to be refreshed. Refused only for want of memory.
 #[tactic(auto, using(crate::proofs::Lists::given_more), unfolding(mdns_history::specs::Asking::tick_askings))]
 pub fn tick_askings(
     alloc: Global,
     history: &[HistoryEntry],
-    moment: u64,
+    moment: Moment,
 ) -> Result<Vec<Mark>, AllocError>
     ensures { IfOk result (λ marks. marks.items ≡ tick_askings history.now moment) }
 {

@@ -5,6 +5,7 @@ ghost use Rattle.dns_record.specs.Conflicts.{is_stormy, is_within};
 ghost use Rattle.mdns_history.specs.Probing.{conflict_moments, is_conflict};
 ghost use Rattle.std.specs.Option.{option_copied};
 
+use mdns_base::Moment;
 use mdns_history::Mark;
 use plain_history::HistoryEntry;
 use std::alloc::{AllocError, Global};
@@ -21,9 +22,9 @@ fn is_conflict(mark: &Mark) -> bool
     )
 }
 
-/// The moments of all conflicts, in ms, the last first, one for each mark. Refused only for want of memory.
+/// The moments of all conflicts, the last first, one for each mark. Refused only for want of memory.
 #[tactic(auto, unfolding(mdns_history::specs::Probing::conflict_moments))]
-pub fn conflict_moments(alloc: Global, history: &[HistoryEntry]) -> Result<Vec<u64>, AllocError>
+pub fn conflict_moments(alloc: Global, history: &[HistoryEntry]) -> Result<Vec<Moment>, AllocError>
     ensures { IfOk result (λ moments. moments.items ≡ conflict_moments history.now) }
 {
     let mut moments = Vec::new(alloc);
@@ -34,7 +35,7 @@ pub fn conflict_moments(alloc: Global, history: &[HistoryEntry]) -> Result<Vec<u
 }
 
 // Puts the moment of an entry behind others, once for each conflict in it.
-fn put_conflicts(moments: &mut Vec<u64>, entry: &HistoryEntry) -> Result<(), AllocError>
+fn put_conflicts(moments: &mut Vec<Moment>, entry: &HistoryEntry) -> Result<(), AllocError>
     ensures { OnOk result (moments.new.items ≡ moments.old.items ++ replicate (count_where is_conflict entry.now.marks) entry.now.moment) }
 {
     for mark in entry.marks() {
@@ -51,7 +52,7 @@ fn moments_with(
     alloc: Global,
     entry: &HistoryEntry,
     past: &[HistoryEntry],
-) -> Result<Vec<u64>, AllocError>
+) -> Result<Vec<Moment>, AllocError>
     ensures { IfOk result (λ moments. moments.items ≡ conflict_moments (entry.now ∷ past.now)) }
 {
     let mut moments = Vec::new(alloc);
@@ -75,7 +76,7 @@ pub fn is_storm(
 
 // Whether fifteen of these moments, the last first, ever lay within ten seconds.
 #[tactic(auto, unfolding(dns_record::specs::Conflicts::is_stormy))]
-fn is_stormy(moments: &[u64]) -> bool
+fn is_stormy(moments: &[Moment]) -> bool
     ensures { result ≡ is_stormy moments.now }
 {
     match moments.split_first() {
@@ -85,11 +86,11 @@ fn is_stormy(moments: &[u64]) -> bool
 }
 
 // Whether a moment is within ten seconds behind another, if there is one.
-fn is_near(last: u64, first: Option<&u64>) -> bool
+fn is_near(last: Moment, first: Option<&Moment>) -> bool
     ensures { result ≡ is_within 10000 last (option_copied first.entry) }
 {
     match first {
-        Some(first) => last.saturating_sub(*first) <= STORM_SPAN,
+        Some(first) => last.ms().saturating_sub(first.ms()) <= STORM_SPAN,
         None => false,
     }
 }

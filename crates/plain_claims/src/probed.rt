@@ -3,16 +3,17 @@ ghost use Rattle.std.specs.Prelude.{◌≡◌, ◌<◌, ◌^◌, length, IfOk};
 ghost use Rattle.mdns_history.specs.Probing.{is_probed_at, probed_groups};
 
 use crate::waiting::probe_due;
+use mdns_base::Moment;
 use plain_groups::{LiveGroup, groups, is_sure, probe_moments};
 use plain_history::HistoryEntry;
 use std::alloc::{AllocError, Global};
 
-/// Whether a tick at a moment, in ms, probes a group: one that isn't sure, that was probed less than three times since it was set
+/// Whether a tick at a moment probes a group: one that isn't sure, that was probed less than three times since it was set
 /// back, and whose next probe is due. Refused only for want of memory.
 pub fn is_probed_at(
     alloc: Global,
     history: &[HistoryEntry],
-    moment: u64,
+    moment: Moment,
     group: &LiveGroup,
 ) -> Result<bool, AllocError>
     requires { length history.now < 2 ^ 30 }
@@ -21,15 +22,15 @@ pub fn is_probed_at(
     let sure = is_sure(alloc, group, history)?;
     let moments = probe_moments(alloc, group, history)?;
     let due = probe_due(alloc, group, history)?;
-    Ok(!sure && moments.len() < 3 && due <= moment)
+    Ok(!sure && moments.len() < 3 && due <= moment.ms())
 }
 
-/// The groups that a tick at a moment, in ms, probes, by number. Refused only for want of memory.
+/// The groups that a tick at a moment probes, by number. Refused only for want of memory.
 #[tactic(auto, unfolding(mdns_history::specs::Probing::probed_groups))]
 pub fn probed_groups(
     alloc: Global,
     history: &[HistoryEntry],
-    moment: u64,
+    moment: Moment,
 ) -> Result<Vec<LiveGroup>, AllocError>
     requires { length history.now < 2 ^ 30 }
     ensures { IfOk result (λ probed. probed.items ≡ probed_groups history.now moment) }

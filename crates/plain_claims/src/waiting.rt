@@ -1,11 +1,10 @@
 // When a group is to be probed. (RFC 6762 8.1 and 8.2)
-ghost use Rattle.std.specs.Prelude.{◌≡◌, ◌≤◌, ◌<◌, ◌^◌, length, true, IfOk};
-ghost use Rattle.std.specs.List.{list_all};
+ghost use Rattle.std.specs.Prelude.{◌≡◌, ◌≤◌, ◌<◌, ◌^◌, length, IfOk};
 ghost use Rattle.mdns_history.specs.History.{has_mark, last_at};
 ghost use Rattle.mdns_history.specs.Probing.{first_due, first_probe, first_wait, is_lost_tie_of, next_probe, probe_due};
-ghost use Rattle.plain_groups.specs.Moments.{is_moment};
 
 use crate::conflict::is_storm;
+use mdns_base::Moment;
 use mdns_history::{Entry, Mark};
 use plain_groups::{LiveGroup, probe_moments, sets_back};
 use plain_history::HistoryEntry;
@@ -74,7 +73,7 @@ fn first_probe(
         return Ok(None);
     }
     let wait = first_wait(alloc, id, entry, past)?;
-    Ok(Some(entry.moment() + wait))
+    Ok(Some(entry.moment().ms() + wait))
 }
 
 /// The moment, in ms, of the first probe since a group was registered or set back; 0 where it never was. Refused only for want of
@@ -108,13 +107,12 @@ fn first_since(alloc: Global, id: u64, history: &[HistoryEntry]) -> Result<Optio
     Ok(None)
 }
 
-// The moment of the next probe, behind those at these moments.
-fn next_probe(first: u64, moments: &[u64]) -> u64
-    requires { list_all is_moment moments.now ≡ true }
+// The moment, in ms, of the next probe, behind those at these moments.
+fn next_probe(first: u64, moments: &[Moment]) -> u64
     ensures { result ≡ next_probe first moments.now }
 {
     match moments.split_first() {
-        Some((last, _)) => *last + PROBE_GAP,
+        Some((last, _)) => last.ms() + PROBE_GAP,
         None => first,
     }
 }

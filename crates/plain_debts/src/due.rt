@@ -11,7 +11,7 @@ use crate::debt::StandingDebt;
 use crate::last::{is_long_ago, last_multicast};
 use crate::standing::standing_debts;
 use dns_record::Rr;
-use mdns_base::Dest;
+use mdns_base::{Dest, Moment};
 use plain_history::{HistoryEntry, ordered_records};
 use std::alloc::{AllocError, Global};
 
@@ -29,25 +29,25 @@ fn is_to_all(debt: &StandingDebt) -> bool
 }
 
 // Whether a debt goes to all and is due at a moment.
-fn is_due_multicast(debt: &StandingDebt, moment: u64) -> bool
+fn is_due_multicast(debt: &StandingDebt, moment: Moment) -> bool
     ensures { result ≡ (dest_eq debt.now.to All && nat_le debt.now.due moment) }
 {
-    is_to_all(debt) && debt.due <= moment
+    is_to_all(debt) && debt.due <= moment.ms()
 }
 
 // Whether a debt goes to the asker and is due at a moment.
-fn is_due_unicast(debt: &StandingDebt, moment: u64) -> bool
+fn is_due_unicast(debt: &StandingDebt, moment: Moment) -> bool
     ensures { result ≡ (not (dest_eq debt.now.to All) && nat_le debt.now.due moment) }
 {
-    !is_to_all(debt) && debt.due <= moment
+    !is_to_all(debt) && debt.due <= moment.ms()
 }
 
-/// The debts to all that are due at a moment, in ms. Refused only for want of memory.
+/// The debts to all that are due at a moment. Refused only for want of memory.
 #[tactic(auto, unfolding(mdns_history::specs::Multicasts::due_multicasts))]
 pub fn due_multicasts(
     alloc: Global,
     history: &[HistoryEntry],
-    moment: u64,
+    moment: Moment,
 ) -> Result<Vec<StandingDebt>, AllocError>
     requires { length history.now < 2 ^ 30 }
     ensures { IfOk result (λ due. due.items ≡ due_multicasts history.now moment) }
@@ -61,12 +61,12 @@ pub fn due_multicasts(
     Ok(due)
 }
 
-/// The debts to askers that are due at a moment, in ms. Refused only for want of memory.
+/// The debts to askers that are due at a moment. Refused only for want of memory.
 #[tactic(auto, unfolding(mdns_history::specs::Multicasts::due_unicasts))]
 pub fn due_unicasts(
     alloc: Global,
     history: &[HistoryEntry],
-    moment: u64,
+    moment: Moment,
 ) -> Result<Vec<StandingDebt>, AllocError>
     requires { length history.now < 2 ^ 30 }
     ensures { IfOk result (λ due. due.items ≡ due_unicasts history.now moment) }
@@ -87,14 +87,13 @@ fn is_probed(due: &[StandingDebt], rr: &Rr) -> bool
     due.iter().any(|debt| debt.probing && debt.rr.same(rr))
 }
 
-/// Whether the time since the last multicast lets a record go at a moment, in ms: a second, or a quarter where one of the debts that
+/// Whether the time since the last multicast lets a record go at a moment: a second, or a quarter where one of the debts that
 /// are due is of a probe and of the record.
-pub fn may_go(history: &[HistoryEntry], moment: u64, due: &[StandingDebt], rr: &Rr) -> bool
+pub fn may_go(history: &[HistoryEntry], moment: Moment, due: &[StandingDebt], rr: &Rr) -> bool
     ensures { result ≡ may_go history.now moment due.now rr.now }
 {
-    let last = last_multicast(rr, history);
-    is_long_ago(MULTICAST_GAP, moment, last)
-        || (is_probed(due, rr) && is_long_ago(DEFENCE_GAP, moment, last))
+    is_long_ago(MULTICAST_GAP, moment, last_multicast(rr, history))
+        || (is_probed(due, rr) && is_long_ago(DEFENCE_GAP, moment, last_multicast(rr, history)))
 }
 
 // The records of debts.
@@ -114,7 +113,7 @@ fn free_records(
     alloc: Global,
     rrs: Vec<Rr>,
     history: &[HistoryEntry],
-    moment: u64,
+    moment: Moment,
     due: &[StandingDebt],
 ) -> Result<Vec<Rr>, AllocError>
     ensures { IfOk result (λ free. free.items ≡ filter (may_go history.now moment due.now) rrs.items) }
@@ -132,7 +131,7 @@ fn free_records(
 fn released_for(
     alloc: Global,
     history: &[HistoryEntry],
-    moment: u64,
+    moment: Moment,
     due: &[StandingDebt],
 ) -> Result<Vec<Rr>, AllocError>
     ensures { IfOk result (λ rrs. rrs.items ≡ ordered record_cmp (filter (may_go history.now moment due.now) (map (λ debt. debt.rr) due.now))) }
@@ -142,11 +141,11 @@ fn released_for(
     ordered_records(free)
 }
 
-/// The records that a tick at a moment, in ms, releases for debts, in record order. Refused only for want of memory.
+/// The records that a tick at a moment releases for debts, in record order. Refused only for want of memory.
 pub fn released_records(
     alloc: Global,
     history: &[HistoryEntry],
-    moment: u64,
+    moment: Moment,
 ) -> Result<Vec<Rr>, AllocError>
     requires { length history.now < 2 ^ 30 }
     ensures { IfOk result (λ rrs. rrs.items ≡ released_records history.now moment) }

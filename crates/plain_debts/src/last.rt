@@ -8,7 +8,7 @@ ghost use Rattle.plain_debts.specs.Multicasts.{multicasts_by};
 
 use dns_message::Message;
 use dns_record::Rr;
-use mdns_base::Dest;
+use mdns_base::{Dest, Moment};
 use mdns_history::{Entry, Sent};
 use plain_history::HistoryEntry;
 
@@ -96,9 +96,8 @@ fn is_goodbye_in(rr: &Rr, entry: &Entry) -> bool
 }
 
 // What an entry says of a record's last multicast: its moment, that it was taken back, or nothing.
-fn multicast_change(rr: &Rr, entry: &HistoryEntry) -> Option<Option<u64>>
-    ensures value { result ≡ multicast_change rr.now entry.now }
-    ensures bound { IfSome result (λ last. IfSome last (λ moment. moment ≤ 2 ^ 53)) }
+fn multicast_change(rr: &Rr, entry: &HistoryEntry) -> Option<Option<Moment>>
+    ensures { result ≡ multicast_change rr.now entry.now }
 {
     if is_multicast_in(rr, entry.entry()) {
         return Some(Some(entry.moment()));
@@ -109,11 +108,10 @@ fn multicast_change(rr: &Rr, entry: &HistoryEntry) -> Option<Option<u64>>
     None
 }
 
-/// The moment, in ms, of the last multicast of a record since it was last taken back.
+/// The moment of the last multicast of a record since it was last taken back.
 #[tactic(auto, unfolding(mdns_history::specs::Debts::last_multicast))]
-pub fn last_multicast(rr: &Rr, history: &[HistoryEntry]) -> Option<u64>
-    ensures value { result ≡ last_multicast rr.now history.now }
-    ensures bound { IfSome result (λ moment. moment ≤ 2 ^ 53) }
+pub fn last_multicast(rr: &Rr, history: &[HistoryEntry]) -> Option<Moment>
+    ensures { result ≡ last_multicast rr.now history.now }
 {
     for entry in history {
         if let Some(last) = multicast_change(rr, entry) {
@@ -124,31 +122,21 @@ pub fn last_multicast(rr: &Rr, history: &[HistoryEntry]) -> Option<u64>
 }
 
 /// Whether so much time, in ms, has passed since a moment, if there is one.
-pub fn is_long_ago(gap: u64, moment: u64, last: Option<u64>) -> bool
-    requires gap { gap ≤ 2 ^ 53 }
-    requires last { IfSome last (λ last. last ≤ 2 ^ 53) }
+pub fn is_long_ago(gap: u64, moment: Moment, last: Option<Moment>) -> bool
     ensures { result ≡ is_long_ago gap moment last }
 {
     match last {
-        Some(last) => last + gap <= moment,
+        Some(last) => last.ms() <= moment.ms() && gap <= moment.ms() - last.ms(),
         None => true,
     }
 }
 
-// So many seconds in ms.
-fn milliseconds(seconds: u32) -> u64
-    ensures { result ≡ 1000 * seconds }
-{
-    1000 * u64::from(seconds)
-}
-
 /// Whether less than a quarter of a record's TTL has passed since its last multicast. (RFC 6762 5.4)
-pub fn is_recent(rr: &Rr, moment: u64, last: Option<u64>) -> bool
-    requires { moment ≤ 2 ^ 53 }
+pub fn is_recent(rr: &Rr, moment: Moment, last: Option<Moment>) -> bool
     ensures { result ≡ is_recent rr.now moment last }
 {
     match last {
-        Some(last) => 4 * moment.saturating_sub(last) < milliseconds(rr.ttl),
+        Some(last) => 4 * moment.ms().saturating_sub(last.ms()) < rr.ttl_ms(),
         None => false,
     }
 }

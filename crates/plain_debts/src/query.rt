@@ -163,7 +163,7 @@ fn debt_of(
         probing: 0 < heard.message.authority.as_slice().len(),
         rr: owed.rr,
         to: owed.to,
-        due: entry.moment() + wait,
+        due: entry.moment().ms() + wait,
     }
 }
 

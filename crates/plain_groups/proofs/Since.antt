@@ -1,8 +1,7 @@
 -- What is said of the entries since a place, one entry further.
 use Rattle.std.proofs.Common.{◌≡◌, ℕ, Bool, true, false, cond, List, [], ◌∷◌, ◌++◌, refl, ap, sym, ◌∙◌, append-nil, append_assoc}
-use Rattle.std.specs.List.{list_all, cons_option}
+use Rattle.std.specs.List.{cons_option}
 use Rattle.std.specs.Prelude.{if◌then◌else◌}
-use Rattle.std.proofs.lemmas.Bool.{and_from, and_parts}
 use Rattle.mdns_history.specs.declared.entry.Entry.{Entry}
 use Rattle.mdns_history.specs.History.{since, moment_if}
 use Rattle.plain_history.specs.Kept.{kept_if}
@@ -26,9 +25,3 @@ since_next stop test entry past before h =
     one : (b : Bool) → (before ++ kept_if b entry.moment) ++ moments_since stop test past ≡ before ++ cons_option (moment_if b entry.moment) (moments_since stop test past)
     one true = append_assoc before (entry.moment ∷ []) (moments_since stop test past)
     one false = append_assoc before [] (moments_since stop test past)
-
--- one more element that passes a test
-pub all_more : (p : ℕ → Bool) (xs : List ℕ) (b : Bool) (x : ℕ) → p x ≡ true → list_all p xs ≡ true → list_all p (xs ++ kept_if b x) ≡ true
-all_more p [] true x h k = and_from (p x) true h refl
-all_more p [] false x h k = refl
-all_more p (y ∷ xs) b x h k = let parts = and_parts (p y) (list_all p xs) k in and_from (p y) (list_all p (xs ++ kept_if b x)) parts.0 (all_more p xs b x h parts.1)

@@ -1,8 +1,7 @@
 // The probes of groups. (RFC 6762 8.1)
-ghost use Rattle.std.specs.Prelude.{◌≡◌, ◌≤◌, ◌<◌, ◌^◌, ◌++◌, length, true, IfOk, OnOk};
-ghost use Rattle.std.specs.List.{list_all, list_any};
+ghost use Rattle.std.specs.Prelude.{◌≡◌, ◌<◌, ◌^◌, ◌++◌, length, IfOk, OnOk};
+ghost use Rattle.std.specs.List.{list_any};
 ghost use Rattle.plain_history.specs.Kept.{kept_if};
-ghost use Rattle.plain_groups.specs.Moments.{is_moment};
 ghost use Rattle.mdns_history.specs.History.{has_mark, is_tick};
 ghost use Rattle.mdns_history.specs.Sureness.{is_any_question, is_probe, is_setback_of, probe_moments, probes, registers, sets_back, tick_moments};
 
@@ -12,6 +11,7 @@ use crate::registration::{registered_count, registers_service};
 use dns_message::Message;
 use dns_name::Name;
 use dns_record::{Question, kinds};
+use mdns_base::Moment;
 use mdns_history::{Entry, Event, Mark};
 use plain_history::HistoryEntry;
 use std::alloc::{AllocError, Global};
@@ -87,16 +87,15 @@ pub fn probes(name: &Name, entry: &Entry) -> bool
         .any(|sent| is_probe(name, &sent.message))
 }
 
-/// The moments of a group's probes since it was set back, in ms, the last first. Refused only for want of memory.
+/// The moments of a group's probes since it was set back, the last first. Refused only for want of memory.
 #[tactic(auto, unfolding(mdns_history::specs::Sureness::probe_moments))]
 pub fn probe_moments(
     alloc: Global,
     group: &LiveGroup,
     history: &[HistoryEntry],
-) -> Result<Vec<u64>, AllocError>
+) -> Result<Vec<Moment>, AllocError>
     requires { length history.now < 2 ^ 30 }
-    ensures value { IfOk result (λ moments. moments.items ≡ probe_moments group.now history.now) }
-    ensures bound { IfOk result (λ moments. list_all is_moment moments.items ≡ true) }
+    ensures { IfOk result (λ moments. moments.items ≡ probe_moments group.now history.now) }
 {
     let name = group_name(group, history);
     let mut moments = Vec::new(alloc);
@@ -109,13 +108,13 @@ pub fn probe_moments(
     Ok(moments)
 }
 
-/// The moments of the ticks since a group was set back, in ms, the last first. Refused only for want of memory.
+/// The moments of the ticks since a group was set back, the last first. Refused only for want of memory.
 #[tactic(auto, unfolding(mdns_history::specs::Sureness::tick_moments))]
 pub fn tick_moments(
     alloc: Global,
     group: &LiveGroup,
     history: &[HistoryEntry],
-) -> Result<Vec<u64>, AllocError>
+) -> Result<Vec<Moment>, AllocError>
     requires { length history.now < 2 ^ 30 }
     ensures { IfOk result (λ moments. moments.items ≡ tick_moments group.now history.now) }
 {
@@ -137,12 +136,11 @@ fn is_tick(event: &Event) -> bool
 
 /// Puts the moment of an entry behind others, where a test passed. Refused only for want of memory.
 pub fn put_moment_if(
-    moments: &mut Vec<u64>,
+    moments: &mut Vec<Moment>,
     test: bool,
     entry: &HistoryEntry,
 ) -> Result<(), AllocError>
-    ensures value { OnOk result (moments.new.items ≡ moments.old.items ++ kept_if test entry.now.moment) }
-    ensures bound { OnOk result (list_all is_moment moments.old.items ≡ true → list_all is_moment moments.new.items ≡ true) }
+    ensures { OnOk result (moments.new.items ≡ moments.old.items ++ kept_if test entry.now.moment) }
 {
     if test {
         moments.push(entry.moment())?;

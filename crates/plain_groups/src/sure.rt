@@ -1,7 +1,6 @@
 // Which groups are sure of their names, and which records are theirs. (RFC 6762 8.1)
-ghost use Rattle.std.specs.Prelude.{◌≡◌, ◌≤◌, ◌<◌, ◌^◌, nat_le, length, true, IfOk};
-ghost use Rattle.std.specs.List.{list_all, list_any};
-ghost use Rattle.plain_groups.specs.Moments.{is_moment};
+ghost use Rattle.std.specs.Prelude.{◌≡◌, ◌<◌, ◌^◌, nat_le, length, IfOk};
+ghost use Rattle.std.specs.List.{list_any};
 ghost use Rattle.dns_record.specs.Records.{same};
 ghost use Rattle.mdns_history.specs.Sureness.{are_settled, is_own, is_sure, own_records, sure_groups};
 
@@ -10,6 +9,7 @@ use crate::live::{groups, is_group};
 use crate::probing::{probe_moments, tick_moments};
 use crate::records::group_records;
 use dns_record::Rr;
+use mdns_base::Moment;
 use plain_history::HistoryEntry;
 use std::alloc::{AllocError, Global};
 
@@ -17,25 +17,24 @@ use std::alloc::{AllocError, Global};
 const PROBE_GAP: u64 = 250;
 
 // Whether three spaced probes were settled by a tick; the moments stand with the last first.
-fn are_settled(probes: &[u64], ticks: &[u64]) -> bool
-    requires { list_all is_moment probes.now ≡ true }
+fn are_settled(probes: &[Moment], ticks: &[Moment]) -> bool
     ensures { result ≡ are_settled probes.now ticks.now }
 {
     match probes {
         [third, second, first, ..] => {
-            *first + PROBE_GAP <= *second
-                && *second + PROBE_GAP <= *third
-                && is_one_from(ticks, *third + PROBE_GAP)
+            first.ms() + PROBE_GAP <= second.ms()
+                && second.ms() + PROBE_GAP <= third.ms()
+                && is_one_from(ticks, third.ms() + PROBE_GAP)
         }
         _ => false,
     }
 }
 
-// Whether one of the moments is at or behind another.
-fn is_one_from(moments: &[u64], first: u64) -> bool
+// Whether one of the moments is at or behind another, in ms.
+fn is_one_from(moments: &[Moment], first: u64) -> bool
     ensures { result ≡ list_any (nat_le first) moments.now }
 {
-    moments.iter().any(|moment| first <= *moment)
+    moments.iter().any(|moment| first <= moment.ms())
 }
 
 /// Whether a live group is sure: three spaced probes since it was set back were settled by a tick. Refused only for want of memory.

@@ -1,18 +1,17 @@
 // The entries of a history.
-ghost use Rattle.std.specs.Prelude.{◌≡◌, ◌≤◌, ◌^◌, Some, None, IsTrue, IfSome, if◌then◌else◌};
+ghost use Rattle.std.specs.Prelude.{◌≡◌, Some, None, IsTrue, IfSome, nat_le, if◌then◌else◌};
 ghost use Rattle.std.specs.List.{list_all};
 ghost use Rattle.std.specs.Option.{option_copied, option_map};
 ghost use Rattle.sd_call.specs.Requests.{well_formed};
+ghost use Rattle.mdns_history.specs.Fitting.{last_moment};
 ghost use Rattle.mdns_history.specs.History.{booted, config_of, now};
 ghost use Rattle.mdns_history.specs.Sessions.{accepted_in};
 ghost use Rattle.plain_history.specs.Standing.{may_stand, is_sound_call, is_small};
 
+use mdns_base::Moment;
 use mdns_history::{Config, Entry, Event, Mark, Outcome};
 use sd_call::{Request, well_formed};
 use std::marker::Model;
-
-/// The last moment that there is, in ms.
-const LAST_MOMENT: u64 = 1 << 53;
 
 /// The greatest number of a name.
 const GREATEST_NUMBER: u32 = 999_999;
@@ -57,12 +56,11 @@ impl HistoryEntry {
         &self.entry
     }
 
-    /// The moment of the entry, in ms.
-    pub fn moment(&self) -> u64
-        ensures value { result ≡ self.now.moment }
-        ensures bound { result ≤ 2 ^ 53 }
+    /// The moment of the entry.
+    pub fn moment(&self) -> Moment
+        ensures { result ≡ self.now.moment }
     {
-        self.entry.moment
+        Moment::new(self.entry.moment)
     }
 
     /// Session, operation and request of the call that the entry answered with code 0. The request is well formed.
@@ -102,7 +100,14 @@ impl HistoryEntry {
 fn may_stand(entry: &Entry) -> bool
     ensures { result ≡ may_stand entry.now }
 {
-    entry.moment <= LAST_MOMENT && has_sound_call(entry) && has_small_numbers(entry)
+    is_moment(entry.moment) && has_sound_call(entry) && has_small_numbers(entry)
+}
+
+// Whether a moment, in ms, isn't past the last one.
+fn is_moment(ms: u64) -> bool
+    ensures { result ≡ nat_le ms last_moment }
+{
+    Moment::try_new(ms).is_some()
 }
 
 // Whether the call that an entry answered with code 0 is well formed, if it did so.
@@ -131,14 +136,13 @@ fn is_small(mark: &Mark) -> bool
     }
 }
 
-/// The last moment of a history, in ms, 0 before its first entry.
-pub fn now(history: &[HistoryEntry]) -> u64
-    ensures value { result ≡ now history.now }
-    ensures bound { result ≤ 2 ^ 53 }
+/// The last moment of a history, the first one that there is before its first entry.
+pub fn now(history: &[HistoryEntry]) -> Moment
+    ensures { result ≡ now history.now }
 {
     match history.first() {
         Some(entry) => entry.moment(),
-        None => 0,
+        None => Moment::default(),
     }
 }
 

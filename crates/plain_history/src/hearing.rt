@@ -4,26 +4,24 @@ ghost use Rattle.mdns_history.specs.Hearings.{hearings_in, hearings};
 
 use crate::{HistoryEntry, counted_records, heard_in};
 use dns_record::Rr;
+use mdns_base::Moment;
 use std::alloc::{AllocError, Global};
 use std::marker::Model;
 
-/// A record that was heard, with the moment, in ms, and the word of its entry.
+/// A record that was heard, with the moment and the word of its entry.
 #[derive(Drop)]
 pub struct HeardRecord {
     pub rr: Rr,
-    pub moment: u64,
+    pub moment: Moment,
     pub word: u32,
 }
 
 impl Model for HeardRecord {
-    ghost use Rattle.std.specs.Prelude.{◌≤◌, ◌^◌};
     ghost use Rattle.mdns_history.specs.Hearings.{Hearing};
 
     ghost Value = { Hearing };
 
     ghost view = { λ a. record { rr = a.rr; moment = a.moment; word = a.word } };
-
-    ghost invariant = { λ a. a.moment ≤ 2 ^ 53 };
 }
 
 /// All hearings of a history, whose entries stand with the last first; the hearings do so too. Refused only for want of memory.

@@ -9,6 +9,7 @@ ghost use Rattle.mdns_history.specs.Lifetimes.{renews, takes_back, flushes, cuts
 use crate::HistoryEntry;
 use crate::hearing::{HeardRecord, hearings};
 use dns_record::Rr;
+use mdns_base::Moment;
 use mdns_history::Held;
 use std::alloc::{AllocError, Global};
 
@@ -36,18 +37,17 @@ fn flushes(rr: &Rr, hearing: &HeardRecord) -> bool
 }
 
 // Whether a hearing cuts the life that a renewal gave to a second.
-fn cuts(rr: &Rr, renewed: u64, hearing: &HeardRecord) -> bool
-    requires { renewed ≤ 2 ^ 53 }
+fn cuts(rr: &Rr, renewed: Moment, hearing: &HeardRecord) -> bool
     ensures { result ≡ cuts rr.now renewed hearing.now }
 {
-    takes_back(rr, hearing) || (flushes(rr, hearing) && renewed + 1000 < hearing.moment)
+    takes_back(rr, hearing) || (flushes(rr, hearing) && renewed.ms() + 1000 < hearing.moment.ms())
 }
 
 // The end of the record of a renewal: that of its TTL, or a second behind an earlier hearing after it that cuts its life.
 fn end_of(heard: &[HeardRecord], renewal: &HeardRecord) -> u64
     ensures { result ≡ end_from renewal.now.rr (until (renews renewal.now.rr) heard.now) renewal.now }
 {
-    let mut end = renewal.moment + 1000 * u64::from(renewal.rr.ttl);
+    let mut end = renewal.moment.ms() + renewal.rr.ttl_ms();
     for hearing in heard {
         if renews(&renewal.rr, hearing) {
             return end;
@@ -62,7 +62,7 @@ fn cut_end(renewal: &HeardRecord, hearing: &HeardRecord, end: u64) -> u64
     ensures { result ≡ (if cuts renewal.now.rr renewal.now.moment hearing.now then hearing.now.moment + 1000 else end) }
 {
     if cuts(&renewal.rr, renewal.moment, hearing) {
-        hearing.moment + 1000
+        hearing.moment.ms() + 1000
     } else {
         end
     }
@@ -80,10 +80,14 @@ fn held_from(heard: &[HeardRecord], renewal: &HeardRecord) -> Result<Held, Alloc
     })
 }
 
-/// The records that are live at a moment, in ms, the last renewed first, by the hearings, of which the last stands first. Refused
-/// only for want of memory.
+/// The records that are live at a moment, the last renewed first, by the hearings, of which the last stands first. Refused only
+/// for want of memory.
 #[tactic(auto, unfolding(mdns_history::specs::Lifetimes::live_of))]
-pub fn live_of(alloc: Global, heard: &[HeardRecord], moment: u64) -> Result<Vec<Held>, AllocError>
+pub fn live_of(
+    alloc: Global,
+    heard: &[HeardRecord],
+    moment: Moment,
+) -> Result<Vec<Held>, AllocError>
     ensures { IfOk result (λ live. live.items ≡ live_of heard.now moment) }
 {
     let mut live = Vec::new(alloc);
@@ -110,7 +114,7 @@ fn is_renewed(rr: &Rr, heard: &[HeardRecord]) -> bool
 // Puts the record of a hearing behind others, where the hearing is its last renewal and it is live.
 fn put_live(
     live: &mut Vec<Held>,
-    moment: u64,
+    moment: Moment,
     heard: &[HeardRecord],
     later: &[HeardRecord],
     hearing: &HeardRecord,
@@ -122,18 +126,18 @@ fn put_live(
         return Ok(());
     }
     let held = held_from(heard, hearing)?;
-    if moment < held.end {
+    if held.is_live(moment) {
         live.push(held)?;
     }
     Ok(())
 }
 
-/// The records that are live at a moment, in ms, in a history, the last renewed first. Refused only for want of memory.
+/// The records that are live at a moment in a history, the last renewed first. Refused only for want of memory.
 #[tactic(auto, unfolding(mdns_history::specs::Lifetimes::live_records))]
 pub fn live_records(
     alloc: Global,
     history: &[HistoryEntry],
-    moment: u64,
+    moment: Moment,
 ) -> Result<Vec<Held>, AllocError>
     ensures value { IfOk result (λ live. live.items ≡ live_records history.now moment) }
     // Where no entry is later than a limit, no live record was renewed later.

@@ -26,6 +26,11 @@ parts_next : (past : List Entry) (entry : Entry) → with_parts entry (next_entr
 unfolding next_entry
 parts_next past entry = refl
 
+pub in_time_of : (past : List Entry) (entry : Entry) → may_follow past entry ≡ true → entry.moment ≤ last_moment
+in_time_of past entry may =
+    least entry.moment last_moment (and_second (nat_le (now past) entry.moment) (nat_le entry.moment last_moment)
+    (and_first (nat_le (now past) entry.moment && nat_le entry.moment last_moment) (not (is_boot entry.event)) may))
+
 pub fits_from : (past : List Entry) (entry next : Entry) → may_follow past entry ≡ true → next ≡ next_entry all_duties past entry.moment entry.word entry.event
     → HasParts next entry.marks entry.sent entry.given entry.outcome → Fits all_duties entry past
 fits_from past entry next may is same =
@@ -34,7 +39,7 @@ fits_from past entry next may is same =
     λ i. record { moment = entry.moment; word = entry.word; event = entry.event; marks = sym same.0 i; sent = sym same.1 i; given = sym same.2 i; outcome = sym same.3 i } in
     record {
       later = least (now past) entry.moment (and_first (nat_le (now past) entry.moment) (nat_le entry.moment last_moment) early);
-      in_time = least entry.moment last_moment (and_second (nat_le (now past) entry.moment) (nat_le entry.moment last_moment) early);
+      in_time = in_time_of past entry may;
       no_boot = not_true (is_boot entry.event) (and_second (nat_le (now past) entry.moment && nat_le entry.moment last_moment) (not (is_boot entry.event)) may);
       determined = own ∙ ap (with_parts entry) is ∙ parts_next past entry;
     }

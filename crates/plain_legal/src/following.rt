@@ -8,14 +8,12 @@ ghost use Rattle.plain_legal.specs.Trial.{may_follow, has_nothing, HasParts};
 
 use crate::next::next_entry;
 use crate::trial::put_first;
+use mdns_base::Moment;
 use mdns_history::{Entry, Event, Gifts, HostConfig, Marks, Outcome, Sends};
 use plain_history::{HistoryEntry, now};
 use plain_same::Same;
 use sd_name::is_service_label;
 use std::alloc::{AllocError, Global};
-
-/// The last moment that there is, in ms.
-const LAST_MOMENT: u64 = 1 << 53;
 
 /// Puts an entry at the head of a legal history, or of none, where it is legal there; whether it is. Refused only for want of memory.
 pub fn follow(
@@ -45,7 +43,7 @@ fn begin(history: &mut Vec<HistoryEntry>, entry: Entry) -> Result<bool, AllocErr
         Event::Boot { config } => is_host_label(&config.host),
         _ => false,
     };
-    if !begins || entry.moment > LAST_MOMENT || !has_nothing(&entry) {
+    if !begins || Moment::try_new(entry.moment).is_none() || !has_nothing(&entry) {
         return Ok(false);
     }
     put_first(history, entry)?;
@@ -102,7 +100,7 @@ fn go_on(alloc: Global, history: &mut Vec<HistoryEntry>, entry: Entry) -> Result
         given,
         outcome,
     } = entry;
-    let next = next_entry(alloc, history, moment, word, event)?;
+    let next = next_entry(alloc, history, Moment::new(moment), word, event)?;
     if !has(&next, &marks, &sent, &given, &outcome) {
         return Ok(false);
     }
@@ -124,7 +122,7 @@ fn has(entry: &Entry, marks: &Marks, sent: &Sends, given: &Gifts, outcome: &Outc
 fn may_follow(history: &[HistoryEntry], entry: &Entry) -> bool
     ensures { result ≡ may_follow history.now entry.now }
 {
-    now(history) <= entry.moment
-        && entry.moment <= LAST_MOMENT
+    now(history).ms() <= entry.moment
+        && Moment::try_new(entry.moment).is_some()
         && !matches!(entry.event, Event::Boot { .. })
 }

@@ -10,6 +10,7 @@ ghost use Rattle.plain_history.specs.Last.{are_by};
 ghost use Rattle.plain_legal.specs.Trial.{of_last, admitted_unless, refusal_of, asked_at, announced_told};
 
 use dns_message::{MessageError, read};
+use mdns_base::Moment;
 use mdns_history::{Event, Mark};
 use plain_announcing::announced_groups;
 use plain_asking::{heard_askings, tick_askings};
@@ -45,7 +46,7 @@ pub fn event_marks(alloc: Global, history: &[HistoryEntry]) -> Result<Vec<Mark>,
 }
 
 // Whether more records are live at a moment than there is room for.
-fn are_too_many(alloc: Global, history: &[HistoryEntry], moment: u64) -> Result<bool, AllocError>
+fn are_too_many(alloc: Global, history: &[HistoryEntry], moment: Moment) -> Result<bool, AllocError>
     ensures { IfOk result (λ full. full ≡ nat_lt room_for_records (length (live_records history.now moment))) }
 {
     let live = live_records(alloc, history, moment)?;
@@ -96,13 +97,12 @@ fn bad_mark(alloc: Global, bytes: &[u8]) -> Result<Vec<Mark>, AllocError>
 // The marks of questions that a tick asks, or that a packet asks in the daemon's stead.
 fn asked_at(
     alloc: Global,
-    moment: u64,
+    moment: Moment,
     event: &Event,
     heard: Option<&HeardMessage>,
     past: &[HistoryEntry],
 ) -> Result<Vec<Mark>, AllocError>
-    requires bound { moment ≤ 2 ^ 53 }
-    requires by { are_by moment past.now ≡ true }
+    requires { are_by moment past.now ≡ true }
     ensures { IfOk result (λ marks. marks.items ≡ asked_at moment event.now (option_copied heard.entry) past.now) }
 {
     match event {
@@ -114,7 +114,7 @@ fn asked_at(
 // The marks of the groups that a tick announces, which is the last entry of the history.
 fn announced(
     alloc: Global,
-    moment: u64,
+    moment: Moment,
     event: &Event,
     history: &[HistoryEntry],
 ) -> Result<Vec<Mark>, AllocError>

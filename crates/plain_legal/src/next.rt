@@ -10,29 +10,29 @@ ghost use Rattle.plain_legal.specs.Trial.{of_last, on_last, told_last};
 use crate::marks::event_marks;
 use crate::sends::event_sends;
 use crate::trial::{gifts_of, marks_of, put_first, sends_of, take_first};
+use mdns_base::Moment;
 use mdns_history::{Entry, Event, Gifts, Mark, Marks, Outcome, Sends};
 use plain_history::HistoryEntry;
 use plain_items::{cut_marks, early_outcome, given_items, take_outcome};
 use std::alloc::{AllocError, Global};
 
-/// The entry that follows a history at a moment, in ms, with a random word, for an event. It is made at the head of the history, which is as
+/// The entry that follows a history at a moment, with a random word, for an event. It is made at the head of the history, which is as
 /// before afterwards. No entry may be later than the moment. Refused only for want of memory, and then the history may have another head.
 pub fn next_entry(
     alloc: Global,
     history: &mut Vec<HistoryEntry>,
-    moment: u64,
+    moment: Moment,
     word: u32,
     event: Event,
 ) -> Result<Entry, AllocError>
     requires short { length history.old.items + 1 < 2 ^ 30 }
-    requires early { moment ≤ 2 ^ 53 }
     requires by { are_by moment history.old.items ≡ true }
     ensures next { IfOk result (λ entry. entry ≡ next_entry all_duties history.old.items moment word event) }
     ensures kept { OnOk result (history.new.items ≡ history.old.items) }
 {
     let outcome = early_outcome(alloc, &event, history)?;
     let bare = Entry {
-        moment,
+        moment: moment.ms(),
         word,
         event,
         marks: Marks::new(alloc),

@@ -12,6 +12,7 @@ use crate::sent::{each_to_all, records_only_if};
 use crate::wanted::wanted_by;
 use dns_message::Rrs;
 use dns_record::Rr;
+use mdns_base::Moment;
 use mdns_history::Sent;
 use mdns_pack::{Wanting, pack_reply};
 use plain_announcing::announced_groups;
@@ -23,8 +24,8 @@ use std::alloc::{AllocError, Global};
 /// The least time between two multicasts of a record, in ms.
 const MULTICAST_GAP: u64 = 1000;
 
-/// Whether a record's last multicast is a second ago at a moment, in ms.
-pub fn is_free(history: &[HistoryEntry], moment: u64, rr: &Rr) -> bool
+/// Whether a record's last multicast is a second ago at a moment.
+pub fn is_free(history: &[HistoryEntry], moment: Moment, rr: &Rr) -> bool
     ensures { result ≡ is_free history.now moment rr.now }
 {
     is_long_ago(MULTICAST_GAP, moment, last_multicast(rr, history))
@@ -35,7 +36,7 @@ fn free_records(
     alloc: Global,
     rrs: Vec<Rr>,
     past: &[HistoryEntry],
-    moment: u64,
+    moment: Moment,
 ) -> Result<Vec<Rr>, AllocError>
     ensures { IfOk result (λ free. free.items ≡ filter (is_free past.now moment) rrs.items) }
 {
@@ -52,7 +53,7 @@ fn free_records(
 fn records_announced(
     alloc: Global,
     history: &[HistoryEntry],
-    moment: u64,
+    moment: Moment,
 ) -> Result<Vec<Rr>, AllocError>
     requires { length history.now < 2 ^ 30 }
     ensures { IfOk result (λ rrs. rrs.items ≡ flat_map (λ group. group_records group history.now) (announced_groups history.now moment)) }
@@ -71,7 +72,7 @@ fn announced_in(
     alloc: Global,
     history: &[HistoryEntry],
     past: &[HistoryEntry],
-    moment: u64,
+    moment: Moment,
 ) -> Result<Vec<Rr>, AllocError>
     requires { length history.now < 2 ^ 30 }
     ensures { IfOk result (λ rrs. rrs.items ≡ announced_in history.now past.now moment) }
@@ -86,7 +87,7 @@ fn answers_in(
     duties: &DaemonDuties,
     history: &[HistoryEntry],
     past: &[HistoryEntry],
-    moment: u64,
+    moment: Moment,
 ) -> Result<Vec<Rr>, AllocError>
     requires history { length history.now < 2 ^ 30 }
     requires past { length past.now < 2 ^ 30 }
@@ -105,7 +106,7 @@ fn wanted_free(
     alloc: Global,
     own: &[Rr],
     past: &[HistoryEntry],
-    moment: u64,
+    moment: Moment,
     rr: &Rr,
 ) -> Result<Vec<Rr>, AllocError>
     ensures { IfOk result (λ wanted. wanted.items ≡ filter (is_free past.now moment) (wanted_by own.now rr.now.rdata)) }
@@ -120,7 +121,7 @@ fn wantings_of(
     answers: Vec<Rr>,
     own: &[Rr],
     past: &[HistoryEntry],
-    moment: u64,
+    moment: Moment,
 ) -> Result<Vec<Wanting>, AllocError>
     ensures { IfOk result (λ wantings. wantings.items ≡ map (λ rr. (rr, filter (is_free past.now moment) (wanted_by own.now rr.rdata))) answers.items) }
 {
@@ -140,14 +141,14 @@ fn responses_with(alloc: Global, wantings: &[Wanting]) -> Result<Vec<Sent>, Allo
     each_to_all(alloc, messages)
 }
 
-/// The responses to all of a tick at a moment, in ms: the history has the tick, the past ends before it. Refused only for want of
+/// The responses to all of a tick at a moment: the history has the tick, the past ends before it. Refused only for want of
 /// memory.
 pub fn multicasts_in(
     alloc: Global,
     duties: &DaemonDuties,
     history: &[HistoryEntry],
     past: &[HistoryEntry],
-    moment: u64,
+    moment: Moment,
 ) -> Result<Vec<Sent>, AllocError>
     requires history { length history.now < 2 ^ 30 }
     requires past { length past.now < 2 ^ 30 }

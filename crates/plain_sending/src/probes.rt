@@ -8,6 +8,7 @@ use crate::sent::to_all;
 use dns_message::{Message, Questions, Rrs};
 use dns_name::Name;
 use dns_record::{Question, Rr, kinds};
+use mdns_base::Moment;
 use mdns_history::Sent;
 use plain_claims::probed_groups;
 use plain_groups::{LiveGroup, group_name, unique_records};
@@ -79,11 +80,11 @@ pub fn probe_message(
     })
 }
 
-/// The probes of a tick at a moment, in ms, by group. Refused only for want of memory.
+/// The probes of a tick at a moment, by group. Refused only for want of memory.
 pub fn sent_probes(
     alloc: Global,
     history: &[HistoryEntry],
-    moment: u64,
+    moment: Moment,
 ) -> Result<Vec<Sent>, AllocError>
     requires { length history.now < 2 ^ 30 }
     ensures { IfOk result (λ sent. sent.items ≡ sent_probes history.now moment) }

@@ -8,6 +8,7 @@ ghost use Rattle.plain_history.specs.Last.{are_by};
 
 use crate::sent::each_to_all;
 use dns_record::{Key, Rr};
+use mdns_base::Moment;
 use mdns_history::{Mark, Sent};
 use mdns_pack::{in_order, pack_query};
 use plain_asking::known_answers;
@@ -40,10 +41,9 @@ fn known_of(
     alloc: Global,
     keys: &[Key],
     history: &[HistoryEntry],
-    moment: u64,
+    moment: Moment,
 ) -> Result<Vec<Rr>, AllocError>
-    requires bound { moment ≤ 2 ^ 53 }
-    requires by { are_by moment history.now ≡ true }
+    requires { are_by moment history.now ≡ true }
     ensures { IfOk result (λ known. known.items ≡ flat_map (λ key. known_answers key history.now moment) keys.now) }
 {
     let mut all = Vec::new(alloc);
@@ -54,16 +54,15 @@ fn known_of(
     Ok(all)
 }
 
-/// The queries of the questions that a tick's marks say it asks at a moment, in ms. No entry may be later than the moment. Refused
+/// The queries of the questions that a tick's marks say it asks at a moment. No entry may be later than the moment. Refused
 /// only for want of memory.
 pub fn sent_queries(
     alloc: Global,
     askings: &[Mark],
     history: &[HistoryEntry],
-    moment: u64,
+    moment: Moment,
 ) -> Result<Vec<Sent>, AllocError>
-    requires bound { moment ≤ 2 ^ 53 }
-    requires by { are_by moment history.now ≡ true }
+    requires { are_by moment history.now ≡ true }
     ensures { IfOk result (λ sent. sent.items ≡ sent_queries askings.now history.now moment) }
 {
     let keys = keys_in(alloc, askings)?;

@@ -11,7 +11,7 @@ ghost use Rattle.plain_history.specs.Kept.{kept_if};
 
 use crate::sent::{each_to_one, to_one};
 use dns_record::Rr;
-use mdns_base::MDNS_PORT;
+use mdns_base::{MDNS_PORT, Moment};
 use mdns_history::Sent;
 use mdns_pack::{pack_legacy, pack_plain};
 use plain_debts::{StandingDebt, due_unicasts};
@@ -154,11 +154,11 @@ fn once(alloc: Global, places: &[usize]) -> Result<Vec<usize>, AllocError>
     Ok(kept)
 }
 
-/// The replies to askers that are due at a moment, in ms, in the order of hearing. Refused only for want of memory.
+/// The replies to askers that are due at a moment, in the order of hearing. Refused only for want of memory.
 pub fn sent_unicasts(
     alloc: Global,
     history: &[HistoryEntry],
-    moment: u64,
+    moment: Moment,
 ) -> Result<Vec<Sent>, AllocError>
     requires { length history.now < 2 ^ 30 }
     ensures { IfOk result (λ sent. sent.items ≡ sent_unicasts history.now moment) }

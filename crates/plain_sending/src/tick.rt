@@ -12,6 +12,7 @@ use crate::probes::sent_probes;
 use crate::queries::sent_queries;
 use crate::replies::sent_unicasts;
 use crate::sent::sent_only_if;
+use mdns_base::Moment;
 use mdns_history::Sent;
 use plain_asking::tick_askings;
 use plain_history::HistoryEntry;
@@ -22,7 +23,7 @@ fn probes_in(
     alloc: Global,
     duties: &DaemonDuties,
     past: &[HistoryEntry],
-    moment: u64,
+    moment: Moment,
 ) -> Result<Vec<Sent>, AllocError>
     requires { length past.now < 2 ^ 30 }
     ensures { IfOk result (λ sent. sent.items ≡ only_if duties.now.claiming (sent_probes past.now moment)) }
@@ -36,10 +37,9 @@ fn queries_in(
     alloc: Global,
     duties: &DaemonDuties,
     past: &[HistoryEntry],
-    moment: u64,
+    moment: Moment,
 ) -> Result<Vec<Sent>, AllocError>
-    requires bound { moment ≤ 2 ^ 53 }
-    requires by { are_by moment past.now ≡ true }
+    requires { are_by moment past.now ≡ true }
     ensures { IfOk result (λ sent. sent.items ≡ only_if duties.now.asking (sent_queries (tick_askings past.now moment) past.now moment)) }
 {
     let askings = tick_askings(alloc, past, moment)?;
@@ -53,7 +53,7 @@ fn responses_in(
     duties: &DaemonDuties,
     history: &[HistoryEntry],
     past: &[HistoryEntry],
-    moment: u64,
+    moment: Moment,
 ) -> Result<Vec<Sent>, AllocError>
     requires history { length history.now < 2 ^ 30 }
     requires past { length past.now < 2 ^ 30 }
@@ -72,11 +72,10 @@ fn sends_in(
     duties: &DaemonDuties,
     history: &[HistoryEntry],
     past: &[HistoryEntry],
-    moment: u64,
+    moment: Moment,
 ) -> Result<Vec<Sent>, AllocError>
     requires history { length history.now < 2 ^ 30 }
     requires past { length past.now < 2 ^ 30 }
-    requires bound { moment ≤ 2 ^ 53 }
     requires by { are_by moment past.now ≡ true }
     ensures { IfOk result (λ sent. sent.items ≡ sends_in duties.now history.now past.now moment) }
 {

@@ -2,8 +2,9 @@
 use crate::entry::entry_of;
 use crate::kept::Kept;
 use crate::row_error::RowError;
-use crate::words::{count, name, number, numbers, or_none, put_word, yes_or_no};
+use crate::words::{count, moment_of, name, numbers, or_none, put_word, yes_or_no};
 use dns_record::Key;
+use mdns_base::Moment;
 use mdns_history::{Cause, Event, Mark};
 use plain_asking::{active_questions, are_by, is_active, known_answers, tick_askings};
 use plain_history::HistoryEntry;
@@ -15,10 +16,10 @@ pub fn row(alloc: Global, kept: &mut Kept, text: &str) -> Result<String, RowErro
     match words.as_slice() {
         ["active"] => count(alloc, active_questions(alloc, kept.entries())?.len()),
         ["active", asked] => yes_or_no(alloc, is_active(alloc, &key(asked)?, kept.entries())?),
-        ["by", moment] => { yes_or_no(alloc, are_by(u64::from(number(moment)?), kept.entries())) }
-        ["known", asked, moment] => known(alloc, kept.entries(), &key(asked)?, number(moment)?),
-        ["at", moment] => at(alloc, kept.entries(), number(moment)?),
-        ["tick", moment] => tick(alloc, kept, number(moment)?),
+        ["by", moment] => { yes_or_no(alloc, are_by(moment_of(moment)?, kept.entries())) }
+        ["known", asked, moment] => known(alloc, kept.entries(), &key(asked)?, moment_of(moment)?),
+        ["at", moment] => at(alloc, kept.entries(), moment_of(moment)?),
+        ["tick", moment] => tick(alloc, kept, moment_of(moment)?),
         _ => Err(RowError::NotUnderstood),
     }
 }
@@ -36,9 +37,8 @@ fn known(
     alloc: Global,
     history: &[HistoryEntry],
     question: &Key,
-    moment: u32,
+    moment: Moment,
 ) -> Result<String, RowError> {
-    let moment = u64::from(moment);
     if !are_by(moment, history) {
         return Err(RowError::NotUnderstood);
     }
@@ -50,14 +50,14 @@ fn known(
 }
 
 // Why questions are asked at a moment.
-fn at(alloc: Global, history: &[HistoryEntry], moment: u32) -> Result<String, RowError> {
-    let marks = tick_askings(alloc, history, u64::from(moment))?;
+fn at(alloc: Global, history: &[HistoryEntry], moment: Moment) -> Result<String, RowError> {
+    let marks = tick_askings(alloc, history, moment)?;
     causes(alloc, marks.as_slice())
 }
 
 // The same, and the tick stands in the history then.
-fn tick(alloc: Global, kept: &mut Kept, moment: u32) -> Result<String, RowError> {
-    let marks = tick_askings(alloc, kept.entries(), u64::from(moment))?;
+fn tick(alloc: Global, kept: &mut Kept, moment: Moment) -> Result<String, RowError> {
+    let marks = tick_askings(alloc, kept.entries(), moment)?;
     let told = causes(alloc, marks.as_slice())?;
     let mut entry = entry_of(alloc, moment, 0, Event::Tick);
     for mark in marks {

@@ -1,10 +1,10 @@
 // Rows that make the history.
 use crate::kept::Kept;
 use crate::row_error::RowError;
-use crate::words::{count, name, number};
+use crate::words::{count, moment_of, name, number};
 use bytes::Bytes;
 use dns_name::Label;
-use mdns_base::Host;
+use mdns_base::{Host, Moment};
 use mdns_history::{Config, Entry, Event, Gifts, HostConfig, Marks, Outcome, Sends};
 use number_text::read_hex;
 use sd_call::{Request, Text};
@@ -17,7 +17,7 @@ pub fn row(alloc: Global, kept: &mut Kept, text: &str) -> Result<String, RowErro
         ["new"] => *kept = Kept::new(alloc),
         [moment, word, rest @ ..] => {
             let event = event_of(alloc, rest)?;
-            let entry = entry_of(alloc, number(moment)?, number(word)?, event);
+            let entry = entry_of(alloc, moment_of(moment)?, number(word)?, event);
             kept.put(entry)?;
         }
         _ => return Err(RowError::NotUnderstood),
@@ -26,10 +26,10 @@ pub fn row(alloc: Global, kept: &mut Kept, text: &str) -> Result<String, RowErro
 }
 
 /// An entry that marks, sends and gives nothing.
-pub fn entry_of(alloc: Global, moment: u32, word: u32, event: Event) -> Entry {
+pub fn entry_of(alloc: Global, moment: Moment, word: u32, event: Event) -> Entry {
     let outcome = outcome_of(&event);
     Entry {
-        moment: u64::from(moment),
+        moment: moment.ms(),
         word,
         event,
         marks: Marks::new(alloc),

@@ -67,15 +67,17 @@ fn sure(alloc: Global, kept: &Kept, place: usize) -> Result<String, RowError> {
     }
 }
 
-// The ticks since a group was set back.
+// The moments of the ticks since a group was set back, in ms.
 fn ticks(alloc: Global, kept: &Kept, place: usize) -> Result<String, RowError> {
-    match groups(alloc, kept.entries())?.get(place) {
-        Some(group) => numbers(
-            alloc,
-            tick_moments(alloc, group, kept.entries())?.as_slice(),
-        ),
-        None => Err(RowError::NotUnderstood),
+    let live = groups(alloc, kept.entries())?;
+    let Some(group) = live.get(place) else {
+        return Err(RowError::NotUnderstood);
+    };
+    let mut ticks = Vec::new(alloc);
+    for moment in tick_moments(alloc, group, kept.entries())? {
+        ticks.push(moment.ms())?;
     }
+    numbers(alloc, ticks.as_slice())
 }
 
 // How many records a group has.

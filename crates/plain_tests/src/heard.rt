@@ -1,10 +1,10 @@
 // Rows on queries of other hosts: `heard_askings` of `plain_asking`.
 use crate::asking::causes;
 use crate::row_error::RowError;
-use crate::words::{name, number};
+use crate::words::{moment_of, name};
 use dns_message::{Message, Questions, Rrs};
 use dns_record::{Question, Rr};
-use mdns_base::Host;
+use mdns_base::{Host, Moment};
 use plain_asking::{are_by, heard_askings};
 use plain_history::{HeardMessage, HistoryEntry};
 use std::alloc::Global;
@@ -20,7 +20,7 @@ pub fn row(alloc: Global, history: &[HistoryEntry], text: &str) -> Result<String
         [moment, port, asked, reply] => {
             let mut query = query_of(alloc, port, asked, is_unicast(reply)?)?;
             query.message.answers.push(Rr::parse_text(alloc, answer)?)?;
-            askings(alloc, history, number(moment)?, &query)
+            askings(alloc, history, moment_of(moment)?, &query)
         }
         _ => Err(RowError::NotUnderstood),
     }
@@ -37,10 +37,9 @@ fn is_unicast(reply: &str) -> Result<bool, RowError> {
 fn askings(
     alloc: Global,
     history: &[HistoryEntry],
-    moment: u32,
+    moment: Moment,
     query: &HeardMessage,
 ) -> Result<String, RowError> {
-    let moment = u64::from(moment);
     if !are_by(moment, history) {
         return Err(RowError::NotUnderstood);
     }

@@ -1,6 +1,7 @@
 // Words of rows.
 use crate::row_error::RowError;
 use dns_name::Name;
+use mdns_base::Moment;
 use std::alloc::{AllocError, Global};
 
 /// A number of 32 bits.
@@ -9,6 +10,12 @@ pub fn number(word: &str) -> Result<u32, RowError> {
         Ok(number) => Ok(number),
         Err(_) => Err(RowError::NotUnderstood),
     }
+}
+
+/// A moment, of so many ms.
+pub fn moment_of(word: &str) -> Result<Moment, RowError> {
+    let ms = number(word)?;
+    Ok(Moment::new(u64::from(ms)))
 }
 
 /// A name.

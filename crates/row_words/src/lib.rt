@@ -13,4 +13,4 @@ pub use lines::is_row;
 pub use parts::{first_word, quoted, two_parts, two_sides, words};
 pub use spelled::{bytes_of, label_of, shown, text_from, text_of, word, yes_or_no};
 pub use telling::Told;
-pub use values::{hex_of, key, moment, name_of, number, record, records};
+pub use values::{hex_of, key, milliseconds, moment, name_of, number, record, records};

@@ -3,6 +3,7 @@
 use crate::error::RowError;
 use dns_name::Name;
 use dns_record::{Key, Rr};
+use mdns_base::Moment;
 use number_text::read_hex;
 use std::alloc::Global;
 use std::num::ParseIntError;
@@ -13,9 +14,14 @@ pub fn number<N: FromStr<Err = ParseIntError>>(word: &str) -> Result<N, RowError
     Ok(word.parse::<N>()?)
 }
 
-/// A moment, in ms and below 2^32.
-pub fn moment(word: &str) -> Result<u64, RowError> {
+/// So many milliseconds, below 2^32.
+pub fn milliseconds(word: &str) -> Result<u64, RowError> {
     Ok(u64::from(number::<u32>(word)?))
+}
+
+/// A moment, below 2^32 ms.
+pub fn moment(word: &str) -> Result<Moment, RowError> {
+    Ok(Moment::at_most_last(milliseconds(word)?))
 }
 
 /// The bytes that stand in a row as hexadecimal digits.

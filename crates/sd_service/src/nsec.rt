@@ -47,7 +47,8 @@ fn is_data_of(rdata: &Rdata, name: &Name, unique: &[Rr]) -> bool
         Rdata::Nsec { next, bitmap } => {
             next.as_wire() == name.as_wire() && is_bitmap(bitmap.as_slice(), unique)
         }
-        Rdata::Raw { kind, bytes } => *kind == kinds::NSEC && is_in_bytes(bytes.as_slice(), name, unique),
+        Rdata::Raw { kind, bytes } => *kind == kinds::NSEC
+            && is_in_bytes(bytes.as_slice(), name, unique),
         _ => false,
     }
 }

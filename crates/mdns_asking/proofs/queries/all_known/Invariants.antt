@@ -5,4 +5,4 @@ use Rattle.mdns_asking.specs.ByWalks.{later_of}
 use Rattle.mdns_asking.proofs.queries.all_known.Given as goal
 
 abbrev pub invariant-loop-key : goal.invariant-loop-key
-invariant-loop-key l = l.all.items ≡ flat_map (λ key. listed_of key (later_of key.name l.walks) l.when.moment) (take l.key-index l.keys)
+invariant-loop-key l = l.all.items ≡ flat_map (λ key. listed_of key (later_of key.name l.walks) l.now) (take l.key-index l.keys)

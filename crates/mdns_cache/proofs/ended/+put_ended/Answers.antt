@@ -1,4 +1,4 @@
-use Rattle.std.proofs.Common.{◌≡◌, ℕ, ◌+◌, ◌<◌, true, ⊎_elim, List, [], ◌∷◌, ◌++◌, length, Some, None, slice_get, sym, ap, subst, ◌∙◌, arith}
+use Rattle.std.proofs.Common.{◌≡◌, ℕ, ◌+◌, ◌<◌, ◌≤◌, true, ⊎_elim, List, [], ◌∷◌, ◌++◌, length, Some, None, slice_get, sym, ap, subst, ◌∙◌, arith}
 use Rattle.mdns_history.specs.declared.held.Held.{Held}
 use Rattle.mdns_cache.proofs.ListLemmas.{each-append}
 use Rattle.mdns_cache.specs.Ends.{winner}
@@ -13,13 +13,13 @@ returns-in-None-clause-found t c = λ place one on there ended within.
     let first = winner_ended c.args.held.now c.args.nodes.now c.requires.played c.args.node place c.args.now one c.requires.some on within there ended in
     absurd (some_none first.0 (sym first.1 ∙ ap (slice_get c.args.held.now) (sym c.winner-place.ensures) ∙ none))
 
-pub returns-then-one-now-clause-found : goal.returns-then-one-now-clause-found
-returns-then-one-now-clause-found t c = λ place one on there ended within.
+pub returns-then-one-ms-clause-found : goal.returns-then-one-ms-clause-found
+returns-then-one-ms-clause-found t c = λ place one on there ended within.
     let some : slice_get c.args.held.now c.winner-place.result ≡ Some c.in-Some.one.now = sym c.in-Some.ensures in
     let first = winner_ended c.args.held.now c.args.nodes.now c.requires.played c.args.node place c.args.now one c.requires.some on within there ended in
     let same : first.0 ≡ c.in-Some.one.now = some_inside first.0 c.in-Some.one.now (sym first.1 ∙ ap (slice_get c.args.held.now) (sym c.winner-place.ensures) ∙ some) in
     let end : first.0.end ≡ c.in-Some.one.now.end = ap (λ (h : Held). h.end) same in
-    absurd (omega (arith, end, first.2, c.if-one-now.true))
+    absurd (omega (arith, end, first.2, c.ms.ensures.value, c.if-one-ms.true))
 
 pub returns-then-node-nodes-clause-found : goal.returns-then-node-nodes-clause-found
 returns-then-node-nodes-clause-found t c = λ place one on there ended within.
@@ -36,7 +36,7 @@ returns-then-node-nodes-clause-only t c = λ old.
     let items : c.push.new.self.items ≡ c.args.names.now.items ++ c.copy.result ∷ [] = c.in_ok-push.ensures.items in
     subst (AreEnded c.args.held.now c.args.now) (sym items)
     (each-append (IsEnded c.args.held.now c.args.now) c.args.names.now.items (c.copy.result ∷ []) old
-    ((c.winner-place.result, c.in-Some.one.now, some, c.if-one-now.false, sym c.copy.ensures), tt))
+    ((c.winner-place.result, c.in-Some.one.now, some, subst (λ (n : ℕ). c.in-Some.one.now.end ≤ n) c.ms.ensures.value c.if-one-ms.false, sym c.copy.ensures), tt))
 
 pub returns-clause-found : goal.returns-clause-found
 returns-clause-found t c =

@@ -16,7 +16,7 @@ returns-clause-entries c = λ one there.
     let same : get_or c.values.result.now c.args.index c.index-values-index.result ≡ one =
     ap (λ (l : List Held). get_or l c.args.index c.index-values-index.result) c.values.ensures ∙ get_or_from_slice_get (values_of es) c.args.index one c.index-values-index.result there in
     c.set_end.ensures.entries one there
-    ∙ ap (λ (e : ℕ). set_value_at es c.args.index (record { rr = one.rr; heard = one.heard; word = one.word; end = e })) (c.min.ensures ∙ ap (λ (h : Held). min (c.args.now + 1000) h.end) same)
+    ∙ ap (λ (e : ℕ). set_value_at es c.args.index (record { rr = one.rr; heard = one.heard; word = one.word; end = e })) (c.min.ensures ∙ ap (λ (n : ℕ). min (n + 1000) (get_or c.values.result.now c.args.index c.index-values-index.result).end) c.ms.ensures.value ∙ ap (λ (h : Held). min (c.args.now + 1000) h.end) same)
 
 pub returns-clause-played : goal.returns-clause-played
 returns-clause-played c =

@@ -7,8 +7,8 @@ use Rattle.plain_history.specs.Kept.{kept_if}
 use Rattle.plain_announcing.proofs.Renewals.{announces, announced_here, announced_next}
 use Rattle.plain_announcing.proofs.moments.announcement_moments.Goals as goal
 
-pub returns-then-renews-clause-value : goal.returns-then-renews-clause-value
-returns-then-renews-clause-value c =
+pub returns-then-renews : goal.returns-then-renews
+returns-then-renews c =
     let group = c.args.group.now in
     let entry = c.in-Some.entry.now in
     let past = c.in-Some.past.now in
@@ -19,7 +19,7 @@ returns-then-renews-clause-value c =
     c.announces-announced.ensures ∙ ap (λ (e : Entry). has_mark (is_announcement_of c.group.inside.id) e) c.entry.ensures
     ∙ ap (λ (g : Group). announces g entry) c.group.view_is in
     let put : c.put_moment_if.new.moments.items ≡ before ++ kept_if (announces group entry) entry.moment =
-    c.in_ok-put_moment_if.ensures.value ∙ ap (λ b. before ++ kept_if b entry.moment) told in
+    c.in_ok-put_moment_if.ensures ∙ ap (λ b. before ++ kept_if b entry.moment) told in
     put ∙ announced_here group rest entry past before split (sym c.in_ok-renews.ensures ∙ c.if-renews.true) ∙ c.loop-entry.invariant.moments
 
 pub loop-entry-preserved : goal.loop-entry-preserved
@@ -34,10 +34,9 @@ loop-entry-preserved c =
     c.announces-announced.ensures ∙ ap (λ (e : Entry). has_mark (is_announcement_of c.group.inside.id) e) c.entry.ensures
     ∙ ap (λ (g : Group). announces g entry) c.group.view_is in
     let put : c.put_moment_if.new.moments.items ≡ before ++ kept_if (announces group entry) entry.moment =
-    c.in_ok-put_moment_if.ensures.value ∙ ap (λ b. before ++ kept_if b entry.moment) told in
+    c.in_ok-put_moment_if.ensures ∙ ap (λ b. before ++ kept_if b entry.moment) told in
     record {
       moments = ap (λ (l : List ℕ). l ++ announcement_moments group past) put
           ∙ announced_next group rest entry past before split (sym c.in_ok-renews.ensures ∙ c.if-renews.false) ∙ c.loop-entry.invariant.moments;
-      bound = c.in_ok-put_moment_if.ensures.bound c.loop-entry.invariant.bound;
       short = omega (arith, ap length split);
     }

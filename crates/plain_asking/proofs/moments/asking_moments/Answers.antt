@@ -15,7 +15,7 @@ loop-entry-preserved c =
     let entry = c.entry-item.result in
     let before = c.loop-entry.moments.items in
     let put : c.put_moment_if.new.moments.items ≡ before ++ kept_if (test entry) entry.moment =
-    c.in_ok-put_moment_if.ensures.value ∙ ap (λ b. before ++ kept_if b entry.moment) (c.asks-asked.ensures ∙ ap test c.entry.ensures) in
+    c.in_ok-put_moment_if.ensures ∙ ap (λ b. before ++ kept_if b entry.moment) (c.asks-asked.ensures ∙ ap test c.entry.ensures) in
     ap (λ (l : List ℕ). l ++ moments_in test (drop (index + 1) entries)) put
     ∙ moments_more test entries index entry before c.loop-entry-test.true c.entry-item.is ∙ c.loop-entry.invariant
 

@@ -15,17 +15,14 @@ loop-entry-preserved c =
     let entry = c.entry-item.result in
     let before = c.loop-entry.moments.items in
     let put : c.put_moment_if.new.moments.items ≡ before ++ kept_if (test entry) entry.moment =
-    c.in_ok-put_moment_if.ensures.value ∙ ap (λ b. before ++ kept_if b entry.moment) (c.asks_in_series-asked.ensures ∙ ap test c.entry.ensures) in
-    record {
-      moments = ap (λ (l : List ℕ). l ++ moments_in test (drop (index + 1) entries)) put
-          ∙ moments_more test entries index entry before c.loop-entry-test.true c.entry-item.is ∙ c.loop-entry.invariant.moments;
-      bound = c.in_ok-put_moment_if.ensures.bound c.loop-entry.invariant.bound;
-    }
+    c.in_ok-put_moment_if.ensures ∙ ap (λ b. before ++ kept_if b entry.moment) (c.asks_in_series-asked.ensures ∙ ap test c.entry.ensures) in
+    ap (λ (l : List ℕ). l ++ moments_in test (drop (index + 1) entries)) put
+    ∙ moments_more test entries index entry before c.loop-entry-test.true c.entry-item.is ∙ c.loop-entry.invariant
 
-pub returns-clause-value : goal.returns-clause-value
+pub returns : goal.returns
 unfolding series_moments
-returns-clause-value c =
+returns c =
     let test = has_mark (is_series_asking c.args.question.now) in
-    moments_end test c.in_ok-entries.entries.now c.loop-entry.entry-index c.loop-entry.moments.items c.loop-entry-test.false c.loop-entry.invariant.moments
+    moments_end test c.in_ok-entries.entries.now c.loop-entry.entry-index c.loop-entry.moments.items c.loop-entry-test.false c.loop-entry.invariant
     ∙ ap (moments_in test) c.in_ok-entries.ensures
     ∙ said_since (begins_asking c.args.question.now) (λ (entry : Entry). moment_if (test entry) entry.moment) c.args.history.now

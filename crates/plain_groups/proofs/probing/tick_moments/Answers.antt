@@ -1,15 +1,12 @@
 use Rattle.std.proofs.Common.{◌≡◌, ◌∙◌, ◌+◌, ◌++◌, ℕ, List, true, false, drop, ap, sym, arith}
-use Rattle.std.proofs.lemmas.Bool.Decides.{nat_tests}
-use Rattle.std.specs.List.{list_all}
 use Rattle.mdns_history.specs.declared.entry.Entry.{Entry}
 use Rattle.mdns_history.specs.History.{is_tick}
 use Rattle.mdns_history.specs.Groups.{Group}
 use Rattle.mdns_history.specs.Sureness.{probes, sets_back, tick_moments}
 use Rattle.plain_history.specs.Kept.{kept_if}
 use Rattle.plain_history.proofs.Onces.{drop_front}
-use Rattle.plain_groups.specs.Moments.{is_moment}
 use Rattle.plain_groups.proofs.Steps.{slice_rest}
-use Rattle.plain_groups.proofs.Since.{moments_since, since_end, since_next, all_more}
+use Rattle.plain_groups.proofs.Since.{moments_since, since_end, since_next}
 use Rattle.plain_groups.proofs.probing.tick_moments.Goals as goal
 
 pub returns-then-sets_back : goal.returns-then-sets_back
@@ -37,7 +34,7 @@ loop-place-preserved c =
     ap (λ n. sets_back n entry (drop (place + 1) history)) (ap (λ (g : Group). g.id) (sym c.group.view_is))
     ∙ ap (sets_back c.group.inside.id entry) (sym (slice_rest history (place + 1))) ∙ sym c.sets_back.ensures ∙ c.if-sets_back.false in
     let put : c.put_moment_if.new.moments.items ≡ before ++ kept_if ((λ (entry : Entry). is_tick entry.event) entry) entry.moment =
-    c.in_ok-put_moment_if.ensures.value ∙ ap (λ b. before ++ kept_if b entry.moment) (c.is_tick.ensures ∙ ap (λ (e : Entry). is_tick e.event) c.entry.ensures) in
+    c.in_ok-put_moment_if.ensures ∙ ap (λ b. before ++ kept_if b entry.moment) (c.is_tick.ensures ∙ ap (λ (e : Entry). is_tick e.event) c.entry.ensures) in
     let moments =
     ap (λ (l : List ℕ). l ++ moments_since stop (λ (entry : Entry). is_tick entry.event) (drop (place + 1) history)) put
     ∙ since_next stop (λ (entry : Entry). is_tick entry.event) entry (drop (place + 1) history) before on

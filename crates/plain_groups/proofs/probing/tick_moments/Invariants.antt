@@ -1,9 +1,7 @@
-use Rattle.std.proofs.Common.{◌≡◌, ◌++◌, true, drop}
-use Rattle.std.specs.List.{list_all}
+use Rattle.std.proofs.Common.{◌≡◌, ◌++◌, drop}
 use Rattle.mdns_history.specs.declared.entry.Entry.{Entry}
 use Rattle.mdns_history.specs.History.{since, moment_if, is_tick}
 use Rattle.mdns_history.specs.Sureness.{probes, sets_back}
-use Rattle.plain_groups.specs.Moments.{is_moment}
 use Rattle.plain_groups.proofs.probing.tick_moments.Given as goal
 
 abbrev pub invariant-loop-place : goal.invariant-loop-place

@@ -12,7 +12,7 @@ use Rattle.mdns_claims.proofs.claims.Claims.apply.Goals as goal
 pub returns-clause-contents : goal.returns-clause-contents
 returns-clause-contents c = λ word is.
     let announces : c.self.inside.announces ≡ c.args.self.now.contents.announces = ap (λ (s : State). s.contents.announces) c.self.view_is in
-    let means : Means = record { moment = c.args.when.moment; announces = c.self.inside.announces; told = told_by c.args.happened.now; marks = c.as_slice.result.now } in
+    let means : Means = record { moment = c.at.result; announces = c.self.inside.announces; told = told_by c.args.happened.now; marks = c.as_slice.result.now } in
     carried c.args.self.now.contents (occasion_of c.args.self.now.contents (told_by c.args.happened.now) c.args.when.moment word) c.args.plan is
     (record {
       config = c.self.inside.config;
@@ -24,18 +24,18 @@ returns-clause-contents c = λ word is.
     })
     (ap (λ (s : State). s.contents.config) c.self.view_is) announces refl
     (c.count_after-self-inside.ensures ∙ ap (λ (s : State). counted_by s.contents.registered c.args.plan.deed) c.self.view_is)
-    means (λ i. record { moment = c.args.when.moment; announces = announces i; told = told_by c.args.happened.now; marks = (c.as_slice.ensures ∙ is.marks) i })
+    means (λ i. record { moment = c.at.ensures i; announces = announces i; told = told_by c.args.happened.now; marks = (c.as_slice.ensures ∙ is.marks) i })
     (c.carry_out.ensures ∙ ap (λ (s : State). kept_by means s.contents.kept c.args.plan.deed) c.self.view_is)
     refl
 
 pub invariant_of-self : goal.invariant_of-self
 invariant_of-self c =
-    let means : Means = record { moment = c.args.when.moment; announces = c.self.inside.announces; told = told_by c.args.happened.now; marks = c.as_slice.result.now } in (
+    let means : Means = record { moment = c.at.result; announces = c.self.inside.announces; told = told_by c.args.happened.now; marks = c.as_slice.result.now } in (
       subst HaveData (sym c.carry_out.ensures) (behind_data means c.self.inside.groups.kept c.args.plan.deed c.requires.fits.brought c.self.invariant.0),
       subst HaveBitmaps (sym c.carry_out.ensures) (behind_bitmaps means c.self.inside.groups.kept c.args.plan.deed c.requires.fits.mapped c.self.invariant.1),
     )
 
 pub returns-clause-data : goal.returns-clause-data
 returns-clause-data c =
-    let means : Means = record { moment = c.args.when.moment; announces = c.self.inside.announces; told = told_by c.args.happened.now; marks = c.as_slice.result.now } in
+    let means : Means = record { moment = c.at.result; announces = c.self.inside.announces; told = told_by c.args.happened.now; marks = c.as_slice.result.now } in
     subst HaveData (sym c.carry_out.ensures) (behind_data means c.self.inside.groups.kept c.args.plan.deed c.requires.fits.brought c.self.invariant.0)

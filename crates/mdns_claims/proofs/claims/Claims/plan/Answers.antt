@@ -21,7 +21,7 @@ returns-clause-plan c =
     let number : c.number_after-number.result ≡ number_after 0 at.marks c.args.self.now.contents.number =
     c.number_after-number.ensures ∙ (λ i. number_after 0 ((c.as_slice-2.ensures ∙ marks) i) (old i)) in
     let storm : c.storm_after-storm.result ≡ storm_told c.args.self.now.contents.storm c.args.when.moment at.marks =
-    c.storm_after-storm.ensures ∙ (λ i. storm_told (conflicts i) c.args.when.moment ((c.as_slice-3.ensures ∙ marks) i)) in
+    c.storm_after-storm.ensures ∙ (λ i. storm_told (conflicts i) (c.at.ensures i) ((c.as_slice-3.ensures ∙ marks) i)) in
     let host : c.host_under.result ≡ at.host = c.host_under.ensures ∙ (λ i. host_named (config i) (number i)) in
     let stormy : c.stormy.result ≡ at.stormy = c.stormy.ensures ∙ ap (λ (s : storms.Contents). s.stormy) storm in
     record {

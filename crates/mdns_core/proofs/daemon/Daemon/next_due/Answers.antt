@@ -22,7 +22,7 @@ returns-clause-value c =
     let first : c.earlier-due.result ≡ least (ends ++ nexts) = c.earlier-due.ensures ends nexts c.next_end.ensures.least (c.first_due.ensures.due held c.self.invariant.3) in
     let waits_is : c.earlier-waits.result ≡ least (groups ++ replies) = c.earlier-waits.ensures groups replies c.next_due.ensures c.next_due-2.ensures in
     let least_is : c.earlier.result ≡ least (ends ++ nexts ++ (groups ++ replies)) = c.earlier.ensures (ends ++ nexts) (groups ++ replies) first waits_is in
-    c.not_before.ensures ∙ ap (option_map (max c.self.inside.last)) least_is ∙ ap due_of c.self.view_is
+    c.not_before.ensures ∙ ap (option_map (max c.self.inside.last.moment)) least_is ∙ ap due_of c.self.view_is
 
 pub returns-clause-due : goal.returns-clause-due
 returns-clause-due c = λ history stands.

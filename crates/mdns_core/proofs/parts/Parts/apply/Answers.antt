@@ -1,4 +1,5 @@
-use Rattle.std.proofs.Common.{rules, refl}
+use Rattle.std.proofs.Common.{◌∙◌, ◌≤◌, ℕ, rules, refl, sym, subst}
+use Rattle.mdns_history.specs.History.{now}
 use Rattle.mdns_claims.proofs.Typed.{own_data}
 use Rattle.mdns_records.specs.After.{held_after}
 use Rattle.mdns_core.specs.Kept.{state_of}
@@ -23,5 +24,5 @@ returns-clause-made g c = λ last event is.
           c.args.self.now.claims.contents c.apply-2.new.self.contents refl c.apply-2.ensures.contents;
       owned = own_data c.apply-2.new.self.contents.kept c.apply-2.ensures.data;
       owing = search rules;
-      lasting = λ entry past at since sends stands. c.apply-4.ensures.stands entry past at since (search rules) stands;
+      lasting = λ entry past at since sends stands. c.apply-4.ensures.stands entry past (at ∙ sym c.at.ensures) (subst (λ (m : ℕ). now past ≤ m) (sym c.at.ensures) since) (search rules) stands;
     }

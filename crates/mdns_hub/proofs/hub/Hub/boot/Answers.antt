@@ -1,5 +1,5 @@
 use Rattle.std.proofs.lemmas.Result.{err_from_is_err_and}
-use Rattle.std.proofs.Common.{◌≡◌, ◌∙◌, ℕ, true, List, Option, ap, refl, arith}
+use Rattle.std.proofs.Common.{◌≡◌, ◌∙◌, ◌≤◌, ℕ, true, List, Option, ap, refl, subst, arith}
 use Rattle.std.specs.Option.{is_some}
 use Rattle.mdns_hub.specs.declared.daemons.Booted.{Booted}
 use Rattle.mdns_hub.specs.Slots.{is_kept}
@@ -13,9 +13,6 @@ use Rattle.mdns_hub.proofs.hub.Hub.boot.Goals as goal
 pub returns-in_err-daemon-clause-part : goal.returns-in_err-daemon-clause-part
 returns-in_err-daemon-clause-part g c = on_err_from c.from_residual.result
     (breaks_at_once (Boots c.args.number c.args.config) c.args.self.now (g.K.Sink.held c.args.output.now) (g.K.Sink.held c.args.output.now) refl)
-
-pub invariant_of-self-2-clause-bound : goal.invariant_of-self-2-clause-bound
-invariant_of-self-2-clause-bound g c = c.args.self.now.bound
 
 pub invariant_of-self-2-clause-behind : goal.invariant_of-self-2-clause-behind
 invariant_of-self-2-clause-behind g c =
@@ -39,7 +36,7 @@ returns-in_err-boot-clause-part g c = on_err_from c.from_residual-in_err-boot.re
 
 pub returns-in_err-put_entry-clause-part : goal.returns-in_err-put_entry-clause-part
 returns-in_err-put_entry-clause-part g c = on_err_from c.from_residual-in_err-put_entry.result
-    (boot_broke c.args.number c.take-word.result c.args.config c.in_ok-daemon.entry c.args.self.now (g.K.Sink.held c.args.output.now) (g.K.Sink.held c.put_entry.new.output) c.args.self.now.bound c.requires.free
+    (boot_broke c.args.number c.take-word.result c.args.config c.in_ok-daemon.entry c.args.self.now (g.K.Sink.held c.args.output.now) (g.K.Sink.held c.put_entry.new.output) (subst (λ (n : ℕ). n ≤ 9007199254740992) c.ms-now.ensures.value c.ms-now.ensures.bound) c.requires.free
     c.take-word.ensures.word c.in_ok-daemon.ensures.entry c.in_err-put_entry.ensures.part)
 
 pub returns-in_err-put_entry-clause-cause : goal.returns-in_err-put_entry-clause-cause
@@ -50,5 +47,5 @@ returns-in_err-put_entry-clause-cause g c =
 pub returns-clause-done : goal.returns-clause-done
 returns-clause-done g c =
     boot_done c.args.number c.take-word.result c.args.config c.in_ok-daemon.entry c.args.self.now _ (record { address = c.args.config.address; daemon = c.in_ok-daemon.daemon; tally = c.new-tally.result })
-    (g.K.Sink.held c.args.output.now) (g.K.Sink.held c.put_entry.new.output) c.args.self.now.bound c.requires.free c.take-word.ensures.word c.in_ok-boot.ensures.done refl c.new-tally.ensures c.in_ok-daemon.ensures.entry
+    (g.K.Sink.held c.args.output.now) (g.K.Sink.held c.put_entry.new.output) (subst (λ (n : ℕ). n ≤ 9007199254740992) c.ms-now.ensures.value c.ms-now.ensures.bound) c.requires.free c.take-word.ensures.word c.in_ok-boot.ensures.done refl c.new-tally.ensures c.in_ok-daemon.ensures.entry
     c.in_ok-daemon.ensures.stands refl c.take-word.ensures.after refl c.in_ok-put_entry.ensures.text

@@ -18,7 +18,7 @@ packets-preserved g c =
     let fit : AreFit c.args.moment (is_kept c.packets.self.daemons.slots.items) (c.in-Some.delivery ∷ rest) =
     subst (AreFit c.args.moment (is_kept c.packets.self.daemons.slots.items)) c.in-Some.ensures.taken.0 c.packets.invariant.first.packets in
     let at : c.in-Some.delivery.moment ≡ c.args.moment = omega (arith, c.in-Some.ensures.taken.1, fit.0.0) in
-    let now : c.happen.new.self.clock ≡ c.args.moment = c.in_ok-happen.ensures.clock ∙ at in
+    let now : c.happen.new.self.clock ≡ c.args.moment = c.in_ok-happen.ensures.clock in
     record {
       clock = omega (arith, now);
       ran = advances_then c.args.moment c.args.self.now c.packets.self c.happen.new.self (g.K.Sink.held c.args.output.now) (g.K.Sink.held c.packets.output) (g.K.Sink.held c.happen.new.output)

@@ -1,6 +1,6 @@
-use Rattle.std.proofs.Common.{sym, subst, OnOk, OnErr}
+use Rattle.std.proofs.Common.{ℕ, sym, subst, OnOk, OnErr}
 use Rattle.mdns_script.specs.declared.command.Command.{Command}
-use Rattle.mdns_hub.specs.Plays.{Does}
+use Rattle.mdns_hub.specs.Plays.{Does, RunsTo, AreSomeDone}
 use Rattle.mdns_hub.specs.Output.{DoesPart}
 use Rattle.mdns_hub.specs.Hubs.{Advances, BreaksIn}
 use Rattle.mdns_hub.proofs.Goodness.{sets_done, sets_broke, good_boot, good_run, good_attach, good_event}
@@ -19,11 +19,11 @@ boot-requires-clause-free g c = (good_boot c.args.self.now c.args.command c.in-D
 pub boot-requires-clause-host : goal.boot-requires-clause-host
 boot-requires-clause-host g c = (good_boot c.args.self.now c.args.command c.in-Daemon.number c.in-Daemon.config c.in-Daemon.is c.requires).2
 
-pub run_to-requires-clause-later : goal.run_to-requires-clause-later
-run_to-requires-clause-later g c = (good_run c.args.self.now c.args.command c.in-At.moment c.in-At.is c.requires).0
+pub run_to-requires : goal.run_to-requires
+run_to-requires g c = record { later = rw c.new.ensures ((good_run c.args.self.now c.args.command c.in-At.moment c.in-At.is c.requires).0) }
 
-pub run_to-requires-clause-bound : goal.run_to-requires-clause-bound
-run_to-requires-clause-bound g c = (good_run c.args.self.now c.args.command c.in-At.moment c.in-At.is c.requires).1
+pub new-requires : goal.new-requires
+new-requires g c = (good_run c.args.self.now c.args.command c.in-At.moment c.in-At.is c.requires).1
 
 pub happen_now-requires-clause-kept : goal.happen_now-requires-clause-kept
 happen_now-requires-clause-kept g c = good_attach c.args.self.now c.args.command c.in-Attach.daemon c.in-Attach.is c.requires
@@ -44,11 +44,13 @@ returns-in-Daemon-clause-part g c =
 
 pub returns-in-At-clause-done : goal.returns-in-At-clause-done
 returns-in-At-clause-done g c =
-    subst (λ (x : Command). OnOk c.run_to.result (Advances (Does x) c.args.self.now c.run_to.new.self (g.K.Sink.held c.args.output.now) (g.K.Sink.held c.run_to.new.output))) (sym c.in-At.is) c.run_to.ensures.done
+    subst (λ (x : Command). OnOk c.run_to.result (Advances (Does x) c.args.self.now c.run_to.new.self (g.K.Sink.held c.args.output.now) (g.K.Sink.held c.run_to.new.output))) (sym c.in-At.is)
+    (subst (λ (m : ℕ). OnOk c.run_to.result (Advances (RunsTo m) c.args.self.now c.run_to.new.self (g.K.Sink.held c.args.output.now) (g.K.Sink.held c.run_to.new.output))) c.new.ensures c.run_to.ensures.done)
 
 pub returns-in-At-clause-part : goal.returns-in-At-clause-part
 returns-in-At-clause-part g c =
-    subst (λ (x : Command). OnErr c.run_to.result (BreaksIn (DoesPart x) c.args.self.now (g.K.Sink.held c.args.output.now) (g.K.Sink.held c.run_to.new.output))) (sym c.in-At.is) c.run_to.ensures.part
+    subst (λ (x : Command). OnErr c.run_to.result (BreaksIn (DoesPart x) c.args.self.now (g.K.Sink.held c.args.output.now) (g.K.Sink.held c.run_to.new.output))) (sym c.in-At.is)
+    (subst (λ (m : ℕ). OnErr c.run_to.result (BreaksIn (AreSomeDone m) c.args.self.now (g.K.Sink.held c.args.output.now) (g.K.Sink.held c.run_to.new.output))) c.new.ensures c.run_to.ensures.part)
 
 pub returns-in-Attach-clause-done : goal.returns-in-Attach-clause-done
 returns-in-Attach-clause-done g c =

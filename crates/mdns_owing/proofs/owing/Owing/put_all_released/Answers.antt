@@ -19,7 +19,7 @@ loop-place-preserved c =
           c.args.released.now.items c.loop-place.released.items c.put_released.new.released.items
           found.behind there
           (c.index.ensures ∙ ap (λ (s : State). get_or s.queries c.in-Some.place c.index.result.now) c.self.view_is)
-          (released_undue (last_in c.args.lasts.now.lasts) c.args.now queries moments c.loop-place.from c.in-Some.place timed (omega (arith, there)) found.first)
+          (released_undue (last_in c.args.lasts.now.lasts) c.args.now queries moments c.loop-place.from c.in-Some.place timed (omega (arith, there)) (subst (λ (n : ℕ). NoneDue moments n c.loop-place.from c.in-Some.place) c.ms.ensures.value found.first))
           c.loop-place.invariant.released c.in_ok-put_released.ensures;
     }
 
@@ -31,5 +31,5 @@ returns c =
     let len : length moments ≡ length queries = length_timed queries moments timed in
     flat_all (released_of (last_in c.args.lasts.now.lasts) c.args.now queries) queries c.loop-place.from c.args.released.now.items c.loop-place.released.items c.loop-place.invariant.within
     (released_undue (last_in c.args.lasts.now.lasts) c.args.now queries moments c.loop-place.from (length queries) timed (omega arith)
-    (subst (NoneDue moments c.args.now c.loop-place.from) len c.in_default.ensures.none))
+    (subst (NoneDue moments c.args.now c.loop-place.from) len (subst (λ (n : ℕ). NoneDue moments n c.loop-place.from (length moments)) c.ms.ensures.value c.in_default.ensures.none)))
     c.loop-place.invariant.released

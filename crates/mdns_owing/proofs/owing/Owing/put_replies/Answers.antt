@@ -18,7 +18,7 @@ loop-place-preserved c =
       sent = flat_next (replies_at c.args.now) queries c.loop-place.from c.in-Some.place c.index.result.now c.args.sent.now c.loop-place.sent c.put_reply.new.sent
           found.behind there
           (c.index.ensures ∙ ap (λ (s : State). get_or s.queries c.in-Some.place c.index.result.now) c.self.view_is)
-          (replies_undue c.args.now queries moments c.loop-place.from c.in-Some.place timed (omega (arith, there)) found.first)
+          (replies_undue c.args.now queries moments c.loop-place.from c.in-Some.place timed (omega (arith, there)) (subst (λ (n : ℕ). NoneDue moments n c.loop-place.from c.in-Some.place) c.ms.ensures.value found.first))
           c.loop-place.invariant.sent c.in_ok-put_reply.ensures;
     }
 
@@ -29,5 +29,5 @@ returns c =
     let timed : moments ≡ moments_of queries = c.self.invariant.timed ∙ ap (λ (s : State). moments_of s.queries) c.self.view_is in
     let len : length moments ≡ length queries = length_timed queries moments timed in
     flat_all (replies_at c.args.now) queries c.loop-place.from c.args.sent.now c.loop-place.sent c.loop-place.invariant.within
-    (replies_undue c.args.now queries moments c.loop-place.from (length queries) timed (omega arith) (subst (NoneDue moments c.args.now c.loop-place.from) len c.in_default.ensures.none))
+    (replies_undue c.args.now queries moments c.loop-place.from (length queries) timed (omega arith) (subst (NoneDue moments c.args.now c.loop-place.from) len (subst (λ (n : ℕ). NoneDue moments n c.loop-place.from (length moments)) c.ms.ensures.value c.in_default.ensures.none)))
     c.loop-place.invariant.sent

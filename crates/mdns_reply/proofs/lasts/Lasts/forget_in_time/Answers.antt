@@ -1,6 +1,5 @@
 use Rattle.std.proofs.Common.{◌≡◌, List, ap, subst}
 use Rattle.mdns_reply.specs.Lasts.{Last, State, last_of, IsLeft}
-use Rattle.mdns_reply.proofs.Bounds.{by_left}
 use Rattle.mdns_reply.proofs.Taking.{left_of}
 use Rattle.mdns_reply.proofs.lasts.Lasts.forget_in_time.Goals as goal
 
@@ -9,8 +8,3 @@ returns-then-has_grown c = λ rr.
     let before : c.self.inside.moments.entries ≡ c.args.self.now.lasts = ap (λ (s : State). s.lasts) c.self.view_is in
     subst (λ (es : List Last). IsLeft c.args.now (last_of rr es) (last_of rr c.forget_old.new.moments.entries)) before
     (left_of c.args.now c.self.inside.moments.entries c.forget_old.new.moments.entries c.len-len.ensures.unique c.forget_old.ensures rr)
-
-pub invariant_of-self : goal.invariant_of-self
-invariant_of-self c = λ rr.
-    by_left 9007199254740992 c.args.now (last_of rr c.self.inside.moments.entries) (last_of rr c.forget_old.new.moments.entries)
-    (left_of c.args.now c.self.inside.moments.entries c.forget_old.new.moments.entries c.len-len.ensures.unique c.forget_old.ensures rr) (c.self.invariant rr)
