@@ -22,7 +22,7 @@ use std::{env, io};
 
 /// What the codes behind `refused` mean.
 const REFUSED: &str = "dns-sd: the daemon refused the request. The codes:
-  -65540  it is malformed
+  -65540  it is malformed: a service type, say, is one as _ipp._tcp
   -65544  its name is outside local, or there is no host to register at
   -65548  the name is held
   -65553  a limit was reached";

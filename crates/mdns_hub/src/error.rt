@@ -7,13 +7,13 @@ use thiserror::Error;
 pub enum HubError {
     /// The command is bad at this place of the script. Nothing was done.
     #[error("the command is bad at its place")]
-    BadCommand,
+    BadCommand = 1,
     /// The sink failed.
     #[error("the sink failed")]
-    WriteFault,
+    WriteFault = 2,
     /// Memory was refused.
     #[error("memory was refused")]
-    NoMemory,
+    NoMemory = 3,
 }
 
 impl From<AllocError> for HubError {
