@@ -297,26 +297,32 @@ def floods(target, given):
     yield target.row(f"{20 * count:,} new records with the table nearly full, in {given.seconds:g} s", "held up to the limit, then refused")
 
 
-def few_descriptors(program, folder):
-    """A daemon that may have 40 files open: connections beyond are hung up on, and it serves again when there is room."""
+def few_descriptors(program, folder, limit):
+    """A daemon that may have so many files open: whoever finds no room waits, and is served once others leave."""
     own, played = free_ports(2)
     limits = resource.getrlimit(resource.RLIMIT_NOFILE)
-    resource.setrlimit(resource.RLIMIT_NOFILE, (40, limits[1]))
+    resource.setrlimit(resource.RLIMIT_NOFILE, (limit, limits[1]))
     try:
         daemon = Daemon(program, folder, "few", "10.0.0.1", own, [played])
     finally:
         resource.setrlimit(resource.RLIMIT_NOFILE, limits)
     good = Good(daemon.path)
     clients = [Client(daemon.path) for _ in range(60)]
-    time.sleep(1)
     for one in clients:
+        one.send(query(1, A, "nobody.local"))
+    time.sleep(1)
+    served = [one for one in clients if select.select([one.socket], [], [], 0)[0]]
+    for one in served:
+        one.expect("reply", 1, 1, 0)
+    assert 0 < len(served) < 30, len(served)
+    told = good.told()
+    for one in clients[:-1]:
         one.close()
-    time.sleep(0.5)
-    last = Client(daemon.path)
-    last.call(1, query(1, A, "nobody.local"))
-    last.close()
+    clients[-1].expect("reply", 1, 1, 0)
+    clients[-1].close()
     assert daemon.process.poll() is None
-    row = "60 connections where 40 files may be open", "those that have room are served, later ones again", good.told(), f"{daemon.status('VmRSS') / 1024:.0f} MB"
+    row = (f"60 connections where {limit} files may be open", f"{len(served)} are served, the others wait; once these have left, the last is served",
+           f"{told}; then {good.told()}", f"{daemon.status('VmRSS') / 1024:.0f} MB")
     good.end()
     daemon.end()
     return row
@@ -330,7 +336,9 @@ def rows(given):
                 yield from part(target, given)
         finally:
             target.end()
-        yield few_descriptors(given.program, folder)
+        for limit in (40, 41):
+            # A session takes two files. So in one of the cases one more can be accepted, but has no second file.
+            yield few_descriptors(given.program, folder, limit)
 
 
 def main():

@@ -1,3 +1,4 @@
 pub mod Doors
 pub mod Faults
+pub mod Lacks
 pub mod Places

@@ -32,6 +32,11 @@ impl<R: time::Clock + Drop> Clock for RealClock<R> {
     }
 
     fn nap(&mut self) {
-        thread::sleep(&self.rt, Duration::from_millis(NAP));
+        nap(&self.rt);
     }
+}
+
+/// Waits for ten milliseconds.
+pub(crate) fn nap<R: time::Clock>(rt: &R) {
+    thread::sleep(rt, Duration::from_millis(NAP));
 }

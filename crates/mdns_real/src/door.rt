@@ -1,12 +1,15 @@
 // Connections at a Unix socket. They tell nothing of what is said.
 ghost use Rattle.std.specs.Prelude.{◌≡◌, None, false};
+ghost use Rattle.std.specs.IoError.{raw_os_error};
+ghost use Rattle.mdns_real.specs.Lacks.{IsLack};
 
+use crate::clock::nap;
 use mdns_base::{Failed, Sink, Source};
 use mdns_outside::Door;
-use std::io;
 use std::io::{ErrorKind, Read, Write};
 use std::net::Shutdown;
 use std::os::unix::net::{UnixListener, UnixStream};
+use std::{io, time};
 
 /// What a client says.
 #[derive(Drop)]
@@ -59,21 +62,23 @@ impl Sink for Writer {
     }
 }
 
-/// The clients that connect to a socket.
+/// The clients that connect to a socket. While the machine has no file descriptor or no memory for the next one, it waits.
 #[derive(Drop)]
-pub struct UnixDoor {
+pub struct UnixDoor<R: time::Clock + Drop> {
+    rt: R,
     listener: UnixListener,
     faults: u64,
 }
 
-impl UnixDoor {
+impl<R: time::Clock + Drop> UnixDoor<R> {
     ghost use Rattle.mdns_real.specs.Doors.{door_faults};
 
     /// The door of a socket, without a fault.
-    pub fn new(listener: UnixListener) -> UnixDoor
+    pub fn new(rt: R, listener: UnixListener) -> Self
         ensures { door_faults result ≡ 0 }
     {
         UnixDoor {
+            rt,
             listener,
             faults: 0,
         }
@@ -86,24 +91,78 @@ impl UnixDoor {
         self.faults
     }
 
-    // The next client, and both ends of its connection. One that went away again is passed over.
+    // The next client, and both ends of its connection.
     fn accept(&self) -> io::Result<(UnixStream, UnixStream)> {
+        let stream = self.connection()?;
+        let other = self.second_end(&stream)?;
+        Ok((stream, other))
+    }
+
+    // The next connection. One that went away again is passed over.
+    fn connection(&self) -> io::Result<UnixStream> {
         for _ in 0..u64::MAX {
             match self.listener.accept() {
-                Ok((stream, _)) => {
-                    if let Ok(other) = stream.try_clone() {
-                        return Ok((stream, other));
-                    }
-                }
-                Err(e) if is_passing(e.kind()) => {}
-                Err(e) => return Err(e),
+                Ok((stream, _)) => return Ok(stream),
+                Err(error) => self.pass_over(error)?,
             }
         }
         Err(io::Error::from(ErrorKind::Other))
     }
+
+    // A second descriptor of a connection.
+    fn second_end(&self, stream: &UnixStream) -> io::Result<UnixStream> {
+        for _ in 0..u64::MAX {
+            match stream.try_clone() {
+                Ok(other) => return Ok(other),
+                Err(error) => self.pass_over(error)?,
+            }
+        }
+        Err(io::Error::from(ErrorKind::Other))
+    }
+
+    // Naps where the call that failed is to be tried again later. The error comes back where it is a fault.
+    fn pass_over(&self, error: io::Error) -> io::Result<()> {
+        match failure_of(&error) {
+            Failure::Passing => Ok(()),
+            Failure::Lacking => {
+                nap(&self.rt);
+                Ok(())
+            }
+            Failure::Fault => Err(error),
+        }
+    }
 }
 
-/// Whether a failed call is to be tried again.
+/// What comes of a call of the door that failed.
+#[derive(Clone, Copy, Debug, PartialEq, Eq)]
+pub(crate) enum Failure {
+    /// The call is tried again at once.
+    Passing,
+    /// The call is tried again after a nap.
+    Lacking,
+    /// The door counts a fault.
+    Fault,
+}
+
+/// What an error comes to.
+///
+/// - `Lacking`: there is no room for one more connection yet, and there is once something was given back: this process
+///   (EMFILE, 24) or the machine (ENFILE, 23) has no file descriptor left, or the machine has no memory left for one
+///   (ENOMEM, 12, and ENOBUFS, 105). Clients that stay connected can bring that about, so it mustn't end the server.
+/// - `Passing`: the call was interrupted, or the client went away again.
+/// - `Fault`: any other.
+pub(crate) fn failure_of(error: &io::Error) -> Failure
+    ensures waits { IsLack (raw_os_error error.now) → result ≡ Failure.Lacking }
+    ensures only { result ≡ Failure.Lacking → IsLack (raw_os_error error.now) }
+{
+    match error.raw_os_error() {
+        Some(12 | 23 | 24 | 105) => Failure::Lacking,
+        _ if is_passing(error.kind()) => Failure::Passing,
+        _ => Failure::Fault,
+    }
+}
+
+/// Whether a failed call is to be tried again at once.
 pub(crate) fn is_passing(kind: ErrorKind) -> bool {
     matches!(
         kind,
@@ -111,7 +170,7 @@ pub(crate) fn is_passing(kind: ErrorKind) -> bool {
     )
 }
 
-impl Door for UnixDoor {
+impl<R: time::Clock + Drop> Door for UnixDoor<R> {
     ghost use Rattle.mdns_real.specs.Doors.{door_faults};
 
     type In = Reader;

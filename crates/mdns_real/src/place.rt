@@ -133,11 +133,14 @@ impl<R: Net + Files + Threads + time::Clock + Copy + Drop> RealPlace<R> {
         }
     }
 
-    fn make_door(&self) -> io::Result<UnixDoor>
+    fn make_door(&self) -> io::Result<UnixDoor<R>>
         ensures { IfOk result (λ door. door_faults door ≡ 0) }
     {
         match &self.plan {
-            Some(plan) => Ok(UnixDoor::new(open_socket(&self.rt, plan.socket.as_str())?)),
+            Some(plan) => {
+                let listener = open_socket(&self.rt, plan.socket.as_str())?;
+                Ok(UnixDoor::new(self.rt, listener))
+            }
             None => Err(no_plan()),
         }
     }
@@ -165,7 +168,7 @@ impl<R: Net + Files + Threads + time::Clock + Copy + Send + Drop + 'static> Plac
 
     type Air = RelayAir;
 
-    type Door = UnixDoor;
+    type Door = UnixDoor<R>;
 
     type Clock = RealClock<R>;
 
@@ -186,7 +189,7 @@ impl<R: Net + Files + Threads + time::Clock + Copy + Send + Drop + 'static> Plac
         self.count_link(made)
     }
 
-    fn door(&mut self) -> Result<UnixDoor, Failed> {
+    fn door(&mut self) -> Result<UnixDoor<R>, Failed> {
         match self.make_door() {
             Ok(door) => Ok(door),
             Err(error) => {
@@ -224,7 +227,7 @@ impl<R: Net + Files + Threads + time::Clock + Copy + Send + Drop + 'static> Plac
         Ok(OpenGate)
     }
 
-    fn door_back(&mut self, door: UnixDoor) {
+    fn door_back(&mut self, door: UnixDoor<R>) {
         if door.faults() != 0 {
             self.door_faults = self.door_faults.saturating_add(1);
         }

@@ -26,7 +26,7 @@ fn a_socket_that_was_left_is_replaced(rt: HostRuntime) -> Result<(), Fail> {
 
 #[test]
 fn a_client_is_heard_and_answered(rt: HostRuntime) -> Result<(), Fail> {
-    let mut door = UnixDoor::new(open_socket(&rt, "s")?);
+    let mut door = UnixDoor::new(rt, open_socket(&rt, "s")?);
     let mut client = UnixStream::connect(&rt, "s")?;
     client.write_all(b"ask")?;
     let Ok(Some((mut input, mut output))) = door.next() else {
