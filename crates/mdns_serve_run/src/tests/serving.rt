@@ -22,7 +22,7 @@ const WORDS: [&str; 8] = [
     "--socket",
     "s",
     "--host",
-    "nas",
+    "h",
     "--address",
     "10.0.0.1",
     "--relay",
@@ -72,8 +72,8 @@ fn served<R: Threads + Wait + Copy + Send + Drop + 'static, G: Gate + Send + Syn
     Ok((status, output))
 }
 
-// Session 1 makes its second request when a frame was written to session 2, and none ends before a packet was sent: so both
-// run at a time, and the ticker ticks.
+// Session 1 makes its second request when a frame was written to session 2, and none ends before the probe of the host that was
+// asked for was sent: so both run at a time, the ticker ticks, and the daemon is the one of the words.
 #[test]
 fn sessions_are_served_beside_each_other(rt: HostRuntime) -> Result<(), Fail> {
     let alloc = rt.alloc();
