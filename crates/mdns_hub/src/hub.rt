@@ -183,6 +183,7 @@ impl Hub {
         ensures cause { HasWriteCause (K.faults output.old) (K.faults output.new) result }
         ensures good { result ≡ Err HubError.BadCommand → ⊥ }
     {
+        // Tells the prover that the moment is at most 2^53.
         let _now = self.clock.ms();
         let word = self.words.take();
         let address = config.address;
