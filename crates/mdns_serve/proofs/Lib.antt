@@ -4,6 +4,7 @@ pub mod Calling
 pub mod Putting
 pub mod Heard
 pub mod Tends
+pub mod Seeing
 pub mod OnceEach
 pub mod AttachedCount
 pub mod OwedRoom

@@ -7,6 +7,7 @@ use Rattle.mdns_outside.specs.Parts.{Arriving, Handed}
 use Rattle.mdns_serve.specs.declared.happening.Happening.{Happening}
 use Rattle.mdns_serve.specs.declared.hearing.HearEnd.{HearEnd}
 use Rattle.mdns_serve.specs.declared.hearing.HearEnd.TheVariants.{Ended}
+use Rattle.mdns_serve.specs.Shares.{Does}
 use Rattle.mdns_serve.specs.Packets.{packets_of, HandsSome}
 use Rattle.mdns_serve.specs.Reading.{IsFor}
 
@@ -19,6 +20,10 @@ IsTendedBy owed _ = ⊥
 -- a turn that was to be such an event
 abbrev pub Tends : List ℕ → Happening → Type 0
 Tends owed turn = (event : Event) × IsTendedBy owed event × IsFor event turn
+
+-- the same of a turn with a clock's moment and a word: its entry has that word, and that moment, but not before the last nor past 2^53
+abbrev pub TendsBy : ℕ → ℕ → List ℕ → ℕ → Happening → Type 0
+TendsBy clock word owed last turn = (event : Event) × IsTendedBy owed event × Does clock word event last turn
 
 -- the most bytes that are received of a packet
 abbrev pub most_received : ℕ
