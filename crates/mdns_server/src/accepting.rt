@@ -181,11 +181,11 @@ fn make_ready<R: Wait + Copy, P: Place>(
     ensures writing { IfOk result (λ r. IsSeatOf (arc_value r.chairs.writing.common.turn) r.chairs.writing.seat) }
 {
     desk.sessions.reserve(1)?;
-    let reading = chair_beside(&desk.common, seat)?;
-    let writing = chair_beside(&desk.common, seat)?;
     let ended = Arc::new(desk.common.alloc, AtomicU64::new(0))?;
     let reading_ended = Arc::try_clone(&ended)?;
     let writing_ended = Arc::try_clone(&ended)?;
+    let reading = chair_beside(&desk.common, seat)?;
+    let writing = chair_beside(&desk.common, seat)?;
     Ok(Ready {
         chairs: Chairs { reading, writing },
         ended,

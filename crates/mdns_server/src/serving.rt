@@ -136,9 +136,9 @@ fn common<R: Wait + Copy>(
 ) -> Result<Common<R>, AllocError>
     ensures { IfOk result (λ common. arc_value common.turn ≡ arc_value turn.now) }
 {
-    let turn = Arc::try_clone(turn)?;
     let bell = Bell::new(alloc)?;
     let bell = Arc::new(alloc, bell)?;
+    let turn = Arc::try_clone(turn)?;
     Ok(Common {
         rt,
         alloc,
