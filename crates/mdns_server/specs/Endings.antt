@@ -1,7 +1,7 @@
 -- How a server ends.
-use Rattle.std.specs.Prelude.{◌≡◌, ◌⊎◌, ◌≤◌, ◌<◌, ◌-◌, ◌^◌, ℕ, zero, suc, min, Bool, true, false, List, Option, Some, None, codes}
+use Rattle.std.specs.Prelude.{◌≡◌, ◌≢◌, ◌⊎◌, ◌≤◌, ◌<◌, ◌-◌, ◌^◌, ℕ, zero, suc, min, Bool, true, false, List, Option, Some, None, codes, if◌then◌else◌}
 use Rattle.mdns_base.specs.Outside.{Rose}
-use Rattle.mdns_outside.specs.Places.{Counted}
+use Rattle.mdns_outside.specs.Places.{Counted, risen, counting}
 use Rattle.mdns_server.specs.declared.stop.Stop.{Stop}
 use Rattle.mdns_server.specs.declared.stop.Stop.TheVariants.{Over, Door, Spawner, Link, Ear}
 
@@ -17,14 +17,29 @@ Stays before now = min before (2 ^ 64 - 1) ≤ now
 abbrev pub MayFault : Counted → Counted → Type 0
 MayFault old new = (n : ℕ) × (new ≡ record old { link_faults = n }) × Stays old.link_faults n
 
--- What a status says of the counts of a place. The plan stays.
+-- Nothing of a place changed but what it tells of the connections that its doors gave.
+abbrev pub StaysCounted : Counted → Counted → Type 0
+StaysCounted old new = (n : Option ℕ) × (new ≡ record old { given = n })
+
+-- A door and a spawner with these faults were taken back, the door over or not.
+pub record TakesBack (old new : Counted) (door : ℕ) (over : Bool) (spawner : ℕ) : Type 0 where
+  pub doors_over : new.doors_over ≡ (if over then risen old.doors_over else old.doors_over)
+  pub door_faults : new.door_faults ≡ counting old.door_faults door
+  pub spawner_faults : new.spawner_faults ≡ counting old.spawner_faults spawner
+
+-- What a status says of the counts of a place. The plan stays. Each count rises where the status tells it. It is as before where the status is
+-- another, but that beside a fault of the door or of the spawner the link may have failed, too, and beside one of the link the door may be over.
 pub record Ends (old new : Counted) (status : ℕ) : Type 0 where
   pub plan : new.plan ≡ old.plan
   -- the door gave its last connection
   pub over : status ≡ 0 → Rose old.doors_over new.doors_over
+  pub not_over : status ≢ 0 → status ≢ 11 → new.doors_over ≡ old.doors_over
   pub door : status ≡ 9 → Rose old.door_faults new.door_faults
+  pub no_door : status ≢ 9 → new.door_faults ≡ old.door_faults
   pub spawner : status ≡ 10 → Rose old.spawner_faults new.spawner_faults
+  pub no_spawner : status ≢ 10 → new.spawner_faults ≡ old.spawner_faults
   pub link : status ≡ 11 → Rose old.link_faults new.link_faults
+  pub no_link : status ≢ 9 → status ≢ 10 → status ≢ 11 → new.link_faults ≡ old.link_faults
 
 -- whether a status is that of a server that has done all
 abbrev pub is_done : ℕ → Bool

@@ -1,6 +1,6 @@
 // Connections are accepted, one after the other.
 ghost use Rattle.std.specs.Arc.{arc_value};
-ghost use Rattle.std.specs.Prelude.{◌≡◌, ◌≢◌, ◌<◌, false, IfOk, IfSome, Some, vec_len, vec_capacity};
+ghost use Rattle.std.specs.Prelude.{◌≡◌, ◌≢◌, ◌<◌, true, false, IfOk, IfSome, Some, vec_len, vec_capacity};
 ghost use Rattle.mdns_base.specs.Outside.{Rose};
 ghost use Rattle.mdns_turn.specs.Models.{IsSeatOf};
 ghost use Rattle.mdns_server.specs.Endings.{MayFault, HasStopped, is_whole};
@@ -70,6 +70,11 @@ pub(crate) fn accept_started<R: Wait + Copy + Send + 'static, P: Place>(
     ensures place { MayFault (P.counted place.old) (P.counted place.new) }
     ensures stop { HasStopped P.Ear.faults (P.Door.over door.new) (P.Door.faults door.new) (P.Spawner.faults desk.new.spawner) result }
     ensures link { result ≡ Stop.Link → Rose (P.counted place.old).link_faults (P.counted place.new).link_faults }
+    ensures over { result ≢ Stop.Over → P.Door.over door.new ≡ P.Door.over door.old }
+    ensures door { result ≢ Stop.Door → P.Door.faults door.new ≡ P.Door.faults door.old }
+    ensures spawner { result ≢ Stop.Spawner → P.Spawner.faults desk.new.spawner ≡ P.Spawner.faults desk.old.spawner }
+    ensures started { result ≢ Stop.Spawner → started ≡ true }
+    ensures still { result ≢ Stop.Link → P.counted place.new ≡ P.counted place.old }
 {
     if started {
         accept_all(desk, seat, place, door)
@@ -91,6 +96,10 @@ fn accept_all<R: Wait + Copy + Send + 'static, P: Place>(
     ensures place { MayFault (P.counted place.old) (P.counted place.new) }
     ensures stop { HasStopped P.Ear.faults (P.Door.over door.new) (P.Door.faults door.new) (P.Spawner.faults desk.new.spawner) result }
     ensures link { result ≡ Stop.Link → Rose (P.counted place.old).link_faults (P.counted place.new).link_faults }
+    ensures over { result ≢ Stop.Over → P.Door.over door.new ≡ P.Door.over door.old }
+    ensures door { result ≢ Stop.Door → P.Door.faults door.new ≡ P.Door.faults door.old }
+    ensures spawner { result ≢ Stop.Spawner → P.Spawner.faults desk.new.spawner ≡ P.Spawner.faults desk.old.spawner }
+    ensures still { result ≢ Stop.Link → P.counted place.new ≡ P.counted place.old }
 {
     let rt = desk.common.rt;
     for _ in rt.forever() {
@@ -115,6 +124,10 @@ fn accept_one<R: Wait + Copy + Send + 'static, P: Place>(
     ensures place { MayFault (P.counted place.old) (P.counted place.new) }
     ensures stop { IfSome result (HasStopped P.Ear.faults (P.Door.over door.new) (P.Door.faults door.new) (P.Spawner.faults desk.new.spawner)) }
     ensures link { result ≡ Some Stop.Link → Rose (P.counted place.old).link_faults (P.counted place.new).link_faults }
+    ensures over { result ≢ Some Stop.Over → P.Door.over door.new ≡ P.Door.over door.old }
+    ensures door { result ≢ Some Stop.Door → P.Door.faults door.new ≡ P.Door.faults door.old }
+    ensures spawner { result ≢ Some Stop.Spawner → P.Spawner.faults desk.new.spawner ≡ P.Spawner.faults desk.old.spawner }
+    ensures still { result ≢ Some Stop.Link → P.counted place.new ≡ P.counted place.old }
 {
     let caller = match door.next() {
         Ok(Some(caller)) => caller,
@@ -146,6 +159,8 @@ fn let_in<R: Wait + Copy + Send + 'static, P: Place>(
     ensures place { MayFault (P.counted place.old) (P.counted place.new) }
     ensures link { result ≡ Welcome.Link → (seat.new ≡ seat.old) × Rose (P.counted place.old).link_faults (P.counted place.new).link_faults }
     ensures spawner { result ≡ Welcome.Spawner → 0 < P.Spawner.faults desk.new.spawner }
+    ensures quiet { result ≢ Welcome.Spawner → P.Spawner.faults desk.new.spawner ≡ P.Spawner.faults desk.old.spawner }
+    ensures still { result ≢ Welcome.Link → P.counted place.new ≡ P.counted place.old }
 {
     sweep(&mut desk.sessions, &desk.spawner);
     let Ok(parts) = make_halves(place) else {
@@ -176,6 +191,7 @@ fn make_ready<R: Wait + Copy, P: Place>(
     requires { IsSeatOf (arc_value desk.old.common.turn) seat.old }
     ensures seat { seat.new ≡ seat.old }
     ensures common { desk.new.common ≡ desk.old.common }
+    ensures quiet { P.Spawner.faults desk.new.spawner ≡ P.Spawner.faults desk.old.spawner }
     ensures room { IfOk result (λ _. vec_len desk.new.sessions < vec_capacity desk.new.sessions) }
     ensures reading { IfOk result (λ r. IsSeatOf (arc_value r.chairs.reading.common.turn) r.chairs.reading.seat) }
     ensures writing { IfOk result (λ r. IsSeatOf (arc_value r.chairs.writing.common.turn) r.chairs.writing.seat) }
@@ -210,6 +226,7 @@ fn open<R: Wait + Copy + Send + 'static, P: Place>(
     ensures opens { OpensOne seat.old seat.new }
     ensures link { result ≢ Welcome.Link }
     ensures spawner { result ≡ Welcome.Spawner → 0 < P.Spawner.faults desk.new.spawner }
+    ensures quiet { result ≢ Welcome.Spawner → P.Spawner.faults desk.new.spawner ≡ P.Spawner.faults desk.old.spawner }
 {
     let Some(session) = attach(&desk.common, seat, &mut desk.kit) else {
         turn_away::<P>(caller);

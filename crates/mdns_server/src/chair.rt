@@ -3,7 +3,7 @@ ghost use Rattle.std.specs.Arc.{arc_value};
 ghost use Rattle.std.specs.Prelude.{◌≡◌, IfOk};
 ghost use Rattle.mdns_turn.specs.Models.{IsSeatOf};
 
-use crate::slot::Slot;
+use crate::slot::{EndedEar, NewEar, Slot};
 use mdns_base::{Sink, Source};
 use mdns_outside::{Air, Clock, Ear, Gate, Words};
 use mdns_serve::{Common, Half, Kit, Shared, hear_loop, read_half, tick_loop, write_half};
@@ -89,17 +89,17 @@ impl<R: Wait + Copy> Chair<R> {
     /// Hears what comes to an ear, and then leaves the ear in the slot.
     pub(crate) fn hear<E: Ear + Drop, A: Air + Drop, C: Clock + Drop, W: Words + Drop>(
         self,
-        ear: E,
+        ear: NewEar<E>,
         kit: Kit<A, C, W>,
         slot: &Slot<E>,
     )
         requires { IsSeatOf (arc_value self.common.turn) self.seat }
     {
         let Chair { common, mut seat } = self;
-        let mut ear = ear;
+        let NewEar { mut ear } = ear;
         let mut kit = kit;
         let end = hear_loop(&common, &mut seat, &mut kit, &mut ear);
-        slot.leave(&common.rt, ear, end);
+        slot.leave(&common.rt, EndedEar { ear, end });
     }
 
     /// Ticks until the bell is closed.

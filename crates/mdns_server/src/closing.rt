@@ -1,8 +1,8 @@
 // The end of a server: it waits for what it started, and gives its parts back.
-ghost use Rattle.std.specs.Prelude.{◌≡◌, ◌⊎◌, true, false};
+ghost use Rattle.std.specs.Prelude.{◌≡◌, ◌≢◌, ◌⊎◌, true, false};
 ghost use Rattle.mdns_base.specs.Outside.{Rose};
 ghost use Rattle.mdns_outside.specs.Places.{Adds};
-ghost use Rattle.mdns_server.specs.Endings.{MayFault, Stays, HasStopped, IsLoopStatus, stop_status, is_ear};
+ghost use Rattle.mdns_server.specs.Endings.{MayFault, Stays, TakesBack, HasStopped, IsLoopStatus, stop_status, is_ear};
 
 use crate::accepting::Desk;
 use crate::slot::{EndedEar, Slot};
@@ -31,6 +31,10 @@ pub(crate) fn close<R: Wait + Copy, P: Place>(
     ensures spawner { result ≡ 10 → Rose (P.counted place.old).spawner_faults (P.counted place.new).spawner_faults }
     ensures link { result ≡ 11 → (stop ≡ Stop.Link) ⊎ Rose (P.counted place.old).link_faults (P.counted place.new).link_faults }
     ensures later { Stays (P.counted place.old).link_faults (P.counted place.new).link_faults }
+    ensures back { TakesBack (P.counted place.old) (P.counted place.new) (P.Door.faults door) (P.Door.over door) (P.Spawner.faults desk.spawner) }
+    ensures first { stop_status stop ≢ 0 → result ≡ stop_status stop }
+    ensures ear { stop_status stop ≡ 0 → (result ≡ 0) ⊎ (result ≡ 11) }
+    ensures quiet { result ≡ 0 → (P.counted place.new).link_faults ≡ (P.counted place.old).link_faults }
     ensures status { IsLoopStatus result }
 {
     let Desk {
@@ -83,6 +87,7 @@ fn return_ear<R: Wait, P: Place>(
     requires { HasStopped P.Ear.faults true 1 1 stop }
     ensures place { MayFault (P.counted place.old) (P.counted place.new) }
     ensures link { result ≡ 11 → Rose (P.counted place.old).link_faults (P.counted place.new).link_faults }
+    ensures quiet { result ≡ 0 → P.counted place.new ≡ P.counted place.old }
     ensures ear { result ≡ 0 → is_ear stop ≡ false }
     ensures status { (result ≡ 0) ⊎ (result ≡ 11) }
 {
@@ -100,6 +105,7 @@ fn return_ear<R: Wait, P: Place>(
 fn return_ended<P: Place>(place: &mut P, ended: EndedEar<P::Ear>) -> u8
     ensures place { MayFault (P.counted place.old) (P.counted place.new) }
     ensures link { result ≡ 11 → Rose (P.counted place.old).link_faults (P.counted place.new).link_faults }
+    ensures quiet { result ≡ 0 → P.counted place.new ≡ P.counted place.old }
     ensures status { (result ≡ 0) ⊎ (result ≡ 11) }
 {
     let EndedEar { ear, end } = ended;

@@ -3,6 +3,7 @@ ghost use Rattle.std.specs.Prelude.{◌≡◌, ◌⊎◌, false, IfOk, OnOk, IfE
 ghost use Rattle.mdns_outside.specs.Places.{MakesLink};
 ghost use Rattle.mdns_server.specs.Endings.{Ends, IsPartFault};
 
+use crate::slot::NewEar;
 use crate::status::{DOOR_FAULT, LINK_FAULT, SPAWN_FAULT};
 use mdns_base::Failed;
 use mdns_outside::Place;
@@ -20,15 +21,17 @@ pub(crate) struct HalfParts<P: Place> {
     pub writing_gate: P::Gate,
 }
 
-/// What a server works with.
+/// What a server works with. Door and spawner haven't failed yet, and the door isn't over.
 #[derive(Drop)]
 pub(crate) struct Parts<P: Place> {
     pub own: KitOf<P>,
     pub hearing: KitOf<P>,
     pub ticking: KitOf<P>,
-    pub ear: P::Ear,
+    pub ear: NewEar<P::Ear>,
     pub door: P::Door,
     pub spawner: P::Spawner,
+    ghost fresh_door: { (P.Door.faults door ≡ 0) × (P.Door.over door ≡ false) },
+    ghost fresh_spawner: { P.Spawner.faults spawner ≡ 0 },
 }
 
 // An air, a clock and words. They fail only with the link.
@@ -83,7 +86,7 @@ pub(crate) fn make_parts<P: Place>(place: &mut P) -> Result<Parts<P>, u8>
         own,
         hearing,
         ticking,
-        ear,
+        ear: NewEar { ear },
         door,
         spawner,
     })

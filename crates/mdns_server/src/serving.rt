@@ -4,7 +4,7 @@ ghost use Rattle.std.specs.Io.KnownBytes.{Appends};
 ghost use Rattle.std.specs.Prelude.{◌≡◌, ◌≢◌, ◌⊎◌, ℕ, IfOk, IfErr, OnOk, OnErr, Some, take};
 ghost use Rattle.mdns_base.specs.Outside.{Rose};
 ghost use Rattle.mdns_turn.specs.Models.{IsSeatOf};
-ghost use Rattle.mdns_server.specs.Endings.{Ends, IsServeStatus, IsLoopStatus, is_done, serving_line};
+ghost use Rattle.mdns_server.specs.Endings.{Ends, StaysCounted, IsServeStatus, IsLoopStatus, is_done, serving_line};
 ghost use Rattle.mdns_server.specs.Openings.{Opens};
 
 use crate::accepting::{Desk, accept_started};
@@ -12,7 +12,7 @@ use crate::booting::SharedDaemon;
 use crate::chair::{Chair, chair_beside};
 use crate::closing::close;
 use crate::making::{Parts, make_parts};
-use crate::slot::Slot;
+use crate::slot::{NewEar, Slot};
 use crate::starting::{Hearing, Ticking, start_loops};
 use crate::status::{NO_MEMORY, WRITE_FAULT};
 use mdns_base::Sink;
@@ -171,7 +171,7 @@ fn two_slots<E: Ear + Drop>(alloc: Global) -> Result<(Arc<Slot<E>>, Arc<Slot<E>>
 
 // Gives the parts back to the place; nothing was done with them.
 fn give_back<P: Place>(place: &mut P, parts: Parts<P>)
-    ensures { (P.counted place.new).plan ≡ (P.counted place.old).plan }
+    ensures { StaysCounted (P.counted place.old) (P.counted place.new) }
 {
     let Parts {
         ear,
@@ -179,6 +179,7 @@ fn give_back<P: Place>(place: &mut P, parts: Parts<P>)
         spawner,
         ..
     } = parts;
+    let NewEar { ear } = ear;
     place.ear_back(ear);
     place.door_back(door);
     place.spawner_back(spawner);

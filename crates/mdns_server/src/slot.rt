@@ -6,7 +6,14 @@ use mdns_outside::Ear;
 use mdns_serve::HearEnd;
 use std::sync::{Mutex, Wait};
 
-/// An ear whose loop has ended. After a fault of the link it has faults.
+/// An ear that hasn't failed yet.
+#[derive(Drop)]
+pub(crate) struct NewEar<E: Ear> {
+    pub ear: E,
+    ghost fresh: { E.faults ear ≡ 0 },
+}
+
+/// An ear whose loop has ended. It has faults exactly where that was for a fault of the link.
 #[derive(Drop)]
 pub(crate) struct EndedEar<E: Ear> {
     pub ear: E,
@@ -29,11 +36,9 @@ impl<E: Ear + Drop> Slot<E> {
     }
 
     /// Leaves an ear, and how its loop ended.
-    pub(crate) fn leave<R: Wait>(&self, rt: &R, ear: E, end: HearEnd)
-        requires { end ≡ HearEnd.LinkFault → 0 < E.faults ear }
-    {
+    pub(crate) fn leave<R: Wait>(&self, rt: &R, ended: EndedEar<E>) {
         let mut left = self.left.lock(rt);
-        *left = Some(EndedEar { ear, end });
+        *left = Some(ended);
     }
 
     /// Takes the ear, where one was left.
@@ -51,8 +56,7 @@ impl<E: Ear + Drop> Slot<E> {
             let EndedEar { ear, .. } = ended;
             return Some(ear);
         }
-        let mut left = self.left.lock(rt);
-        *left = Some(ended);
+        self.leave(rt, ended);
         None
     }
 }

@@ -1,10 +1,10 @@
 // The threads of a server: two for each session, one for the ear and one for the ticker.
 ghost use Rattle.std.specs.Arc.{arc_value};
-ghost use Rattle.std.specs.Prelude.{◌≡◌, ◌<◌, ◌≤◌, false, IfSome};
+ghost use Rattle.std.specs.Prelude.{◌≡◌, ◌<◌, ◌≤◌, true, false, None, IfSome};
 ghost use Rattle.mdns_turn.specs.Models.{IsSeatOf};
 
 use crate::chair::{Chair, Job};
-use crate::slot::Slot;
+use crate::slot::{NewEar, Slot};
 use mdns_base::{Sink, Source};
 use mdns_outside::{Air, Clock, Ear, Gate, Spawner, Words};
 use mdns_serve::Kit;
@@ -47,6 +47,7 @@ fn start<S: Spawner, F: FnOnce() + Send + 'static>(spawner: &mut S, work: F) -> 
     requires { F.pre work }
     ensures back { IfSome result.left (λ f. f ≡ work) }
     ensures cause { IfSome result.left (λ _. 0 < S.faults spawner.new) }
+    ensures quiet { result.left ≡ None → S.faults spawner.new ≡ S.faults spawner.old }
     ensures later { S.faults spawner.old ≤ S.faults spawner.new }
 {
     match spawner.start(work) {
@@ -106,7 +107,8 @@ pub(crate) fn start_halves<
 >(spawner: &mut S, chairs: Chairs<R>, input: Job<I, A, C, W, G>, output: Job<O, A, C, W, G>) -> Pair
     requires reading { IsSeatOf (arc_value chairs.reading.common.turn) chairs.reading.seat }
     requires writing { IsSeatOf (arc_value chairs.writing.common.turn) chairs.writing.seat }
-    ensures { result.whole ≡ false → 0 < S.faults spawner.new }
+    ensures cause { result.whole ≡ false → 0 < S.faults spawner.new }
+    ensures quiet { result.whole ≡ true → S.faults spawner.new ≡ S.faults spawner.old }
 {
     let Chairs { reading, writing } = chairs;
     let read = move || -> ()
@@ -145,7 +147,7 @@ pub(crate) fn start_halves<
 #[derive(Drop)]
 pub(crate) struct Hearing<R, E: Ear, A, C, W> {
     pub chair: Chair<R>,
-    pub ear: E,
+    pub ear: NewEar<E>,
     pub kit: Kit<A, C, W>,
     pub slot: Arc<Slot<E>>,
 }
@@ -168,7 +170,8 @@ pub(crate) fn start_loops<
 >(spawner: &mut S, hearing: Hearing<R, E, A, C, W>, ticking: Ticking<R, A, C, W>) -> Pair
     requires hearing { IsSeatOf (arc_value hearing.chair.common.turn) hearing.chair.seat }
     requires ticking { IsSeatOf (arc_value ticking.chair.common.turn) ticking.chair.seat }
-    ensures { result.whole ≡ false → 0 < S.faults spawner.new }
+    ensures cause { result.whole ≡ false → 0 < S.faults spawner.new }
+    ensures quiet { result.whole ≡ true → S.faults spawner.new ≡ S.faults spawner.old }
 {
     let Hearing {
         chair,

@@ -6,6 +6,7 @@ pub returns-in-None : goal.returns-in-None
 returns-in-None g c = record {
   place = faults_none _;
   link = search rules;
+  quiet = search rules;
   ear = search rules;
   status = search rules;
 }
