@@ -1,5 +1,5 @@
 -- Counts of a place that rise.
-use Rattle.std.proofs.Common.{arith, ◌≡◌, ◌∙◌, inl, inr, ℕ, suc, Bool, true, false, Option, refl, sym, ap, subst, Result, Ok, Err, if◌then◌else◌}
+use Rattle.std.proofs.Common.{arith, ◌≡◌, ◌∙◌, inl, inr, ℕ, suc, Bool, false, Option, refl, sym, ap, subst, Result, Ok, Err, if◌then◌else◌}
 use Rattle.std.specs.Prelude.{◌≢◌, ◌⊎◌}
 use Rattle.mdns_base.specs.Outside.{Rose}
 use Rattle.mdns_outside.specs.Places.{Counted, risen, counting, MakesLink, MakesDoor, MakesSpawner, TakesDoor, TakesSpawner, TakesEar}
