@@ -27,9 +27,13 @@ def ran(program, rows, **more):
         return status, out.read()
 
 
+# What a row says of a part in memory that failed, of a connection that did, and of one that tells no more what it has.
+FAILURES = (b" = failed", b" = peer fault", b" = untold")
+
+
 def is_failure(said, rest):
     """Whether the first line that isn't as it was says that a part failed."""
-    return next((one.endswith(b" = failed") for one, other in zip(said.splitlines(), rest.splitlines()) if one != other), False)
+    return next((one.endswith(FAILURES) for one, other in zip(said.splitlines(), rest.splitlines()) if one != other), False)
 
 
 def kind_of(ended, said, rest):
