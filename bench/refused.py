@@ -8,14 +8,13 @@ PROGRAM is crates/mdnsd/out/mdnsd where none is given, and the scripts are those
 (cc): a small library that is loaded before the program forks it at each allocation, and in the fork refuses that one and lets it run to its
 end. One table is printed; it ends with 1 where something else came. Nothing here is part of the gate.
 """
+import functools
 import glob
 import os
-import subprocess
 import sys
-import tempfile
 from collections import Counter
 
-from refusing import library
+from refusing import refusals, report
 from tools import TOP
 
 # Each line of the log has the number of the allocation, how the fork ended, and how many bytes the program had put out before it.
@@ -73,49 +72,21 @@ static int is_refused(void) {
 """
 
 
-def played(program, script, **more):
-    """The status and the output of a script."""
-    with open(script, "rb") as held, tempfile.TemporaryFile() as out:
-        ran = subprocess.run([program, "script"], stdin=held, stdout=out, stderr=subprocess.DEVNULL, check=False, **more)
-        out.seek(0)
-        return ran.returncode, out.read()
-
-
-def tried(program, refusing, script):
-    """Refuses each allocation of a script; how many there were, how the forks ended, and what was wrong."""
-    whole = played(program, script)
-    with tempfile.TemporaryDirectory(prefix="refused-") as folder:
-        seen = played(program, script, env={**os.environ, "LD_PRELOAD": refusing, "REFUSED_IN": folder})
-        wrong = [] if seen == whole else ["the run itself gave something else"]
-        ends, count = Counter(), 0
-        with open(f"{folder}/log", encoding="utf-8") as log:
-            for line in log:
-                number, status, before = map(int, line.split())
-                count += 1
-                ended = os.waitstatus_to_exitcode(status)
-                ends[ended] += 1
-                with open(f"{folder}/{number}", "rb") as put:
-                    said = put.read()
-                rest = whole[1][before:]
-                if (ended != 6 or not rest.startswith(said)) and (ended, said) != (whole[0], rest):
-                    wrong.append(f"allocation {number}: ended with {ended}")
-    return count, ends, wrong
+def tried(program, script, refusing):
+    """Refuses each allocation of a script: the cells of its row, and what was wrong."""
+    ends, wrong = Counter(), []
+    for number, ended, said, rest in refusals([program, "script"], script, refusing):
+        ends[ended] += 1
+        if (ended != 6 or not rest.startswith(said)) and (ended, said) != (0, rest):
+            wrong.append(f"allocation {number}: ended with {ended}")
+    return [os.path.basename(script), sum(ends.values()), ends[6], ends[0]], wrong
 
 
 def main(words):
     program = words[0] if words else f"{TOP}/crates/mdnsd/out/mdnsd"
     scripts = words[1:] or sorted(it for it in glob.glob(f"{TOP}/examples/*.script") if os.path.isfile(it.replace(".script", ".transcript")))
-    failed = False
-    print("| Script | Allocations, each refused once | Ended with 6 and a beginning of the output | Did without, with 0 and all of it |\n|---|---|---|---|")
-    with tempfile.TemporaryDirectory(prefix="refused-") as folder:
-        refusing = library(folder, IS_REFUSED)
-        for script in scripts:
-            count, ends, wrong = tried(program, refusing, script)
-            print(f"| {os.path.basename(script)} | {count} | {ends[6]} | {ends[0]} |", flush=True)
-            for it in wrong[:8]:
-                print(f"wrong: {script}: {it}", file=sys.stderr)
-            failed = failed or bool(wrong)
-    return 1 if failed else 0
+    heads = ["Script", "Allocations, each refused once", "Ended with 6 and a beginning of the output", "Did without, with 0 and all of it"]
+    return report(heads, IS_REFUSED, scripts, functools.partial(tried, program))
 
 
 if __name__ == "__main__":

@@ -2,7 +2,10 @@
 
 Nothing here is part of the gate.
 """
+import os
 import subprocess
+import sys
+import tempfile
 
 # `is_refused` stands before this, and says whether the allocation that is being made is to be refused.
 WRAPPERS = r"""
@@ -39,3 +42,41 @@ def library(folder, is_refused):
         out.write("#define _GNU_SOURCE\n#include <dlfcn.h>\n" + is_refused + WRAPPERS)
     subprocess.run(["cc", "-O1", "-shared", "-fPIC", "-o", made, source, "-ldl"], check=True)
     return made
+
+
+def put_out(words, source, **more):
+    """The status and the output of a program whose input is a file."""
+    with open(source, "rb") as held, tempfile.TemporaryFile() as out:
+        status = subprocess.run(words, stdin=held, stdout=out, stderr=subprocess.DEVNULL, check=False, **more).returncode
+        out.seek(0)
+        return status, out.read()
+
+
+def refusals(words, source, refusing):
+    """Of a run that forks at each allocation, where the fork is refused it: its number, how the fork ended, what it put out, and what the run
+    itself put out from there on."""
+    whole = put_out(words, source)
+    with tempfile.TemporaryDirectory(prefix="refused-") as folder:
+        if put_out(words, source, env={**os.environ, "LD_PRELOAD": refusing, "REFUSED_IN": folder}) != whole:
+            sys.exit(f"{words[0]}: the run itself gave something else")
+        with open(f"{folder}/log", encoding="utf-8") as log:
+            for line in log:
+                number, status, before = map(int, line.split())
+                with open(f"{folder}/{number}", "rb") as put:
+                    yield number, os.waitstatus_to_exitcode(status), put.read(), whole[1][before:]
+                os.remove(f"{folder}/{number}")
+
+
+def report(heads, is_refused, subjects, tried):
+    """Prints a row for each subject, its name and the cells that `tried` makes of it and the library, and what was wrong; 1 where something was."""
+    print(f"| {' | '.join(heads)} |\n|{'---|' * len(heads)}")
+    failed = False
+    with tempfile.TemporaryDirectory(prefix="refused-") as folder:
+        refusing = library(folder, is_refused)
+        for subject in subjects:
+            cells, wrong = tried(subject, refusing)
+            print(f"| {' | '.join(map(str, cells))} |", flush=True)
+            for it in wrong[:8]:
+                print(f"wrong: {subject}: {it}", file=sys.stderr)
+            failed = failed or bool(wrong)
+    return 1 if failed else 0
