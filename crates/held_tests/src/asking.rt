@@ -129,10 +129,20 @@ fn carry_out(
     let mut sent = Sends::new(told.alloc);
     let sessions = Sessions::new(told.alloc);
     let plan = asking.plan(when, happened, walks, &sessions, &mut sent)?;
-    asking.reserve(&plan)?;
-    asking.apply(when, &plan, walks);
     told.put_count(", sent ", sent.as_slice().len())?;
-    put_plan(told, &plan)
+    apply(told, asking, when, &plan, walks)
+}
+
+fn apply(
+    told: &mut Told,
+    asking: &mut Asking,
+    when: When,
+    plan: &Plan,
+    walks: &[Walk],
+) -> Result<(), RowError> {
+    asking.reserve(plan)?;
+    asking.apply(when, plan, walks);
+    put_plan(told, plan)
 }
 
 // The walk of a name: its record, once it was heard.

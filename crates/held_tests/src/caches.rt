@@ -1,14 +1,12 @@
 // Rows of a cache of heard records.
 
 use crate::numbered::packet;
-use crate::read::{Packet, when};
-use dns_name::Name;
-use dns_record::Rr;
+use crate::read::{Packet, shared, when};
 use mdns_base::Moment;
 use mdns_cache::{Cache, HearError, Steps};
 use mdns_happened::When;
-use mdns_history::Held;
-use row_words::{RowError, Told, moment, name_of, number, records};
+use mdns_history::{Held, SharedRr};
+use row_words::{RowError, Told, moment, name_of, number};
 use std::alloc::AllocError;
 use std::sync::ledger::Ledger;
 
@@ -24,14 +22,8 @@ pub fn cache_row<L: Ledger>(
     row: &[&str],
 ) -> Result<(), RowError> {
     match row {
-        ["new", limit] => {
-            *cache = Cache::new(told.alloc, number::<u32>(*limit)? as usize, KEY)?;
-            told.put("done")
-        }
-        ["reserve", more] => {
-            cache.reserve(number::<u32>(*more)? as usize)?;
-            told.put("done")
-        }
+        ["new", limit] => renew(told, cache, *limit),
+        ["reserve", more] => reserve(told, cache, *more),
         ["hear", now, word, heard] => {
             let packet = Packet::read(told.alloc, *now, *word, *heard)?;
             tell_hearing(told, cache, steps, packet)
@@ -40,20 +32,27 @@ pub fn cache_row<L: Ledger>(
             let when = when(*now, *word)?;
             fill(told, cache, steps, when, number(*count)?)
         }
-        ["visit", name, place] => {
-            let place = number::<u32>(*place)? as usize;
-            tell_visit(told, cache, steps, &name_of(*name)?, place)
-        }
+        ["visit", name, place] => tell_visit(told, cache, steps, *name, *place),
         _ => cache_look(told, cache, row),
     }
+}
+
+fn renew(told: &mut Told, cache: &mut Cache, limit: &str) -> Result<(), RowError> {
+    *cache = Cache::new(told.alloc, number::<u32>(limit)? as usize, KEY)?;
+    told.put("done")
+}
+
+fn reserve(told: &mut Told, cache: &mut Cache, more: &str) -> Result<(), RowError> {
+    cache.reserve(number::<u32>(more)? as usize)?;
+    told.put("done")
 }
 
 // A row that changes nothing.
 fn cache_look(told: &mut Told, cache: &Cache, row: &[&str]) -> Result<(), RowError> {
     match row {
         ["fits", now, heard] => {
-            let heard = records(told.alloc, *heard)?;
-            tell_room(told, cache, moment(*now)?, &heard)
+            let heard = shared(told.alloc, *heard)?;
+            tell_room(told, cache, moment(*now)?, heard.as_slice())
         }
         ["count"] => told.put_count("", cache.len()),
         ["empty"] => told.put_yes(cache.is_empty()),
@@ -74,13 +73,19 @@ fn tell_visit<L: Ledger>(
     told: &mut Told,
     cache: &Cache,
     steps: &mut Steps<L>,
-    name: &Name,
-    place: usize,
+    name: &str,
+    place: &str,
 ) -> Result<(), RowError> {
-    told.put_yes(cache.visit(name, place, steps).is_some())
+    let place = number::<u32>(place)? as usize;
+    told.put_yes(cache.visit(&name_of(name)?, place, steps).is_some())
 }
 
-fn tell_room(told: &mut Told, cache: &Cache, now: Moment, heard: &[Rr]) -> Result<(), RowError> {
+fn tell_room(
+    told: &mut Told,
+    cache: &Cache,
+    now: Moment,
+    heard: &[SharedRr],
+) -> Result<(), RowError> {
     told.put_yes(cache.fits(now, heard))
 }
 

@@ -1,10 +1,11 @@
 // Rows of the records that are held, and of how an event changes those of a name.
 
 use crate::numbered::of_names;
-use crate::read::Packet;
+use crate::read::{Packet, when};
 use dns_name::Name;
 use mdns_base::Moment;
 use mdns_cache::Steps;
+use mdns_happened::Walk;
 use mdns_history::Held;
 use mdns_records::Records;
 use row_words::{RowError, Told, name_of, number};
@@ -23,39 +24,61 @@ pub fn held_row<L: Ledger>(
     row: &[&str],
 ) -> Result<(), RowError> {
     match row {
-        ["new"] => {
-            *held = Records::new(told.alloc, WORD)?;
-            told.put("done")
-        }
-        ["hear", now, word, name, heard] => {
-            let packet = Packet::read(told.alloc, *now, *word, *heard)?;
-            hear(told, held, steps, packet, name_of(*name)?)
-        }
-        ["fill", now, word, count] => {
-            let mut packet = Packet::read(told.alloc, *now, *word, "-")?;
-            packet.heard = of_names(told.alloc, number(*count)?)?;
-            told.put("done")?;
-            carry_out(told, held, steps, packet)
-        }
-        ["looks", now, word, heard] => {
-            let packet = Packet::read(told.alloc, *now, *word, *heard)?;
-            tell_looks(told, held, steps, &packet)?;
-            carry_out(told, held, steps, packet)
-        }
+        ["new"] => renew(told, held),
+        ["hear", row @ ..] => hear(told, held, steps, row),
+        ["fill", row @ ..] => fill(told, held, steps, row),
+        ["looks", row @ ..] => look(told, held, steps, row),
         ["next"] => told.put_number(held.next_end()),
         _ => Err(RowError::NotUnderstood),
     }
+}
+
+fn renew(told: &mut Told, held: &mut Records) -> Result<(), RowError> {
+    *held = Records::new(told.alloc, WORD)?;
+    told.put("done")
 }
 
 fn hear<L: Ledger>(
     told: &mut Told,
     held: &mut Records,
     steps: &mut Steps<L>,
-    packet: Packet,
-    name: Name,
+    row: &[&str],
 ) -> Result<(), RowError> {
+    let [now, word, name, heard] = row else {
+        return Err(RowError::NotUnderstood);
+    };
+    let packet = Packet::read(told.alloc, *now, *word, *heard)?;
     tell_touched(told, held, &packet)?;
-    tell_walk(told, held, steps, &packet, name)?;
+    tell_walk(told, held, steps, &packet, name_of(*name)?)?;
+    carry_out(told, held, steps, packet)
+}
+
+fn fill<L: Ledger>(
+    told: &mut Told,
+    held: &mut Records,
+    steps: &mut Steps<L>,
+    row: &[&str],
+) -> Result<(), RowError> {
+    let [now, word, count] = row else {
+        return Err(RowError::NotUnderstood);
+    };
+    told.put("done")?;
+    let when = when(*now, *word)?;
+    let heard = of_names(told.alloc, number(*count)?)?;
+    carry_out(told, held, steps, Packet { when, heard })
+}
+
+fn look<L: Ledger>(
+    told: &mut Told,
+    held: &mut Records,
+    steps: &mut Steps<L>,
+    row: &[&str],
+) -> Result<(), RowError> {
+    let [now, word, heard] = row else {
+        return Err(RowError::NotUnderstood);
+    };
+    let packet = Packet::read(told.alloc, *now, *word, *heard)?;
+    tell_looks(told, held, steps, &packet)?;
     carry_out(told, held, steps, packet)
 }
 
@@ -75,7 +98,12 @@ fn tell_walk<L: Ledger>(
 ) -> Result<(), RowError> {
     let mut names = Vec::new(told.alloc);
     names.push(name)?;
-    for walk in held.walk(packet.when, packet.heard.as_slice(), names, steps)? {
+    let walks = held.walk(packet.when, packet.heard.as_slice(), names, steps)?;
+    put_walks(told, &walks)
+}
+
+fn put_walks(told: &mut Told, walks: &[Walk]) -> Result<(), RowError> {
+    for walk in walks {
         put_ends(told, ", before", &walk.earlier)?;
         put_ends(told, ", after", &walk.later)?;
     }

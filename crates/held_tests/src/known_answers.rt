@@ -5,7 +5,7 @@ use bytes::Bytes;
 use dns_message::Rrs;
 use dns_record::{Key, Rdata, Rr};
 use mdns_base::Moment;
-use mdns_history::Held;
+use mdns_history::{Held, SharedRr};
 use mdns_known::{all_known_answers, known_answers, suppresses};
 use row_words::{RowError, Told, key, name_of, number, record};
 use std::alloc::Global;
@@ -80,7 +80,7 @@ fn tell_long(told: &mut Told, size: u32) -> Result<(), RowError> {
         rdata: Rdata::Txt(Bytes::from_vec(vec![in alloc; 0u8; size as usize]?)?),
     };
     let held = Held {
-        rr,
+        rr: SharedRr::new(alloc, rr)?,
         heard: Moment::default(),
         word: 0,
         end: 120_000,

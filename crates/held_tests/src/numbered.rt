@@ -1,8 +1,8 @@
 // Records that are many and soon told apart.
 
-use dns_message::Rrs;
 use dns_name::{Label, Name};
 use dns_record::{Rdata, Rr};
+use mdns_history::{SharedRr, SharedRrs};
 use row_words::RowError;
 use std::alloc::Global;
 
@@ -15,21 +15,22 @@ const LETTERS: &[u8] =
 
 /// The packet at a place, counted from 0, of numbered records. The first record of the first packet lives for a second, and each
 /// other one for two minutes.
-pub fn packet(alloc: Global, place: u32) -> Result<Rrs, RowError> {
+pub fn packet(alloc: Global, place: u32) -> Result<SharedRrs, RowError> {
     let first = place.checked_mul(PACKET).ok_or(RowError::NotUnderstood)?;
-    let mut rrs = Rrs::new(alloc);
+    let mut rrs = SharedRrs::new(alloc);
     for within in 0..PACKET {
         let number = first.saturating_add(within);
-        rrs.push(numbered(number, if number == 0 { 1 } else { 120 })?)?;
+        let ttl = if number == 0 { 1 } else { 120 };
+        rrs.push(SharedRr::new(alloc, numbered(number, ttl)?)?)?;
     }
     Ok(rrs)
 }
 
 /// So many records of as many names, up to 2016, which live for two minutes.
-pub fn of_names(alloc: Global, count: u32) -> Result<Rrs, RowError> {
-    let mut rrs = Rrs::new(alloc);
+pub fn of_names(alloc: Global, count: u32) -> Result<SharedRrs, RowError> {
+    let mut rrs = SharedRrs::new(alloc);
     for number in 0..count {
-        rrs.push(numbered(number, 120)?)?;
+        rrs.push(SharedRr::new(alloc, numbered(number, 120)?)?)?;
     }
     Ok(rrs)
 }

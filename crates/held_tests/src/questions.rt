@@ -4,6 +4,7 @@ use crate::causes::put_cause;
 use crate::read::{held, when};
 use dns_record::Key;
 use mdns_base::Moment;
+use mdns_happened::When;
 use mdns_history::{Cause, Held};
 use mdns_question::{Asker, first_refresh};
 use row_words::{RowError, Told, key, moment, number};
@@ -29,28 +30,35 @@ impl Asked {
     /// the one record that is held, and `forget` drops what a question was told of it.
     pub fn row(&mut self, told: &mut Told, row: &[&str]) -> Result<(), RowError> {
         match row {
-            ["new"] => {
-                *self = Asked::new(told.alloc);
-                told.put("done")
-            }
-            ["reserve", more] => {
-                self.asker.reserve(number::<u32>(*more)? as usize)?;
-                told.put("done")
-            }
-            ["start", now, word, question] => {
-                let when = when(*now, *word)?;
-                self.asker.start(when.at(), when.word, &key(*question)?)?;
-                told.put("done")
-            }
+            ["new"] => self.renew(told),
+            ["reserve", more] => self.reserve(told, *more),
+            ["start", now, word, question] => self.start(told, when(*now, *word)?, *question),
             ["stop", question] => told.put_yes(self.asker.stop(&key(*question)?)),
             ["hold", record] => self.hold(told, *record),
-            ["forget", question] => {
-                self.asker.tell(&key(*question)?, None);
-                told.put("done")
-            }
+            ["forget", question] => self.forget(told, *question),
             ["ask", now] => self.ask(told, number(*now)?),
             _ => self.look(told, row),
         }
+    }
+
+    fn renew(&mut self, told: &mut Told) -> Result<(), RowError> {
+        *self = Asked::new(told.alloc);
+        told.put("done")
+    }
+
+    fn reserve(&mut self, told: &mut Told, more: &str) -> Result<(), RowError> {
+        self.asker.reserve(number::<u32>(more)? as usize)?;
+        told.put("done")
+    }
+
+    fn start(&mut self, told: &mut Told, when: When, question: &str) -> Result<(), RowError> {
+        self.asker.start(when.at(), when.word, &key(question)?)?;
+        told.put("done")
+    }
+
+    fn forget(&mut self, told: &mut Told, question: &str) -> Result<(), RowError> {
+        self.asker.tell(&key(question)?, None);
+        told.put("done")
     }
 
     // A row that changes nothing.

@@ -1,8 +1,7 @@
 // What the words of a row spell.
 
-use dns_message::Rrs;
 use mdns_happened::When;
-use mdns_history::Held;
+use mdns_history::{Held, SharedRr, SharedRrs};
 use row_words::{RowError, milliseconds, moment, number, record, records};
 use std::alloc::Global;
 
@@ -16,7 +15,7 @@ pub fn held(alloc: Global, text: &str) -> Result<Held, RowError> {
     let (text, life) = text.split_once(" from ").ok_or(RowError::NotUnderstood)?;
     let (heard, end) = life.split_once(" to ").ok_or(RowError::NotUnderstood)?;
     Ok(Held {
-        rr: record(alloc, text)?,
+        rr: SharedRr::new(alloc, record(alloc, text)?)?,
         heard: moment(heard)?,
         word: 0,
         end: milliseconds(end)?,
@@ -35,11 +34,20 @@ pub fn all_held(alloc: Global, text: &str) -> Result<Vec<Held>, RowError> {
     Ok(all)
 }
 
+/// Records as they are heard.
+pub fn shared(alloc: Global, text: &str) -> Result<SharedRrs, RowError> {
+    let mut heard = Vec::new(alloc);
+    for rr in records(alloc, text)? {
+        heard.push(SharedRr::new(alloc, rr)?)?;
+    }
+    Ok(SharedRrs::from_vec(heard))
+}
+
 /// The records of a packet, and when they are heard.
 #[derive(Drop)]
 pub struct Packet {
     pub when: When,
-    pub heard: Rrs,
+    pub heard: SharedRrs,
 }
 
 impl Packet {
@@ -47,7 +55,7 @@ impl Packet {
     pub fn read(alloc: Global, now: &str, word: &str, heard: &str) -> Result<Packet, RowError> {
         Ok(Packet {
             when: when(now, word)?,
-            heard: Rrs::from_vec(records(alloc, heard)?),
+            heard: shared(alloc, heard)?,
         })
     }
 }

@@ -17,11 +17,9 @@ use crate::heard::hear_all;
 use crate::holdings::Holdings;
 use crate::look::held_at;
 use crate::steps::Steps;
-use dns_message::Rrs;
 use dns_name::Name;
-use dns_record::Rr;
 use mdns_base::Moment;
-use mdns_history::Held;
+use mdns_history::{Held, SharedRr, SharedRrs};
 use std::alloc::{AllocError, Global};
 use std::marker::Model;
 use std::sync::ledger::Ledger;
@@ -98,7 +96,7 @@ impl Cache {
     }
 
     /// Whether as many records may be live as would be after `hear` of these at `now`.
-    pub fn fits(&self, now: Moment, heard: &[Rr]) -> bool
+    pub fn fits(&self, now: Moment, heard: &[SharedRr]) -> bool
         ensures live { (past : List Hearing) (word : ℕ) → Stands self.now.held past now
             → IsTrue result ↔ (length (live_of (hearings_at now word heard.now ++ past) now) ≤ self.now.limit) }
         // The same, told of what is then held.
@@ -114,7 +112,7 @@ impl Cache {
     /// Hears the records of a packet, in their order, at `now` with the packet's random word. `Full` where more records
     /// than the limit would be live, and `NoMemory` only where there is no room for all of `heard`. After an `Err` the
     /// cache is as before. (RFC 6762 10, 10.1 and 10.2)
-    pub fn hear(&mut self, now: Moment, word: u32, heard: Rrs) -> Result<(), HearError>
+    pub fn hear(&mut self, now: Moment, word: u32, heard: SharedRrs) -> Result<(), HearError>
         requires live { AllLive now self.old.held }
 
         // It holds exactly the live records, for every list of hearings with these in front.

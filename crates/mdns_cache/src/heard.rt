@@ -19,7 +19,7 @@ use crate::look::same_near;
 use by_name::Place;
 use dns_record::Rr;
 use mdns_base::Moment;
-use mdns_history::Held;
+use mdns_history::{Held, SharedRr};
 
 /// Hears records one after another, where there is room for as many.
 pub fn hear_all(
@@ -27,7 +27,7 @@ pub fn hear_all(
     nodes: &mut [usize],
     now: Moment,
     word: u32,
-    mut heard: Vec<Rr>,
+    mut heard: Vec<SharedRr>,
 )
     requires filed { AreFiled records.old.entries }
     requires once { AreOnce (values_of records.old.entries) }
@@ -57,7 +57,7 @@ fn hear_one(
     records: &mut Holdings,
     nodes: &mut [usize],
     one: Held,
-    later: &[Rr],
+    later: &[SharedRr],
     near: usize,
 ) -> usize
     requires renewed { one ≡ renewed (hearing_at one.heard one.word one.rr) }
@@ -73,8 +73,9 @@ fn hear_one(
     ensures room { length records.new.entries + records.new.spare ≡ length records.old.entries + records.old.spare }
     ensures spare { records.old.spare ≤ records.new.spare + 1 }
 {
-    shorten(records, nodes, one.heard, &one.rr, later);
-    if one.rr.ttl > 0 {
+    let rr: &Rr = &one.rr;
+    shorten(records, nodes, one.heard, rr, later);
+    if rr.ttl > 0 {
         renew(records, nodes, one, near)
     } else {
         near
@@ -82,7 +83,7 @@ fn hear_one(
 }
 
 // Cuts the lives of records to a second where a hearing does so: a goodbye does, and a flush that isn't put off.
-fn shorten(records: &mut Holdings, nodes: &mut [usize], now: Moment, rr: &Rr, later: &[Rr])
+fn shorten(records: &mut Holdings, nodes: &mut [usize], now: Moment, rr: &Rr, later: &[SharedRr])
     requires filed { AreFiled records.old.entries }
     requires once { AreOnce (values_of records.old.entries) }
     requires played { IsPlayed (values_of records.old.entries) [] nodes.old }
@@ -102,14 +103,14 @@ fn shorten(records: &mut Holdings, nodes: &mut [usize], now: Moment, rr: &Rr, la
 }
 
 // Whether a record has the flush bit, and none of those that are heard behind it flushes the same.
-fn is_flush_now(rr: &Rr, later: &[Rr]) -> bool
+fn is_flush_now(rr: &Rr, later: &[SharedRr]) -> bool
     ensures { result ≡ (rr.now.flush && not (is_flushed_by rr.now later.now)) }
 {
     rr.flush && !is_flushed_by(rr, later)
 }
 
 // Whether one of some records flushes the same as this one would.
-fn is_flushed_by(rr: &Rr, later: &[Rr]) -> bool
+fn is_flushed_by(rr: &Rr, later: &[SharedRr]) -> bool
     ensures { result ≡ is_flushed_by rr.now later.now }
 {
     later.iter().any(|other| flushes_same(other, rr))
@@ -194,7 +195,7 @@ fn cut_at(records: &mut Holdings, nodes: &mut [usize], index: usize, now: Moment
     mend_changed(nodes, records.values(), index);
 }
 
-fn renewed(now: Moment, word: u32, rr: Rr) -> Held
+fn renewed(now: Moment, word: u32, rr: SharedRr) -> Held
     ensures { result ≡ renewed (hearing_at now word rr) }
 {
     let end = now.ms() + rr.ttl_ms();

@@ -30,13 +30,12 @@ ghost use Rattle.mdns_responding.specs.Told.{announced_told, responses_told};
 
 use crate::parts::Parts;
 use crate::reading::{Reading, read_event};
-use dns_message::Rrs;
 use dns_name::Name;
 use mdns_asking::Plan as AskingPlan;
 use mdns_cache::Steps;
 use mdns_claims::{Behind, Claims, Plan as ClaimsPlan};
 use mdns_happened::{Around, Happened, OwnWalk, Walk, When};
-use mdns_history::{Event, Gifts, Marks, Sends};
+use mdns_history::{Event, Gifts, Marks, Sends, SharedRrs};
 use mdns_owing::{Multicasts, Ours, Query};
 use mdns_reply::multicasts;
 use mdns_responding::Responder;
@@ -50,7 +49,7 @@ use std::sync::ledger::Ledger;
 #[derive(Drop)]
 pub struct Plan<'a> {
     pub happened: Happened<'a>,
-    pub heard: Rrs,
+    pub heard: SharedRrs,
     pub claims: ClaimsPlan,
     pub walks: Vec<Walk>,
     pub asking: AskingPlan,

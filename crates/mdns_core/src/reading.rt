@@ -14,12 +14,11 @@ ghost use Rattle.sd_sessions.specs.Kept.{IsWellFormedCall};
 
 use crate::outcomes::{boot, take, tick};
 use crate::plan::Kept;
-use dns_message::{Message, MessageError, Rrs, read};
-use dns_record::put_copies;
+use dns_message::{Message, MessageError, read};
 use mdns_base::{Host, MDNS_PORT};
 use mdns_claims::Claims;
 use mdns_happened::{Happened, Heard, Idle, Refusal, When};
-use mdns_history::{Event, Mark};
+use mdns_history::{Event, Mark, SharedRrs, put_shared};
 use mdns_records::Records;
 use sd_call::{Request, well_formed};
 use sd_operations::Registering;
@@ -29,7 +28,7 @@ use std::alloc::{AllocError, Global};
 #[derive(Drop)]
 pub struct Reading<'a> {
     pub happened: Happened<'a>,
-    pub heard: Rrs,
+    pub heard: SharedRrs,
 }
 
 /// Reads an event, told of what is kept before it. Nothing else reads it. Refused only for want of memory.
@@ -93,7 +92,7 @@ fn brings_nothing(alloc: Global, happened: Happened<'_>) -> Result<Reading<'_>, 
 {
     Ok(Reading {
         happened,
-        heard: Rrs::new(alloc),
+        heard: SharedRrs::new(alloc),
     })
 }
 
@@ -171,14 +170,14 @@ fn is_ignored(from: &Host, message: &Message) -> bool
     message.opcode != 0 || message.rcode != 0 || (message.response && from.port != MDNS_PORT)
 }
 
-// The records of a response, copied: those of its answer section, then those of its additional one.
-fn records_of(alloc: Global, message: &Message) -> Result<Rrs, AllocError>
+// The records of a response, to be shared: those of its answer section, then those of its additional one.
+fn records_of(alloc: Global, message: &Message) -> Result<SharedRrs, AllocError>
     ensures { IfOk result (λ rrs. rrs ≡ (if message.now.response then message.now.answers ++ message.now.additional else [])) }
 {
     let mut records = Vec::new(alloc);
     if message.response {
-        put_copies(&mut records, message.answers.as_slice())?;
-        put_copies(&mut records, message.additional.as_slice())?;
+        put_shared(alloc, &mut records, message.answers.as_slice())?;
+        put_shared(alloc, &mut records, message.additional.as_slice())?;
     }
-    Ok(Rrs::from_vec(records))
+    Ok(SharedRrs::from_vec(records))
 }

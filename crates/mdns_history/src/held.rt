@@ -3,6 +3,7 @@ ghost use Rattle.std.specs.Prelude.{◌≡◌, ◌≤◌, filter, vec_len, vec_c
 ghost use Rattle.mdns_history.specs.Lifetimes.{cuts, is_other, is_live_at, is_uncut};
 ghost use Rattle.mdns_history.specs.Asking.{is_half_fresh};
 
+use crate::shared::SharedRr;
 use dns_record::Rr;
 use mdns_base::Moment;
 use std::alloc::{AllocError, Global};
@@ -10,7 +11,7 @@ use std::alloc::{AllocError, Global};
 /// A heard record that is live until its end, in ms, as its last hearing spells it. (RFC 6762 10)
 #[derive(Drop)]
 pub struct Held {
-    pub rr: Rr,
+    pub rr: SharedRr,
     /// The moment of its last hearing with a TTL above 0.
     pub heard: Moment,
     /// The random word of that hearing.
@@ -25,7 +26,7 @@ impl Held {
         ensures { IfOk result (λ copy. copy ≡ self.now) }
     {
         Ok(Held {
-            rr: self.rr.copy()?,
+            rr: self.rr.share()?,
             heard: self.heard,
             word: self.word,
             end: self.end,

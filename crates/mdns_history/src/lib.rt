@@ -11,6 +11,7 @@ mod operation;
 mod print;
 mod print_event;
 mod print_sent;
+mod shared;
 
 pub use config::{Config, HostConfig};
 pub use entry::{Entry, Gifts, Given, Items, Outcome, Sends, Sent};
@@ -20,3 +21,4 @@ pub use laws::{good_calls_succeed, items_replay, one_entry_fits, print_is_one_to
 pub use mark::{Cause, Mark, Marks};
 pub use operation::{Operation, Operations};
 pub use print::print_entry;
+pub use shared::{SharedRr, SharedRrs, put_shared};

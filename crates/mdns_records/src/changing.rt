@@ -7,9 +7,9 @@ ghost use Rattle.mdns_cache.specs.Lifetimes.{hearings_at, Holds, AllLive, AllHea
 ghost use Rattle.mdns_records.specs.After.{held_after};
 ghost use Rattle.mdns_records.specs.Visits.{ended_in};
 
-use dns_message::Rrs;
 use mdns_base::Moment;
 use mdns_cache::{Cache, Steps};
+use mdns_history::SharedRrs;
 use std::sync::ledger::Ledger;
 
 /// Takes out what has ended and hears these records, where there is room for them.
@@ -17,7 +17,7 @@ pub fn change<L: Ledger>(
     cache: &mut Cache,
     now: Moment,
     word: u32,
-    heard: Rrs,
+    heard: SharedRrs,
     steps: &mut Steps<L>,
 )
     requires room { length heard ≤ cache.old.spare }

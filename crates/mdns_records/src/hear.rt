@@ -4,11 +4,10 @@ ghost use Rattle.mdns_history.specs.Lifetimes.{cuts, is_live_at, is_other};
 ghost use Rattle.mdns_cache.specs.Lifetimes.{hearing_at, shortened, renewed, after_hearing};
 ghost use Rattle.mdns_records.specs.After.{held_after, after_rest, is_named};
 
-use crate::copies::{put_copy, put_held};
 use dns_name::Name;
 use dns_record::Rr;
 use mdns_happened::When;
-use mdns_history::{Held, drop_same};
+use mdns_history::{Held, SharedRr, drop_same};
 use std::alloc::{AllocError, Global};
 
 /// The records of a name after an event that brings these records, made of those before it. Refused only for want of memory.
@@ -17,7 +16,7 @@ pub fn heard_copy(
     earlier: &[Held],
     name: &Name,
     when: When,
-    heard: &[Rr],
+    heard: &[SharedRr],
 ) -> Result<Vec<Held>, AllocError>
     ensures { IfOk result (λ later. later.items ≡ held_after when.moment when.word (filter (is_named name.now) heard.now) earlier.now) }
 {
@@ -35,7 +34,7 @@ pub fn heard_copy(
 }
 
 // The place of the first of some records that is of a name.
-fn first_of(name: &Name, heard: &[Rr]) -> Option<usize>
+fn first_of(name: &Name, heard: &[SharedRr]) -> Option<usize>
     ensures is { result ≡ position (is_named name.now) heard.now }
     ensures within { IfSome result (λ first. first < length heard.now) }
 {
@@ -47,16 +46,17 @@ fn first_heard_copy(
     alloc: Global,
     earlier: &[Held],
     when: When,
-    rr: &Rr,
+    rr: &SharedRr,
 ) -> Result<Vec<Held>, AllocError>
     ensures { IfOk result (λ later. later.items ≡ after_hearing (filter (is_live_at when.moment) earlier.now) (hearing_at when.moment when.word rr.now)) }
 {
-    if rr.ttl == 0 {
+    let one: &Rr = rr;
+    if one.ttl == 0 {
         let mut later = live_copies(alloc, earlier, when)?;
-        shorten(&mut later, when, rr);
+        shorten(&mut later, when, one);
         return Ok(later);
     }
-    let mut later = other_copies(alloc, earlier, when, rr)?;
+    let mut later = other_copies(alloc, earlier, when, one)?;
     renew(&mut later, when, rr)?;
     Ok(later)
 }
@@ -68,7 +68,7 @@ fn live_copies(alloc: Global, held: &[Held], when: When) -> Result<Vec<Held>, Al
     let mut live = Vec::with_capacity(alloc, held.len())?;
     for one in held {
         if one.is_live(when.at()) {
-            put_copy(&mut live, one)?;
+            live.push(one.copy()?)?;
         }
     }
     Ok(live)
@@ -81,7 +81,7 @@ fn other_copies(alloc: Global, held: &[Held], when: When, rr: &Rr) -> Result<Vec
     let mut live = Vec::with_capacity(alloc, held.len().saturating_add(1))?;
     for one in held {
         if is_live_other(one, when, rr) {
-            put_copy(&mut live, one)?;
+            live.push(one.copy()?)?;
         }
     }
     Ok(live)
@@ -95,7 +95,12 @@ fn is_live_other(one: &Held, when: When, rr: &Rr) -> bool
 }
 
 // Hears those of the records that are of a name, one after another.
-fn hear_all(held: &mut Vec<Held>, name: &Name, when: When, heard: &[Rr]) -> Result<(), AllocError>
+fn hear_all(
+    held: &mut Vec<Held>,
+    name: &Name,
+    when: When,
+    heard: &[SharedRr],
+) -> Result<(), AllocError>
     ensures { OnOk result (held.new.items ≡ after_rest when.moment when.word name.now held.old.items heard.now) }
 {
     for rr in heard {
@@ -107,7 +112,7 @@ fn hear_all(held: &mut Vec<Held>, name: &Name, when: When, heard: &[Rr]) -> Resu
 }
 
 // Hears one record: what it is the same as is dropped, other lives are cut, and it is held itself, copied.
-fn hear_one(held: &mut Vec<Held>, when: When, rr: &Rr) -> Result<(), AllocError>
+fn hear_one(held: &mut Vec<Held>, when: When, rr: &SharedRr) -> Result<(), AllocError>
     ensures { OnOk result (held.new.items ≡ after_hearing held.old.items (hearing_at when.moment when.word rr.now)) }
 {
     if rr.ttl == 0 {
@@ -119,12 +124,18 @@ fn hear_one(held: &mut Vec<Held>, when: When, rr: &Rr) -> Result<(), AllocError>
 }
 
 // The same of one that isn't a goodbye, where what it is the same as isn't there.
-fn renew(held: &mut Vec<Held>, when: When, rr: &Rr) -> Result<(), AllocError>
+fn renew(held: &mut Vec<Held>, when: When, rr: &SharedRr) -> Result<(), AllocError>
     ensures { OnOk result (held.new.items ≡ map (shortened (hearing_at when.moment when.word rr.now)) held.old.items ++ renewed (hearing_at when.moment when.word rr.now) ∷ []) }
 {
     shorten(held, when, rr);
     let end = when.moment + rr.ttl_ms();
-    put_held(held, rr, when.at(), when.word, end)
+    held.push(Held {
+        rr: rr.share()?,
+        heard: when.at(),
+        word: when.word,
+        end,
+    })?;
+    Ok(())
 }
 
 // Cuts the lives of records to a second where a hearing does so. (A hearing's word doesn't count here and below, so the

@@ -2,7 +2,6 @@
 #![tactic(auto)]
 
 mod changing;
-mod copies;
 mod hear;
 mod law;
 mod names;

@@ -11,16 +11,13 @@ ghost use Rattle.mdns_records.specs.After.{held_after, is_of_event, AreTouched};
 ghost use Rattle.mdns_records.specs.Visits.{visits_of, visits_of_all, ended_in};
 
 use crate::changing::change;
-use crate::copies::put_copy;
 use crate::hear::heard_copy;
 use crate::names::with_owners;
-use dns_message::Rrs;
 use dns_name::Name;
-use dns_record::Rr;
 use mdns_base::Moment;
 use mdns_cache::{Cache, Steps};
 use mdns_happened::{OwnWalk, Walk, When};
-use mdns_history::Held;
+use mdns_history::{Held, SharedRr, SharedRrs};
 use std::alloc::{AllocError, Global};
 use std::marker::Model;
 use std::sync::ledger::Ledger;
@@ -85,7 +82,7 @@ impl Records {
     }
 
     /// Whether there is room for as many records as would be live with these, heard at `now`.
-    pub fn fits(&self, now: Moment, heard: &[Rr]) -> bool
+    pub fn fits(&self, now: Moment, heard: &[SharedRr]) -> bool
         // No more than there is room for would be live, whatever was heard before.
         ensures told { (word : ℕ) (past : List Hearing) (before : ℕ) → before ≤ now → Holds self.now.held past before
             → IsTrue result ↔ (length (live_of (hearings_at now word heard.now ++ past) now) ≤ room_for_records) }
@@ -97,7 +94,7 @@ impl Records {
 
     /// The names whose records an event at `now` changes that brings these records, each once, case aside: the owners of records
     /// that have ended, and of those that are heard. Refused only for want of memory.
-    pub fn touched(&self, now: Moment, heard: &[Rr]) -> Result<Vec<Name>, AllocError>
+    pub fn touched(&self, now: Moment, heard: &[SharedRr]) -> Result<Vec<Name>, AllocError>
         // The records of every other name stay as they are.
         ensures all { IfOk result (λ names. AreTouched now heard.now self.now.held names.items) }
         ensures only { IfOk result (λ names. list_all (is_of_event now heard.now self.now.held) names.items ≡ true) }
@@ -111,7 +108,7 @@ impl Records {
     pub fn walk<L: Ledger>(
         &self,
         when: When,
-        heard: &[Rr],
+        heard: &[SharedRr],
         names: Vec<Name>,
         steps: &mut Steps<L>,
     ) -> Result<Vec<Walk>, AllocError>
@@ -123,7 +120,7 @@ impl Records {
         ensures visits { OnOk result (steps.new ≡ steps.old + visits_of_all self.now.held names.items) }
         ensures most { steps.new ≤ steps.old + visits_of_all self.now.held names.items }
     {
-        let mut walks = Vec::new(self.alloc);
+        let mut walks = Vec::with_capacity(self.alloc, names.len())?;
         for name in names {
             walks.push(self.walk_one(when, heard, name, steps)?)?;
         }
@@ -134,7 +131,7 @@ impl Records {
     fn walk_one<L: Ledger>(
         &self,
         when: When,
-        heard: &[Rr],
+        heard: &[SharedRr],
         name: Name,
         steps: &mut Steps<L>,
     ) -> Result<Walk, AllocError>
@@ -154,7 +151,7 @@ impl Records {
         })
     }
 
-    // The records of a name, copied.
+    // The records of a name.
     fn records_of<L: Ledger>(
         &self,
         name: &Name,
@@ -167,7 +164,7 @@ impl Records {
         // Most names have one record.
         let mut held = Vec::with_capacity(self.alloc, 1)?;
         while let Some(one) = self.cache.visit(name, held.len(), steps) {
-            put_copy(&mut held, one)?;
+            held.push(one.copy()?)?;
         }
         Ok(held)
     }
@@ -183,7 +180,7 @@ impl Records {
 
     /// Carries out an event that brings these records: what has ended is taken out, and they are heard. It takes no memory, and
     /// can't fail.
-    pub fn apply<L: Ledger>(&mut self, when: When, heard: Rrs, steps: &mut Steps<L>)
+    pub fn apply<L: Ledger>(&mut self, when: When, heard: SharedRrs, steps: &mut Steps<L>)
         requires room { length heard ≤ self.old.spare }
         requires fits { length (held_after when.moment when.word heard self.old.held) ≤ room_for_records }
         ensures held { IsPermutation self.new.held (held_after when.moment when.word heard self.old.held) }

@@ -3,7 +3,7 @@
 use bytes::Bytes;
 use dns_record::{Key, Rr};
 use mdns_base::Moment;
-use mdns_history::Held;
+use mdns_history::{Held, SharedRr};
 use row_words::{RowError, Told, name_of, number, record};
 use sd_answer::{Answers, KnownRecords, answers_of, questions_of};
 use sd_call::{Request, Text, put_answer, well_formed};
@@ -41,7 +41,7 @@ impl Known {
 
     fn put_held(&mut self, told: &mut Told, rr: Rr) -> Result<(), RowError> {
         self.held.push(Held {
-            rr,
+            rr: SharedRr::new(told.alloc, rr)?,
             heard: Moment::default(),
             word: 0,
             end: 0,

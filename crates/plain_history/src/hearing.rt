@@ -3,15 +3,15 @@ ghost use Rattle.std.specs.Prelude.{◌≡◌, ◌++◌, IfOk, OnOk};
 ghost use Rattle.mdns_history.specs.Hearings.{hearings_in, hearings};
 
 use crate::{HistoryEntry, counted_records, heard_in};
-use dns_record::Rr;
 use mdns_base::Moment;
+use mdns_history::SharedRr;
 use std::alloc::{AllocError, Global};
 use std::marker::Model;
 
 /// A record that was heard, with the moment and the word of its entry.
 #[derive(Drop)]
 pub struct HeardRecord {
-    pub rr: Rr,
+    pub rr: SharedRr,
     pub moment: Moment,
     pub word: u32,
 }
@@ -48,7 +48,7 @@ fn put_hearings(
     let mut records = counted_records(alloc, heard)?.into_vec();
     while let Some(rr) = records.pop() {
         found.push(HeardRecord {
-            rr,
+            rr: SharedRr::new(alloc, rr)?,
             moment: entry.moment(),
             word: entry.entry().word,
         })?;

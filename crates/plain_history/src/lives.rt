@@ -73,7 +73,7 @@ fn held_from(heard: &[HeardRecord], renewal: &HeardRecord) -> Result<Held, Alloc
     ensures { IfOk result (λ held. held ≡ held_from heard.now renewal.now) }
 {
     Ok(Held {
-        rr: renewal.rr.copy()?,
+        rr: renewal.rr.share()?,
         heard: renewal.moment,
         word: renewal.word,
         end: end_of(heard, renewal),

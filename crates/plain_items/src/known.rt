@@ -15,7 +15,7 @@ pub fn known_records(alloc: Global, history: &[HistoryEntry]) -> Result<Vec<Rr>,
 {
     let mut records = Vec::new(alloc);
     for held in live_records(alloc, history, now(history))? {
-        records.push(held.rr)?;
+        records.push(held.rr.copy()?)?;
     }
     let mut own = own_records(alloc, history)?;
     records.append(&mut own)?;

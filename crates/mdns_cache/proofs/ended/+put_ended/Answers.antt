@@ -1,4 +1,5 @@
 use Rattle.std.proofs.Common.{◌≡◌, ℕ, ◌+◌, ◌<◌, ◌≤◌, true, ⊎_elim, List, [], ◌∷◌, ◌++◌, length, Some, None, slice_get, sym, ap, subst, ◌∙◌, arith}
+use Rattle.dns_record.specs.declared.record.Rr.{Rr}
 use Rattle.mdns_history.specs.declared.held.Held.{Held}
 use Rattle.mdns_cache.proofs.ListLemmas.{each-append}
 use Rattle.mdns_cache.specs.Ends.{winner}
@@ -28,7 +29,7 @@ returns-then-node-nodes-clause-found t c = λ place one on there ended within.
     let same : c.in-Some.one.now ≡ one = some_inside c.in-Some.one.now one (sym some ∙ ap (slice_get c.args.held.now) (c.winner-place.ensures ∙ leaf) ∙ there) in
     let items : c.push.new.self.items ≡ c.args.names.now.items ++ c.copy.result ∷ [] = c.in_ok-push.ensures.items in
     subst (λ (names : List (List (List ℕ))). is_among names one.rr.owner ≡ true) (sym items)
-    (subst (λ (name : List (List ℕ)). is_among (c.args.names.now.items ++ c.copy.result ∷ []) name ≡ true) (c.copy.ensures ∙ ap (λ (h : Held). h.rr.owner) same) (among_pushed c.args.names.now.items c.copy.result))
+    (subst (λ (name : List (List ℕ)). is_among (c.args.names.now.items ++ c.copy.result ∷ []) name ≡ true) (c.copy.ensures ∙ ap (λ (rr : Rr). rr.owner) c.deref.ensures ∙ ap (λ (h : Held). h.rr.owner) same) (among_pushed c.args.names.now.items c.copy.result))
 
 pub returns-then-node-nodes-clause-only : goal.returns-then-node-nodes-clause-only
 returns-then-node-nodes-clause-only t c = λ old.
@@ -36,7 +37,7 @@ returns-then-node-nodes-clause-only t c = λ old.
     let items : c.push.new.self.items ≡ c.args.names.now.items ++ c.copy.result ∷ [] = c.in_ok-push.ensures.items in
     subst (AreEnded c.args.held.now c.args.now) (sym items)
     (each-append (IsEnded c.args.held.now c.args.now) c.args.names.now.items (c.copy.result ∷ []) old
-    ((c.winner-place.result, c.in-Some.one.now, some, subst (λ (n : ℕ). c.in-Some.one.now.end ≤ n) c.ms.ensures.value c.if-one-ms.false, sym c.copy.ensures), tt))
+    ((c.winner-place.result, c.in-Some.one.now, some, subst (λ (n : ℕ). c.in-Some.one.now.end ≤ n) c.ms.ensures.value c.if-one-ms.false, sym (c.copy.ensures ∙ ap (λ (rr : Rr). rr.owner) c.deref.ensures)), tt))
 
 pub returns-clause-found : goal.returns-clause-found
 returns-clause-found t c =

@@ -1,5 +1,5 @@
-use Rattle.std.proofs.Common.{◌∙◌}
-use Rattle.std.specs.List.{list_any}
+use Rattle.std.proofs.Common.{◌≡◌, ◌∙◌, ◌++◌, ◌∷◌, [], subst}
+use Rattle.std.specs.List.{list_any, filter_map}
 use Rattle.dns_record.specs.declared.record.Rr.{Rr}
 use Rattle.dns_record.specs.Records.{matches}
 use Rattle.mdns_history.specs.Answers.{matching, resolved_with}
@@ -10,7 +10,7 @@ use Rattle.sd_answer.proofs.answers.put_pairs.Goals as goal
 pub loop-one-preserved : goal.loop-one-preserved
 loop-one-preserved c =
     put_more (λ (txt : Rr). resolved_with c.args.place.now txt.rdata) (λ rr. list_any (λ key. matches key rr) c.args.questions.now) c.args.known.now.held.now c.loop-one.one-index c.one-item.result c.loop-one-test.true c.one-item.is _ _ _ c.loop-one.invariant
-    c.in_ok-put_pair.ensures
+    (subst (λ (rr : Rr). c.put_pair.new.answers ≡ c.loop-one.answers ++ filter_map (λ (txt : Rr). resolved_with c.args.place.now txt.rdata) (matching c.args.questions.now (rr ∷ []))) c.deref.ensures c.in_ok-put_pair.ensures)
 
 pub loop-rr-preserved : goal.loop-rr-preserved
 loop-rr-preserved c =

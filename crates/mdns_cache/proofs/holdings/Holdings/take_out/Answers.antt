@@ -1,4 +1,4 @@
-use Rattle.std.proofs.Common.{◌≡◌, ℕ, List, [], ◌∷◌, None, length, slice_get, refl, sym, subst, arith, IsPermutation}
+use Rattle.std.proofs.Common.{◌≡◌, ℕ, List, [], ◌∷◌, None, length, slice_get, sym, subst, arith, IsPermutation}
 use Rattle.std.specs.Map.{values_of}
 use Rattle.std.proofs.lemmas.Map.Entries.{length-values_of}
 use Rattle.std.proofs.lemmas.Option.{slice_get_past}
@@ -20,7 +20,7 @@ invariant_of-self-2 c =
     let last : ℕ = length es in
     let taken : Held = c.in_ok-taken.taken.one in
     let moved : IsPermutation before (taken ∷ after) = values_without c.args.place.now.owner c.args.place.now.number taken c.self.inside.named.entries es c.in_ok-taken.ensures.without in
-    let one : AreIndexed c.forget.new.self (filled ∷ hole ∷ last ∷ []) after = c.forget.ensures.indexed before after taken (filled ∷ hole ∷ last ∷ []) refl moved c.in_ok-taken.ensures.agree c.self.invariant.0 in
+    let one : AreIndexed c.forget.new.self (filled ∷ hole ∷ last ∷ []) after = c.forget.ensures.indexed before after taken (filled ∷ hole ∷ last ∷ []) (sym c.deref.ensures) moved c.in_ok-taken.ensures.agree c.self.invariant.0 in
     let two : AreIndexed c.mend.new.self (hole ∷ last ∷ []) after =
     subst (AreIndexed c.mend.new.self (hole ∷ last ∷ [])) c.values.ensures
     (c.mend.ensures.indexed (hole ∷ last ∷ []) (subst (AreIndexed c.forget.new.self (filled ∷ hole ∷ last ∷ [])) (sym c.values.ensures) one)) in

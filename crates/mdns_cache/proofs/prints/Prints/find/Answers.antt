@@ -3,6 +3,7 @@ use Rattle.std.specs.Prelude.{IfNone}
 use Rattle.std.proofs.lemmas.Option.{slice_get-get_or, slice_get_past}
 use Rattle.std.specs.List.{AllByRecursion}
 use Rattle.std.proofs.lemmas.Bool.{false≢true}
+use Rattle.dns_record.specs.declared.record.Rr.{Rr}
 use Rattle.dns_record.specs.Records.{same}
 use Rattle.mdns_history.specs.declared.held.Held.{Held}
 use Rattle.mdns_cache.specs.Printed.{noted}
@@ -47,7 +48,11 @@ returns-in_err-get-clause-none c =
     none e = cc
 
 pub returns-then-same-clause-some : goal.returns-then-same-clause-some
-returns-then-same-clause-some c = (c.in_ok-get.field-0.now, at c.args.held.now c.in_ok-index.index c.in_ok-get.field-0.now c.in_ok-get.ensures.lookup.3.0 c.in_ok-get.ensures.lookup.1, sym c.same.ensures.value ∙ c.if-same.true)
+returns-then-same-clause-some c = (
+  c.in_ok-get.field-0.now,
+  at c.args.held.now c.in_ok-index.index c.in_ok-get.field-0.now c.in_ok-get.ensures.lookup.3.0 c.in_ok-get.ensures.lookup.1,
+  ap (λ (rr : Rr). same rr c.args.rr.now) (sym c.deref.ensures) ∙ sym c.same.ensures.value ∙ c.if-same.true,
+)
 
 pub returns-else-same-clause-none : goal.returns-else-same-clause-none
 returns-else-same-clause-none c =
@@ -58,4 +63,4 @@ returns-else-same-clause-none c =
     let index : i ≡ c.in_ok-index.index = cc in
     let here : ◌≡◌ (Some one) (Some c.in_ok-get.field-0.now) = sym there ∙ ap (slice_get c.args.held.now) index ∙ at c.args.held.now c.in_ok-index.index c.in_ok-get.field-0.now c.in_ok-get.ensures.lookup.3.0 c.in_ok-get.ensures.lookup.1 in
     let one_is : one ≡ c.in_ok-get.field-0.now = cc in
-    false≢true (sym c.if-same.false ∙ c.same.ensures.value ∙ ap (λ (h : Held). same h.rr c.args.rr.now) (sym one_is) ∙ is_same))
+    false≢true (sym c.if-same.false ∙ c.same.ensures.value ∙ ap (λ (rr : Rr). same rr c.args.rr.now) c.deref.ensures ∙ ap (λ (h : Held). same h.rr c.args.rr.now) (sym one_is) ∙ is_same))

@@ -19,7 +19,8 @@ loop-one-preserved g c =
     ap (λ (v : State). slice_get (held_of c.args.name.now v.held) c.len.result) (sym c.self.view_is) ∙ sym c.in-Some.ensures.visited in
     let more : AreCopied all (c.loop-one.held.items ++ c.in-Some.one.now ∷ []) =
     copied-more all c.loop-one.held.items c.len.result c.in-Some.one.now (c.len.ensures ∙ c.loop-one.held.ok.0) there c.loop-one.invariant.copied in
-    let items : c.put_copy.new.records.items ≡ c.loop-one.held.items ++ c.in-Some.one.now ∷ [] = c.in_ok-put_copy.ensures in
+    let items : c.push.new.self.items ≡ c.loop-one.held.items ++ c.in-Some.one.now ∷ [] =
+    c.in_ok-push.ensures.items ∙ ap (λ (h : Held). c.loop-one.held.items ++ h ∷ []) c.in_ok-copy.ensures in
     record {
       copied = subst (AreCopied all) (sym items) more;
       visits = omega (arith, ap length items, length-append c.loop-one.held.items (c.in-Some.one.now ∷ []), c.loop-one.invariant.visits, c.visit.ensures.steps);
