@@ -8,19 +8,19 @@ use Rattle.mdns_hub.specs.Stepped.{IsStep}
 use Rattle.mdns_hub.specs.declared.daemons.Booted.{Booted}
 use Rattle.mdns_hub.specs.Slots.{slot_at, is_kept, due_at, AreBehind}
 
-pub set_here : (slots : List (Option Booted)) (place : ℕ) (slot : Option Booted) → place < length slots → slot_at (set slots place slot) place ≡ slot
+pub set_here : {T : Type 0} (slots : List (Option T)) (place : ℕ) (slot : Option T) → place < length slots → slot_at (set slots place slot) place ≡ slot
 set_here [] place slot l = absurd (omega (arith, l))
 set_here (first ∷ slots) zero slot l = refl
 set_here (first ∷ slots) (suc place) slot l = set_here slots place slot (omega (arith, l))
 
-pub set_there : (slots : List (Option Booted)) (place other : ℕ) (slot : Option Booted) → (other ≡ place → ⊥) → slot_at (set slots place slot) other ≡ slot_at slots other
+pub set_there : {T : Type 0} (slots : List (Option T)) (place other : ℕ) (slot : Option T) → (other ≡ place → ⊥) → slot_at (set slots place slot) other ≡ slot_at slots other
 set_there [] place other slot d = refl
 set_there (first ∷ slots) zero zero slot d = absurd (d refl)
 set_there (first ∷ slots) zero (suc other) slot d = refl
 set_there (first ∷ slots) (suc place) zero slot d = refl
 set_there (first ∷ slots) (suc place) (suc other) slot d = set_there slots place other slot (λ e. d (ap suc e))
 
-pub put_empty : (slots : List (Option Booted)) (other : ℕ) → slot_at (slots ++ None ∷ []) other ≡ slot_at slots other
+pub put_empty : {T : Type 0} (slots : List (Option T)) (other : ℕ) → slot_at (slots ++ None ∷ []) other ≡ slot_at slots other
 put_empty [] zero = refl
 put_empty [] (suc other) = refl
 put_empty (first ∷ slots) zero = refl
@@ -38,7 +38,7 @@ none_past (first ∷ slots) zero l = absurd (omega (arith, l))
 none_past (first ∷ slots) (suc number) l = none_past slots number (omega (arith, l))
 
 -- the slot that stands at a place
-pub slot_read : (slots : List (Option Booted)) (number : ℕ) (d : Option Booted) → number < length slots → slot_at slots number ≡ get_or slots number d
+pub slot_read : {T : Type 0} (slots : List (Option T)) (number : ℕ) (d : Option T) → number < length slots → slot_at slots number ≡ get_or slots number d
 slot_read [] number d l = absurd (omega (arith, l))
 slot_read (first ∷ slots) zero d l = refl
 slot_read (first ∷ slots) (suc number) d l = slot_read slots number d (omega (arith, l))
@@ -87,7 +87,7 @@ done_or_not (Ok x) p q f g = f p
 done_or_not (Err e) p q f g = g q
 
 -- a slot that is set among slots that are the same as others
-pub set_slot : (slots old : List (Option Booted)) (place other : ℕ) (slot : Option Booted) → place < length slots → ((o : ℕ) → slot_at slots o ≡ slot_at old o)
+pub set_slot : {T : Type 0} (slots old : List (Option T)) (place other : ℕ) (slot : Option T) → place < length slots → ((o : ℕ) → slot_at slots o ≡ slot_at old o)
     → slot_at (set slots place slot) other ≡ cond (other == place) slot (slot_at old other)
 set_slot slots old place other slot l same = of (other == place) refl
   where

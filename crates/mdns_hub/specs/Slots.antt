@@ -7,7 +7,7 @@ use Rattle.mdns_hub.specs.declared.tally.Tally.{Tally}
 use Rattle.mdns_hub.specs.Tallies.{no_tally}
 
 -- what stands in a slot
-abbrev pub slot_at : List (Option Booted) → ℕ → Option Booted
+abbrev pub slot_at : {T : Type 0} → List (Option T) → ℕ → Option T
 slot_at slots number = option_and_then (λ slot. slot) (slice_get slots number)
 
 -- whether a daemon was booted

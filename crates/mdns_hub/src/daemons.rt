@@ -6,6 +6,7 @@ ghost use Rattle.mdns_hub.specs.Slots.{slot_at, is_kept, address_at, due_at, tal
 ghost use Rattle.mdns_hub.specs.Stepped.{IsStep};
 
 use crate::historic::Standing;
+use crate::slots::put;
 use crate::steps::entry_of;
 use crate::tally::Tally;
 use mdns_base::Moment;
@@ -93,22 +94,7 @@ impl Daemons {
             ≡ cond (other == number) (Some booted) (slot_at self.old.slots.items other)) }
         ensures err { OnErr result ((other : ℕ) → slot_at self.new.slots.items other ≡ slot_at self.old.slots.items other) }
     {
-        let place = number as usize;
-        self.make_place(place)?;
-        self.slots[place] = Some(booted);
-        Ok(())
-    }
-
-    // Makes empty slots up to a place.
-    fn make_place(&mut self, place: usize) -> Result<(), AllocError>
-        requires { place ≤ 16 }
-        ensures same { (other : ℕ) → slot_at self.new.slots.items other ≡ slot_at self.old.slots.items other }
-        ensures made { OnOk result (place < vec_len self.new.slots) }
-    {
-        while self.slots.len() <= place {
-            self.slots.push(None)?;
-        }
-        Ok(())
+        put(&mut self.slots, number as usize, booted)
     }
 
     /// One event of the daemon of a number at `now`, in milliseconds, with a random word, and its entry. Refused only for want

@@ -9,6 +9,7 @@ mod hub;
 mod law;
 mod link;
 mod running;
+mod slots;
 mod steps;
 mod tally;
 

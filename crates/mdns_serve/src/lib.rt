@@ -19,7 +19,6 @@ pub use common::{Common, Half, Kit};
 pub use happening::Happening;
 pub use hearing::{HearEnd, hear_loop};
 pub use laws::owed_ends_have_room;
-pub use mdns_core::Daemon;
 pub use reading::{ReadEnd, detach, read_half};
 pub use shared::Shared;
 pub use step::{Miss, Step, Tend};

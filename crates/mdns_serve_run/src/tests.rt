@@ -10,9 +10,7 @@ use mdns_base::{Host, Moment};
 use mdns_happened::When;
 use mdns_history::{Config, Event};
 use mdns_outside::{Clock, Incoming, MemAir, MemClock, MemEar, MemWords};
-use mdns_serve::{
-    Bell, Common, Daemon, Happening, HearEnd, Kit, Shared, Step, hear_loop, tick_loop,
-};
+use mdns_serve::{Bell, Common, Happening, HearEnd, Kit, Shared, Step, hear_loop, tick_loop};
 use mdns_turn::{Seat, Turn};
 use sd_call::Request;
 use std::alloc::{AllocError, Global};
@@ -27,8 +25,8 @@ fn shared_daemon(alloc: Global) -> Result<(Turn<Shared>, Seat<Shared>), AllocErr
         address: 0x0a00_0001,
         host: None,
     };
-    let (daemon, _) = Daemon::new(alloc, config, When::new(Moment::default(), 0))?;
-    Turn::new(alloc, Shared::new(alloc, daemon)?)
+    let when = When::new(Moment::default(), 0);
+    Turn::new(alloc, Shared::boot(alloc, config, when)?)
 }
 
 // The same with what its threads share.

@@ -6,7 +6,7 @@ ghost use Rattle.mdns_turn.specs.Models.{IsSeatOf};
 ghost use Rattle.mdns_server.specs.Endings.{MayFault, HasStopped, is_whole};
 ghost use Rattle.mdns_server.specs.Openings.{Opens, OpensOne};
 
-use crate::chair::{Job, chair_beside};
+use crate::chair::{Job, two_chairs};
 use crate::making::{HalfParts, KitOf, make_halves};
 use crate::session::{attach, miss};
 use crate::slot::Slot;
@@ -16,7 +16,7 @@ use mdns_base::Sink;
 use mdns_outside::{Door, Place};
 use mdns_serve::{Common, Half, Shared};
 use mdns_turn::Seat;
-use std::alloc::AllocError;
+use std::alloc::{AllocError, Global};
 use std::sync::atomic::AtomicU64;
 use std::sync::{Arc, Wait};
 
@@ -36,13 +36,16 @@ type Caller<P> = (
     <<P as Place>::Door as Door>::Out,
 );
 
+/// How many halves of a session have ended.
+type Count = Arc<AtomicU64>;
+
 // What a session was given before it was opened.
 #[derive(Drop)]
 struct Ready<R> {
     chairs: Chairs<R>,
-    ended: Arc<AtomicU64>,
-    reading_ended: Arc<AtomicU64>,
-    writing_ended: Arc<AtomicU64>,
+    ended: Count,
+    reading_ended: Count,
+    writing_ended: Count,
 }
 
 // What became of a connection.
@@ -197,17 +200,22 @@ fn make_ready<R: Wait + Copy, P: Place>(
     ensures writing { IfOk result (λ r. IsSeatOf (arc_value r.chairs.writing.common.turn) r.chairs.writing.seat) }
 {
     desk.sessions.reserve(1)?;
-    let ended = Arc::new(desk.common.alloc, AtomicU64::new(0))?;
-    let reading_ended = Arc::try_clone(&ended)?;
-    let writing_ended = Arc::try_clone(&ended)?;
-    let reading = chair_beside(&desk.common, seat)?;
-    let writing = chair_beside(&desk.common, seat)?;
+    let (ended, reading_ended, writing_ended) = shared_count(desk.common.alloc)?;
+    let (reading, writing) = two_chairs(&desk.common, seat)?;
     Ok(Ready {
         chairs: Chairs { reading, writing },
         ended,
         reading_ended,
         writing_ended,
     })
+}
+
+// A count of ended halves that three hold. Refused only for want of memory.
+fn shared_count(alloc: Global) -> Result<(Count, Count, Count), AllocError> {
+    let first = Arc::new(alloc, AtomicU64::new(0))?;
+    let second = Arc::try_clone(&first)?;
+    let third = Arc::try_clone(&first)?;
+    Ok((first, second, third))
 }
 
 // Opens a session for a connection and starts its halves.

@@ -11,8 +11,8 @@ use mdns_base::{Failed, Moment};
 use mdns_happened::When;
 use mdns_history::{Config, HostConfig};
 use mdns_outside::{Clock, Place, Words};
-use mdns_serve::{Daemon, Shared};
-use mdns_turn::{Seat, Turn};
+use mdns_serve::Shared;
+use mdns_turn::{Seat, Tale, Turn};
 use mdns_words::{Asked, HostLabel};
 use std::alloc::{AllocError, Global};
 use std::sync::Arc;
@@ -87,8 +87,20 @@ fn booted(
         }),
     };
     let when = When::new(Moment::at_most_last(boot.now), boot.word);
-    let (daemon, _) = Daemon::new(alloc, config, when)?;
-    let (turn, seat) = Turn::new(alloc, Shared::new(alloc, daemon)?)?;
-    let turn = Arc::new(alloc, turn)?;
+    let shared = Shared::boot(alloc, config, when)?;
+    let (turn, seat) = shared_turn(alloc, shared)?;
     Ok(SharedDaemon { turn, seat })
+}
+
+// The turn of a value as threads share it, and the first seat at it. Refused only for want of memory.
+fn shared_turn<T: Tale + Drop>(
+    alloc: Global,
+    value: T,
+) -> Result<(Arc<Turn<T>>, Seat<T>), AllocError>
+    ensures turn { IfOk result (λ made. (arc_value made.0).opening ≡ value) }
+    ensures seat { IfOk result (λ made. IsSeatOf (arc_value made.0) made.1) }
+{
+    let (turn, seat) = Turn::new(alloc, value)?;
+    let turn = Arc::new(alloc, turn)?;
+    Ok((turn, seat))
 }

@@ -28,8 +28,23 @@ pub(crate) struct Job<E, A, C, W, G> {
     pub ended: Arc<AtomicU64>,
 }
 
-/// A chair for another thread. Its seat has seen what this one has. Refused only for want of memory.
-pub(crate) fn chair_beside<R: Wait + Copy>(
+/// Chairs for two other threads. Their seats have seen what this one has. Refused only for want of memory.
+pub(crate) fn two_chairs<R: Wait + Copy>(
+    common: &Common<R>,
+    seat: &mut Seat<Shared>,
+) -> Result<(Chair<R>, Chair<R>), AllocError>
+    requires { IsSeatOf (arc_value common.now.turn) seat.old }
+    ensures kept { seat.new ≡ seat.old }
+    ensures first { IfOk result (λ two. IsSeatOf (arc_value two.0.common.turn) two.0.seat) }
+    ensures second { IfOk result (λ two. IsSeatOf (arc_value two.1.common.turn) two.1.seat) }
+{
+    let first = chair_beside(common, seat)?;
+    let second = chair_beside(common, seat)?;
+    Ok((first, second))
+}
+
+// A chair for another thread.
+fn chair_beside<R: Wait + Copy>(
     common: &Common<R>,
     seat: &mut Seat<Shared>,
 ) -> Result<Chair<R>, AllocError>

@@ -9,7 +9,7 @@ ghost use Rattle.mdns_server.specs.Openings.{Opens};
 
 use crate::accepting::{Desk, accept_started};
 use crate::booting::SharedDaemon;
-use crate::chair::{Chair, chair_beside};
+use crate::chair::{Chair, two_chairs};
 use crate::closing::close;
 use crate::making::{Parts, make_parts};
 use crate::slot::{NewEar, Slot};
@@ -145,21 +145,6 @@ fn common<R: Wait + Copy>(
         turn,
         bell,
     })
-}
-
-// The chairs of the ear and of the ticker. Refused only for want of memory.
-fn two_chairs<R: Wait + Copy>(
-    common: &Common<R>,
-    seat: &mut Seat<Shared>,
-) -> Result<(Chair<R>, Chair<R>), AllocError>
-    requires { IsSeatOf (arc_value common.now.turn) seat.old }
-    ensures kept { seat.new ≡ seat.old }
-    ensures first { IfOk result (λ two. IsSeatOf (arc_value two.0.common.turn) two.0.seat) }
-    ensures second { IfOk result (λ two. IsSeatOf (arc_value two.1.common.turn) two.1.seat) }
-{
-    let first = chair_beside(common, seat)?;
-    let second = chair_beside(common, seat)?;
-    Ok((first, second))
 }
 
 // A slot for the ear, as the server and as the ear's thread has it. Refused only for want of memory.
