@@ -3,7 +3,7 @@ use crate::plugs::{MemClient, Plugged};
 use bytes::Bytes;
 use mdns_outside::Plug;
 use row_words::{RowError, bytes_of, number, text_from, text_of, word};
-use sd_call::put_item;
+use sd_call::{Item, put_item};
 use sd_client::*;
 use std::alloc::{AllocError, Global};
 
@@ -126,13 +126,15 @@ fn data_of(alloc: Global, word: &str) -> Result<Bytes, RowError> {
 // The text of the next item.
 fn item_row(alloc: Global, client: &mut MemClient) -> Result<String, RowError> {
     match client.process_result() {
-        Ok(item) => {
-            let mut out = Vec::new(alloc);
-            put_item(&mut out, &item)?;
-            text_from(out)
-        }
+        Ok(item) => item_text(alloc, &item),
         Err(fault) => word(alloc, fault_word(fault)?),
     }
+}
+
+fn item_text(alloc: Global, item: &Item) -> Result<String, RowError> {
+    let mut out = Vec::new(alloc);
+    put_item(&mut out, item)?;
+    text_from(out)
 }
 
 // The number of the operation that a call started.

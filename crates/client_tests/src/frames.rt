@@ -67,16 +67,18 @@ fn failing_source(alloc: Global, call: &str, bytes: &str) -> Result<MemSource, R
 // What is read, and whether the same is written again: of bytes, or of a kind and a body, whose frame comes a byte at a time.
 fn again_row(alloc: Global, words: &[&str]) -> Result<String, RowError> {
     match words {
-        ["again", side, bytes] => {
-            let bytes = bytes_of(alloc, bytes)?;
-            again(alloc, &mut source_of(alloc, &bytes)?, side, &bytes)
-        }
-        ["slow", side, kind, body] => {
-            let bytes = frame(alloc, kind, body)?;
-            again(alloc, &mut Slow(source_of(alloc, &bytes)?), side, &bytes)
-        }
+        ["again", side, bytes] => at_once(alloc, side, &bytes_of(alloc, bytes)?),
+        ["slow", side, kind, body] => slowly(alloc, side, &frame(alloc, kind, body)?),
         _ => Err(RowError::NotUnderstood),
     }
+}
+
+fn at_once(alloc: Global, side: &str, bytes: &[u8]) -> Result<String, RowError> {
+    again(alloc, &mut source_of(alloc, bytes)?, side, bytes)
+}
+
+fn slowly(alloc: Global, side: &str, bytes: &[u8]) -> Result<String, RowError> {
+    again(alloc, &mut Slow(source_of(alloc, bytes)?), side, bytes)
 }
 
 fn source_of(alloc: Global, bytes: &[u8]) -> Result<MemSource, RowError> {
@@ -148,14 +150,23 @@ fn request_again<S: Source>(
     input: &mut S,
     out: &mut Vec<u8>,
 ) -> Result<Bytes, RowError> {
-    let Ok(Some((op, request))) = read_request(alloc, input) else {
-        return Err(RowError::NotUnderstood);
-    };
-    put_request(out, &request)?;
-    if !is_short(&request) {
+    match read_request(alloc, input) {
+        Ok(Some((op, request))) => request_written(alloc, op, &request, out),
+        _ => Err(RowError::NotUnderstood),
+    }
+}
+
+fn request_written(
+    alloc: Global,
+    op: u32,
+    request: &Request,
+    out: &mut Vec<u8>,
+) -> Result<Bytes, RowError> {
+    put_request(out, request)?;
+    if !is_short(request) {
         return Err(RowError::NotUnderstood);
     }
-    Ok(write_request(alloc, op, &request)?)
+    Ok(write_request(alloc, op, request)?)
 }
 
 // Whether a frame can hold the request's TXT data.
@@ -173,11 +184,15 @@ fn item_again<S: Source>(
     input: &mut S,
     out: &mut Vec<u8>,
 ) -> Result<Bytes, RowError> {
-    let Ok(Some(item)) = read_item(alloc, input) else {
-        return Err(RowError::NotUnderstood);
-    };
-    put_item(out, &item)?;
-    Ok(write_item(alloc, &item)?)
+    match read_item(alloc, input) {
+        Ok(Some(item)) => item_written(alloc, &item, out),
+        _ => Err(RowError::NotUnderstood),
+    }
+}
+
+fn item_written(alloc: Global, item: &Item, out: &mut Vec<u8>) -> Result<Bytes, RowError> {
+    put_item(out, item)?;
+    Ok(write_item(alloc, item)?)
 }
 
 fn write_row(alloc: Global, words: &[&str]) -> Result<String, RowError> {
@@ -194,18 +209,23 @@ fn browse_row(alloc: Global, regtype: &str) -> Result<String, RowError> {
     let Some(regtype) = Text::new(alloc, regtype)? else {
         return Err(RowError::NotUnderstood);
     };
-    let written = write_request(alloc, 1, &Request::Browse { regtype })?;
-    shown(alloc, written.as_slice())
+    shown(alloc, browse_frame(alloc, regtype)?.as_slice())
+}
+
+fn browse_frame(alloc: Global, regtype: Text) -> Result<Bytes, AllocError> {
+    write_request(alloc, 1, &Request::Browse { regtype })
 }
 
 // How long the frame of an item with a datum of so many bytes is, and whether it is read.
 fn datum_row(alloc: Global, len: usize) -> Result<String, RowError> {
     let frame = datum_frame(alloc, len)?;
-    let mut out = frame.as_slice().len().to_string(alloc)?;
-    out.push_str(" bytes, ")?;
-    let mut input = source_of(alloc, frame.as_slice())?;
-    out.push_str(next(alloc, &mut input, "item")?.as_str())?;
-    Ok(out)
+    datum_read(alloc, frame.as_slice())
+}
+
+fn datum_read(alloc: Global, frame: &[u8]) -> Result<String, RowError> {
+    let read = next(alloc, &mut source_of(alloc, frame)?, "item")?;
+    let len = frame.len();
+    Ok(format!(in alloc; "{len} bytes, {read}")?)
 }
 
 fn datum_frame(alloc: Global, len: usize) -> Result<Bytes, AllocError> {

@@ -13,17 +13,24 @@ use crate::rows::{Kept, printed};
 use row_words::RowError;
 
 fn main(rt: HostRuntime) -> Result<(), RowError> {
-    let alloc = rt.alloc();
-    let mut kept = Kept::new(alloc);
-    for line in rt.lines(alloc) {
-        let line = line?;
-        match printed(alloc, &mut kept, line.as_str()) {
-            Ok(text) => println!(rt; "{text}")?,
-            Err(error) => {
-                eprintln!(rt; "{error}: {line}")?;
-                return Err(error);
-            }
-        }
+    let mut kept = Kept::new(rt.alloc());
+    print_all(rt, &mut kept)
+}
+
+fn print_all(rt: HostRuntime, kept: &mut Kept) -> Result<(), RowError> {
+    for line in rt.lines(rt.alloc()) {
+        print(rt, kept, line?.as_str())?;
     }
     Ok(())
+}
+
+// Prints what came of a row. Of a row that gives nothing it is said on standard error why.
+fn print(rt: HostRuntime, kept: &mut Kept, line: &str) -> Result<(), RowError> {
+    match printed(rt.alloc(), kept, line) {
+        Ok(text) => Ok(println!(rt; "{text}")?),
+        Err(error) => {
+            let _ = eprintln!(rt; "{error}: {line}");
+            Err(error)
+        }
+    }
 }

@@ -9,20 +9,32 @@ use std::alloc::{AllocError, Global};
 /// `queue take` and others: a call on the queue.
 pub fn row(alloc: Global, queue: &mut Outbox, words: &[&str]) -> Result<String, RowError> {
     match words {
-        ["new"] => *queue = Outbox::new(alloc),
-        ["reserve", more] => queue.reserve(number(more)?)?,
-        ["cut"] => queue.cut(),
-        ["append", ..] => return append_row(alloc, queue, words),
-        _ => return look_row(alloc, queue, words),
+        ["new"] => renew_row(alloc, queue),
+        ["reserve", more] => reserve_row(alloc, queue, more),
+        ["cut"] => {
+            queue.cut();
+            word(alloc, "done")
+        }
+        ["append", ..] => append_row(alloc, queue, words),
+        _ => look_row(alloc, queue, words),
     }
+}
+
+fn renew_row(alloc: Global, queue: &mut Outbox) -> Result<String, RowError> {
+    *queue = Outbox::new(alloc);
+    word(alloc, "done")
+}
+
+fn reserve_row(alloc: Global, queue: &mut Outbox, more: &str) -> Result<String, RowError> {
+    queue.reserve(number(more)?)?;
     word(alloc, "done")
 }
 
 // An item behind what is queued: a reply, a conflict, or data of so many bytes, which may be queued several times.
 fn append_row(alloc: Global, queue: &mut Outbox, words: &[&str]) -> Result<String, RowError> {
     match words {
-        ["append", "reply"] => append(alloc, queue, reply()),
-        ["append", "conflict", op] => append(alloc, queue, conflict(number(op)?)),
+        ["append", "reply"] => append_reply(alloc, queue),
+        ["append", "conflict", op] => append_conflict(alloc, queue, number(op)?),
         ["append", "data", len] => append_data(alloc, queue, len, "1"),
         ["append", "data", len, times] => append_data(alloc, queue, len, times),
         _ => Err(RowError::NotUnderstood),
@@ -52,19 +64,18 @@ fn append(alloc: Global, queue: &mut Outbox, item: Item) -> Result<String, RowEr
     }
 }
 
-fn reply() -> Item {
-    Item::Reply {
+fn append_reply(alloc: Global, queue: &mut Outbox) -> Result<String, RowError> {
+    let reply = Item::Reply {
         op: 1,
         verb: Verb::Start,
         code: 0,
-    }
+    };
+    append(alloc, queue, reply)
 }
 
-fn conflict(op: u32) -> Item {
-    Item::Add {
-        op,
-        answer: Answer::Conflict,
-    }
+fn append_conflict(alloc: Global, queue: &mut Outbox, op: u32) -> Result<String, RowError> {
+    let answer = Answer::Conflict;
+    append(alloc, queue, Item::Add { op, answer })
 }
 
 // An item for operation 1 with so many bytes of data, and 12 more in its frame.

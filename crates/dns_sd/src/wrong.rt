@@ -56,7 +56,7 @@ fn wrong_resolve(alloc: Global, words: &[String]) -> Result<String, AllocError> 
             if !is_type(alloc, regtype.as_str()) {
                 return no_type(alloc, regtype.as_str());
             }
-            if is_bad(&resolve_request(alloc, label.as_str(), regtype.as_str())) {
+            if !is_instance(alloc, label.as_str(), regtype.as_str()) {
                 return no_label(alloc, label.as_str());
             }
             wrong_end(alloc, rest)
@@ -75,8 +75,7 @@ fn wrong_register(alloc: Global, words: &[String]) -> Result<String, AllocError>
             if !is_type(alloc, regtype.as_str()) {
                 return no_type(alloc, regtype.as_str());
             }
-            let none = Bytes::new();
-            if is_bad(&register_request(alloc, 0, (label.as_str(), regtype.as_str()), 1, &none)) {
+            if !is_service(alloc, label.as_str(), regtype.as_str()) {
                 return no_label(alloc, label.as_str());
             }
             if !is_domain(domain.as_str()) {
@@ -85,7 +84,7 @@ fn wrong_register(alloc: Global, words: &[String]) -> Result<String, AllocError>
             if is_port(port.as_str()) {
                 wrong_strings(alloc, strings)
             } else {
-                format!(in alloc; "{port} is no port: 1 to 65535")
+                no_port(alloc, port.as_str())
             }
         }
         _ => String::from_str(
@@ -109,13 +108,11 @@ fn wrong_strings(alloc: Global, strings: &[String]) -> Result<String, AllocError
 fn wrong_query(alloc: Global, words: &[String]) -> Result<String, AllocError> {
     match words {
         [] => String::from_str(alloc, "-Q wants a name"),
-        [name, ..] if is_bad(&query_request(name.as_str(), 1)) => no_name(alloc, name.as_str()),
+        [name, ..] if !is_name(name.as_str()) => no_name(alloc, name.as_str()),
         [_, kind, ..] if read_kind(kind.as_str().as_bytes()).is_none() => {
-            format!(in alloc; "{kind} is no type of records, as A, PTR or TYPE65")
+            no_kind(alloc, kind.as_str())
         }
-        [_, _, class, ..] if class.as_str() != "IN" => {
-            format!(in alloc; "{class} is no class: only IN")
-        }
+        [_, _, class, ..] if class.as_str() != "IN" => no_class(alloc, class.as_str()),
         [_, _, _, word, ..] => too_many(alloc, word.as_str()),
         [_, rest @ ..] => wrong_kind(alloc, rest),
     }
@@ -133,11 +130,9 @@ fn wrong_kind(alloc: Global, words: &[String]) -> Result<String, AllocError> {
 fn wrong_address(alloc: Global, words: &[String]) -> Result<String, AllocError> {
     match words {
         [families, ..] if families_word(families.as_str()).is_none() => {
-            format!(in alloc; "{families} is no kind of addresses: v4, v6 or v4v6")
+            no_families(alloc, families.as_str())
         }
-        [_, name, ..] if is_bad(&address_request(3, name.as_str())) => {
-            no_name(alloc, name.as_str())
-        }
+        [_, name, ..] if !is_host(name.as_str()) => no_name(alloc, name.as_str()),
         [_, _, word, ..] => too_many(alloc, word.as_str()),
         _ => String::from_str(alloc, "-G wants v4, v6 or v4v6, and a name"),
     }
@@ -155,6 +150,27 @@ fn wrong_end(alloc: Global, words: &[String]) -> Result<String, AllocError> {
 // Whether a text is a service type.
 fn is_type(alloc: Global, regtype: &str) -> bool {
     !is_bad(&browse_request(alloc, regtype))
+}
+
+// Whether a text is the name of an instance of a service type.
+fn is_instance(alloc: Global, label: &str, regtype: &str) -> bool {
+    !is_bad(&resolve_request(alloc, label, regtype))
+}
+
+// Whether a service of that name and type may be registered.
+fn is_service(alloc: Global, label: &str, regtype: &str) -> bool {
+    let none = Bytes::new();
+    !is_bad(&register_request(alloc, 0, (label, regtype), 1, &none))
+}
+
+// Whether a text is a name.
+fn is_name(name: &str) -> bool {
+    !is_bad(&query_request(name, 1))
+}
+
+// Whether a text is the name of a host.
+fn is_host(name: &str) -> bool {
+    !is_bad(&address_request(3, name))
 }
 
 // Whether a text is a port.
@@ -180,6 +196,22 @@ fn no_label(alloc: Global, label: &str) -> Result<String, AllocError> {
 
 fn no_name(alloc: Global, name: &str) -> Result<String, AllocError> {
     format!(in alloc; "{name} is no name, as printer.local")
+}
+
+fn no_port(alloc: Global, port: &str) -> Result<String, AllocError> {
+    format!(in alloc; "{port} is no port: 1 to 65535")
+}
+
+fn no_kind(alloc: Global, kind: &str) -> Result<String, AllocError> {
+    format!(in alloc; "{kind} is no type of records, as A, PTR or TYPE65")
+}
+
+fn no_class(alloc: Global, class: &str) -> Result<String, AllocError> {
+    format!(in alloc; "{class} is no class: only IN")
+}
+
+fn no_families(alloc: Global, families: &str) -> Result<String, AllocError> {
+    format!(in alloc; "{families} is no kind of addresses: v4, v6 or v4v6")
 }
 
 fn no_domain(alloc: Global, domain: &str) -> Result<String, AllocError> {
