@@ -1,7 +1,7 @@
 // What the words of a row spell.
 
 use mdns_happened::When;
-use mdns_history::{Held, SharedRr, SharedRrs};
+use mdns_history::{Held, SharedRr, SharedRrs, put_shared};
 use row_words::{RowError, milliseconds, moment, number, record, records};
 use std::alloc::Global;
 
@@ -37,9 +37,7 @@ pub fn all_held(alloc: Global, text: &str) -> Result<Vec<Held>, RowError> {
 /// Records as they are heard.
 pub fn shared(alloc: Global, text: &str) -> Result<SharedRrs, RowError> {
     let mut heard = Vec::new(alloc);
-    for rr in records(alloc, text)? {
-        heard.push(SharedRr::new(alloc, rr)?)?;
-    }
+    put_shared(alloc, &mut heard, &records(alloc, text)?)?;
     Ok(SharedRrs::from_vec(heard))
 }
 
