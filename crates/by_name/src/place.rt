@@ -30,7 +30,7 @@ impl PartialEq for Place {
     ghost laws = { Prim.search (comparing, rules) };
 
     fn eq(&self, other: &Place) -> bool {
-        self.owner.as_slice() == other.owner.as_slice() && self.number == other.number
+        self.owner.is_same(&other.owner) && self.number == other.number
     }
 }
 

@@ -6,12 +6,6 @@ use Rattle.std.proofs.lemmas.Grind.{same_number_lists}
 use Rattle.std.proofs.lemmas.List.FromFn.{get_or-map-range_with_len}
 use Rattle.std.specs.List.{range_with_len}
 use Rattle.dns_name.specs.declared.fold.TheConstants.{LOWER}
-use Rattle.std.proofs.lemmas.Map.Text.{is_eq-slice_cmp}
-use Rattle.std.proofs.lemmas.Slice.Eq.{bytes_eq-Decides}
-use Rattle.std.specs.Cmp.{Equal-is}
-use Rattle.std.specs.Cmp.Lexicographic.{slice_cmp}
-use Rattle.std.specs.Ordering.{nat_cmp}
-use Rattle.std.specs.declared.cmp.Ordering.TheVariants.{Equal}
 use Rattle.std.specs.Char.{to_ascii_lowercase}
 use Rattle.std.specs.Str.{str_to_ascii_lowercase}
 
@@ -30,10 +24,3 @@ lower_table = refl
 
 pub lower_at : (byte : ℕ) → byte < 256 → get_or LOWER byte 0 ≡ to_ascii_lowercase byte
 lower_at byte h = ap (λ l. get_or l byte 0) lower_table ∙ get_or-map-range_with_len to_ascii_lowercase 0 256 byte byte 0 h (omega arith)
-
--- bytes that are the same are equal in order
-pub equal_order : (left right : List ℕ) → left ≡ right → Equal ≡ slice_cmp nat_cmp (str_to_ascii_lowercase left) (str_to_ascii_lowercase right)
-equal_order left right same =
-    let ours = str_to_ascii_lowercase left in
-    let theirs = str_to_ascii_lowercase right in
-    sym ((Equal-is (slice_cmp nat_cmp ours theirs)).0 (is_eq-slice_cmp ours theirs ∙ (bytes_eq-Decides ours theirs).1 (ap str_to_ascii_lowercase same)))

@@ -10,7 +10,7 @@ use Rattle.std.specs.Cmp.Lexicographic.{slice_cmp, on_texts, on_texts_equal}
 use Rattle.std.specs.Ordering.{nat_cmp, is_eq}
 use Rattle.std.specs.declared.cmp.Ordering.TheVariants.{Equal}
 use Rattle.std.proofs.lemmas.Map.Text.{is_eq-slice_cmp}
-use Rattle.std.proofs.lemmas.Bool.{lt-ltb, and_parts}
+use Rattle.std.proofs.lemmas.Bool.{lt-ltb, and_parts, false≢true}
 use Rattle.std.proofs.lemmas.List.{map-append, length-map, append_cancel_left}
 use Rattle.std.proofs.lemmas.Slice.Eq.{bytes_eq-Decides}
 use Rattle.dns_name.specs.Names.{wire_of, is_label, is_name, folded, folded_eq, exact_eq, name_cmp}
@@ -69,6 +69,11 @@ same_folded left right wire other r h k e f test =
       λ same. test.1 (ours ∙ ap wire_of same ∙ sym theirs),
     )
 
+-- and what bytes that differ so say
+pub differ_folded : (left right : List (List ℕ)) (wire other : List ℕ) → IsTrue (is_name left) → IsTrue (is_name right) → wire ≡ wire_of left → other ≡ wire_of right → (str_to_ascii_lowercase wire ≡ str_to_ascii_lowercase other → ⊥) → IsTrue false ↔ (folded left ≡ folded right)
+differ_folded left right wire other h k e f differ =
+    same_folded left right wire other false h k e f (λ no. absurd (false≢true no), λ same. absurd (differ same))
+
 pub same_tests : (r s : Bool) → (IsTrue r → IsTrue s) → (IsTrue s → IsTrue r) → r ≡ s
 same_tests true s to from = sym (to refl)
 same_tests false true to from = from refl
@@ -111,6 +116,14 @@ exact_eq-tells left right =
     let decides = bytes_eq-Decides (wire_of left) (wire_of right) in
     (λ yes. wire_of-injective left right (decides.0 yes), λ same. decides.1 (ap wire_of same))
 
-pub is_exact_eq : (left right : List (List ℕ)) (wire other : List ℕ) (r : Bool) → wire ≡ wire_of left → other ≡ wire_of right → r ≡ bytes_eq wire other → r ≡ exact_eq left right
-unfolding exact_eq
-is_exact_eq left right wire other r e f test = test ∙ ap (λ b. bytes_eq b other) e ∙ ap (bytes_eq (wire_of left)) f
+-- a test that says whether two names are the same is `exact_eq`
+pub is_exact_eq : (left right : List (List ℕ)) (r : Bool) → IsTrue r ↔ (left ≡ right) → r ≡ exact_eq left right
+is_exact_eq left right r tells =
+    let decides = exact_eq-tells left right in
+    same_tests r (exact_eq left right) (λ yes. decides.1 (tells.0 yes)) (λ yes. tells.1 (decides.0 yes))
+
+-- a test that says whether bytes are the same is `bytes_eq`
+pub is_bytes_eq : (left right : List ℕ) (r : Bool) → IsTrue r ↔ (left ≡ right) → r ≡ bytes_eq left right
+is_bytes_eq left right r tells =
+    let decides = bytes_eq-Decides left right in
+    same_tests r (bytes_eq left right) (λ yes. decides.1 (tells.0 yes)) (λ yes. tells.1 (decides.0 yes))

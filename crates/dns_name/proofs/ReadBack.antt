@@ -141,6 +141,20 @@ read_name-name_text (label ∷ name) h k =
     sym (reads_labels (name_text (label ∷ name)) (not_a_dot (name_text (label ∷ name)) long) (ne_eqb (length (name_text (label ∷ name))) 0 (λ z. absurd (omega arith))))
     ∙ ap items_read (items_of-labels (label ∷ name) k) ∙ items_read-name (label ∷ name) h
 
+-- the labels of a wire form of bytes are of bytes
+labels_of_bytes : (name : List (List ℕ)) → are_bytes (wire_of name) ≡ true → list_all are_bytes name ≡ true
+labels_of_bytes [] h = refl
+labels_of_bytes (label ∷ rest) h =
+    let whole = and_parts (ltb (length label) 256) (are_bytes (label ++ wire_of rest)) h in
+    let parts = and_parts (are_bytes label) (are_bytes (wire_of rest)) (sym (list_all-append (λ b. ltb b 256) label (wire_of rest)) ∙ whole.1) in
+    and_from (are_bytes label) (list_all are_bytes rest) parts.0 (labels_of_bytes rest parts.1)
+
+-- so what is written of a name in wire form is read as that name
+pub reads_back : (name : List (List ℕ)) (wire : List ℕ) → IsTrue (is_name name) → wire ≡ wire_of name → All (λ b. b < 256) wire → read_name (name_text name) ≡ Ok name
+reads_back name wire h e small =
+    read_name-name_text name h
+    (labels_of_bytes name (ap are_bytes (sym e) ∙ list_all-from_AllPass (λ b. ltb b 256) wire (λ k d within. lt-ltb _ _ (small k d within))))
+
 -- a label and the labels behind it
 pub bytes_next : (label : List ℕ) (left labels : List (List ℕ)) (P : Type 0) → left ≡ label ∷ labels → All (λ b. b < 256) label → (list_all are_bytes left ≡ true → P) → list_all are_bytes labels ≡ true → P
 bytes_next label left labels P is small then_whole h =

@@ -1,10 +1,10 @@
 -- The text of a name, as it is written.
-use Rattle.std.proofs.Common.{◌≡◌, ℕ, ◌+◌, ◌*◌, ◌≤◌, ◌++◌, ◌==◌, ◌||◌, List, [], ◌∷◌, ◌∙◌, Bool, true, false, length, arith, ap, sym, length-append, append_assoc, leb}
+use Rattle.std.proofs.Common.{◌≡◌, ℕ, ◌+◌, ◌*◌, ◌≤◌, ◌++◌, ◌==◌, ◌||◌, List, [], ◌∷◌, ◌∙◌, Bool, true, false, length, refl, arith, ap, sym, length-append, append_assoc, leb}
 use Rattle.std.specs.Prelude.{if◌then◌else◌}
 use Rattle.std.specs.List.{flat_map}
 use Rattle.dns_name.specs.Names.{wire_of}
 use Rattle.dns_name.proofs.Wire.{wire_some}
-use Rattle.dns_name.specs.NameText.{three_digits, byte_text, label_text}
+use Rattle.dns_name.specs.NameText.{three_digits, byte_text, label_text, name_text}
 
 -- each label and a dot behind it
 abbrev pub labels_text : List (List ℕ) → List ℕ
@@ -37,3 +37,16 @@ told_next out after label all left labels is told e =
 pub room_after : (out after label : List ℕ) (left labels : List (List ℕ)) → left ≡ label ∷ labels → length out + 4 * length (wire_of left) ≤ 1024 → after ≡ out ++ (label_text label ++ 46 ∷ []) → length after + 4 * length (wire_of labels) ≤ 1024
 room_after out after label left labels is room e =
     omega (arith, ap length e, length-append out (label_text label ++ 46 ∷ []), length-append (label_text label) (46 ∷ []), label_text-short label, ap (λ l. length (wire_of l)) is, length-append label (wire_of labels))
+
+-- the root is the name of one byte in wire form
+pub root_of : (name : List (List ℕ)) → length (wire_of name) ≡ 1 → name ≡ []
+root_of [] e = refl
+root_of (label ∷ name) e = absurd (omega (arith, e, wire_some name, length-append label (wire_of name), is_some label name e))
+  where
+    is_some : (label : List ℕ) (name : List (List ℕ)) → length (wire_of (label ∷ name)) ≡ 1 → length label ≡ 0
+    is_some label name e = omega (arith, e, length-append label (wire_of name))
+
+-- any other name's text is that of its labels
+pub text_of_labels : (name : List (List ℕ)) → (length (wire_of name) ≡ 1 → ⊥) → labels_text name ≡ name_text name
+text_of_labels [] some = absurd (some refl)
+text_of_labels (label ∷ name) some = refl

@@ -42,12 +42,8 @@ fn is_same_letter(left: u8, right: u8) -> bool
 pub(crate) fn is_same_folded(left: &[u8], right: &[u8]) -> bool
     ensures { IsTrue result ↔ (str_to_ascii_lowercase left.now ≡ str_to_ascii_lowercase right.now) }
 {
-    if left.len() != right.len() || differ_at_label_end(left, right) {
+    if left.len() != right.len() {
         return false;
-    }
-    // Most names that are the same are spelled the same, too.
-    if left == right {
-        return true;
     }
     for (i, byte) in left.iter().enumerate() {
         if !is_same_letter(*byte, right[i]) {
@@ -57,27 +53,26 @@ pub(crate) fn is_same_folded(left: &[u8], right: &[u8]) -> bool
     true
 }
 
-// Whether two names in wire form surely differ, at the last byte of the first label. Names of a link that differ often do so there: hosts and services are
-// numbered.
+/// Whether two names in wire form surely differ, case aside: by their length, or at the last byte of the first label. Names
+/// of a link that differ often do so there: hosts and services are numbered.
 #[inline]
-fn differ_at_label_end(left: &[u8], right: &[u8]) -> bool
+pub(crate) fn surely_differ(left: &[u8], right: &[u8]) -> bool
     ensures { IsTrue result → str_to_ascii_lowercase left.now ≢ str_to_ascii_lowercase right.now }
 {
+    if left.len() != right.len() {
+        return true;
+    }
     let Some(size) = left.first() else {
         return false;
     };
     let end = usize::from(*size);
-    end < left.len() && end < right.len() && !is_same_letter(left[end], right[end])
+    end < left.len() && !is_same_letter(left[end], right[end])
 }
 
 /// The order of bytes with ASCII letters in lower case.
 pub(crate) fn folded_order(left: &[u8], right: &[u8]) -> Ordering
     ensures { result ≡ slice_cmp nat_cmp (str_to_ascii_lowercase left.now) (str_to_ascii_lowercase right.now) }
 {
-    // Records that are put into order have one owner often, spelled the same.
-    if left == right {
-        return Ordering::Equal;
-    }
     let mut ours = left;
     let mut theirs = right;
     'bytes: while let [a, our_rest @ ..] = ours {

@@ -1,5 +1,6 @@
 // Names without their letters' cases.
 ghost use Rattle.std.specs.Prelude.{◌≡◌};
+ghost use Rattle.std.specs.Str.{bytes_eq};
 ghost use Rattle.dns_name.specs.Names.{wire_of, folded};
 
 use crate::Name;
@@ -37,6 +38,13 @@ impl FoldedName {
         ensures { result.now ≡ self.now }
     {
         self.wire.as_slice()
+    }
+
+    /// Whether the bytes are the other's.
+    pub fn is_same(&self, other: &FoldedName) -> bool
+        ensures { result ≡ bytes_eq self.now other.now }
+    {
+        self.wire.is_spelled_as(&other.wire)
     }
 
     /// An equal one.

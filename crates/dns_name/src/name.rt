@@ -3,7 +3,7 @@ ghost use Rattle.std.specs.Option.{option_copied};
 ghost use Rattle.dns_name.specs.InPlace.{bytes_in};
 ghost use Rattle.dns_name.specs.Names.{is_label, is_name, wire_of, folded, folded_eq, exact_eq, name_cmp, is_under};
 
-use crate::fold::{folded_order, is_same_folded};
+use crate::fold::{folded_order, is_same_folded, surely_differ};
 use crate::wire_bytes::WireBytes;
 use crate::{Label, NameError};
 use std::cmp::Ordering;
@@ -94,7 +94,22 @@ impl Name {
         ensures value { result ≡ folded_eq self.now other.now }
         ensures same { IsTrue result ↔ (folded self.now ≡ folded other.now) }
     {
-        is_same_folded(self.as_wire(), other.as_wire())
+        let (ours, theirs) = (self.as_wire(), other.as_wire());
+        if surely_differ(ours, theirs) {
+            return false;
+        }
+        // Most names that are one are spelled the same, too.
+        if self.is_spelled_as(other) {
+            return true;
+        }
+        is_same_folded(ours, theirs)
+    }
+
+    // Whether the names are spelled the same.
+    fn is_spelled_as(&self, other: &Name) -> bool
+        ensures { IsTrue result ↔ (self.now ≡ other.now) }
+    {
+        self.wire.is_spelled_as(&other.wire)
     }
 
     /// Whether the names agree byte for byte.
@@ -102,7 +117,7 @@ impl Name {
         ensures value { result ≡ exact_eq self.now other.now }
         ensures same { IsTrue result ↔ (self.now ≡ other.now) }
     {
-        self.as_wire() == other.as_wire()
+        self.is_spelled_as(other)
     }
 
     /// The order of names: that of the bytes of their wire forms in lower case.
@@ -110,6 +125,10 @@ impl Name {
         ensures value { result ≡ name_cmp self.now other.now }
         ensures equal { (result ≡ Ordering.Equal) ↔ (folded self.now ≡ folded other.now) }
     {
+        // Records that are put into order have one owner often, spelled the same.
+        if self.is_spelled_as(other) {
+            return Ordering::Equal;
+        }
         folded_order(self.as_wire(), other.as_wire())
     }
 

@@ -1,5 +1,5 @@
 // The bytes of a name in wire form, in a place of their own that is copied as it stands.
-ghost use Rattle.std.specs.Prelude.{◌≡◌, ◌+◌, ◌-◌, ◌<◌, ◌≤◌, ◌++◌, ◌∷◌, [], length, take};
+ghost use Rattle.std.specs.Prelude.{◌≡◌, ◌↔◌, ◌+◌, ◌-◌, ◌<◌, ◌≤◌, ◌++◌, ◌∷◌, [], length, take, IsTrue};
 ghost use Rattle.std.specs.Str.{str_to_ascii_lowercase};
 ghost use Rattle.dns_name.specs.InPlace.{bytes_in};
 
@@ -63,6 +63,28 @@ impl WireBytes {
         self.len = to as u8;
     }
 
+    /// Whether the bytes are the other's: sixteen at a time.
+    pub(crate) fn is_spelled_as(&self, other: &WireBytes) -> bool
+        ensures { IsTrue result ↔ (bytes_in self.now ≡ bytes_in other.now) }
+    {
+        if self.len() != other.len() {
+            return false;
+        }
+        let (mut ours, mut theirs) = (self.bytes.as_slice(), other.bytes.as_slice());
+        let mut left = usize::from(self.len);
+        'chunks: while left >= 16 {
+            let (our, our_rest) = ours.split_first_chunk::<16>().unwrap();
+            let (their, their_rest) = theirs.split_first_chunk::<16>().unwrap();
+            if our != their {
+                return false;
+            }
+            ours = our_rest;
+            theirs = their_rest;
+            left -= 16;
+        }
+        begin_alike(ours, theirs, left)
+    }
+
     /// Puts ASCII letters into lower case.
     pub(crate) fn lower(&mut self)
         ensures { bytes_in self.new ≡ str_to_ascii_lowercase (bytes_in self.old) }
@@ -70,4 +92,21 @@ impl WireBytes {
         let len = usize::from(self.len);
         self.bytes[..len].make_ascii_lowercase();
     }
+}
+
+// Whether the first so many of some bytes are the same, fewer than sixteen. Behind a name there are zero bytes, mostly, so that sixteen are the same where
+// these are.
+fn begin_alike(ours: &[u8], theirs: &[u8], len: usize) -> bool
+    requires few { len ≤ 16 }
+    requires ours { len ≤ length ours.now }
+    requires theirs { len ≤ length theirs.now }
+    ensures { IsTrue result ↔ (take len ours.now ≡ take len theirs.now) }
+{
+    if let Some(our) = ours.first_chunk::<16>()
+        && let Some(their) = theirs.first_chunk::<16>()
+        && our == their
+    {
+        return true;
+    }
+    ours[..len] == theirs[..len]
 }

@@ -33,13 +33,13 @@ pub fn put_record(out: &mut Vec<u8>, rr: &Rr) -> Result<(), AllocError>
     ensures read { OnOk result (IsTrue (is_rdata rr.now.rdata) → record_read (record_text rr.now) ≡ Some rr.now) }
 {
     put_name(out, &rr.owner)?;
-    out.extend_from_slice(b" ")?;
+    out.push(b' ')?;
     put_decimal(out, u64::from(rr.ttl))?;
-    out.extend_from_slice(b" ")?;
+    out.push(b' ')?;
     put_flush(out, rr.flush)?;
-    out.extend_from_slice(b" ")?;
+    out.push(b' ')?;
     put_kind(out, rr.rdata.kind())?;
-    out.extend_from_slice(b" ")?;
+    out.push(b' ')?;
     put_rdata(out, &rr.rdata)?;
     Ok(())
 }
@@ -50,7 +50,7 @@ pub fn put_name(out: &mut Vec<u8>, name: &Name) -> Result<(), AllocError>
     ensures text { OnOk result (out.new.items ≡ out.old.items ++ name_text name.now) }
     ensures read { name_read (name_text name.now) ≡ Some name.now }
 {
-    out.extend_from_slice(name.write_text().as_str().as_bytes())?;
+    name.put_text(out)?;
     Ok(())
 }
 
@@ -60,7 +60,7 @@ fn put_flush(out: &mut Vec<u8>, flush: bool) -> Result<(), AllocError>
     if flush {
         out.extend_from_slice(b"flush")?;
     } else {
-        out.extend_from_slice(b"-")?;
+        out.push(b'-')?;
     }
     Ok(())
 }
@@ -137,7 +137,7 @@ pub fn put_rdata(out: &mut Vec<u8>, rdata: &Rdata) -> Result<(), AllocError>
         } => put_srv(out, *priority, *weight, *port, target)?,
         Rdata::Nsec { next, bitmap } => {
             put_name(out, next)?;
-            out.extend_from_slice(b" ")?;
+            out.push(b' ')?;
             put_hex(out, bitmap.as_slice())?;
         }
         Rdata::Txt(bytes) => put_hex(out, bytes.as_slice())?,
@@ -160,11 +160,11 @@ pub fn put_srv(
     ensures read { OnOk result (srv_read (srv_text priority weight port target.now) ≡ Some (Rdata.Srv priority weight port target.now)) }
 {
     put_decimal(out, u64::from(priority))?;
-    out.extend_from_slice(b" ")?;
+    out.push(b' ')?;
     put_decimal(out, u64::from(weight))?;
-    out.extend_from_slice(b" ")?;
+    out.push(b' ')?;
     put_decimal(out, u64::from(port))?;
-    out.extend_from_slice(b" ")?;
+    out.push(b' ')?;
     put_name(out, target)?;
     Ok(())
 }

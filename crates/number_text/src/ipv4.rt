@@ -43,11 +43,11 @@ fn put_four_bytes(out: &mut Vec<u8>, address: u32) -> Result<(), AllocError>
     ensures { OnOk result (out.new.items ≡ out.old.items ++ ipv4_text address) }
 {
     put_decimal(out, u64::from(address / 16777216))?;
-    out.extend_from_slice(b".")?;
+    out.push(b'.')?;
     put_decimal(out, u64::from(address / 65536 % 256))?;
-    out.extend_from_slice(b".")?;
+    out.push(b'.')?;
     put_decimal(out, u64::from(address / 256 % 256))?;
-    out.extend_from_slice(b".")?;
+    out.push(b'.')?;
     put_decimal(out, u64::from(address % 256))?;
     Ok(())
 }

@@ -1,9 +1,9 @@
 // Labels and service types as text.
 ghost use Rattle.std.specs.Prelude.{◌≡◌, ◌++◌, OnOk};
 ghost use Rattle.std.specs.List.{flat_map};
-ghost use Rattle.dns_name.specs.NameText.{byte_text};
 ghost use Rattle.sd_call.specs.CallText.{label_token, type_byte, type_token};
 
+use dns_name::{put_byte_text, put_label_text};
 use std::alloc::AllocError;
 
 /// Appends the text of a label, the empty one as `\e`. Refused only for want of memory.
@@ -14,16 +14,7 @@ pub fn put_label(out: &mut Vec<u8>, label: &[u8]) -> Result<(), AllocError>
         out.extend_from_slice(b"\\e")?;
         return Ok(());
     }
-    put_bytes(out, label)?;
-    Ok(())
-}
-
-fn put_bytes(out: &mut Vec<u8>, bytes: &[u8]) -> Result<(), AllocError>
-    ensures { OnOk result (out.new.items ≡ out.old.items ++ flat_map byte_text bytes.now) }
-{
-    for byte in bytes {
-        put_byte(out, *byte)?;
-    }
+    put_label_text(out, label)?;
     Ok(())
 }
 
@@ -56,26 +47,6 @@ fn put_type_byte(out: &mut Vec<u8>, byte: u8) -> Result<(), AllocError>
         out.push(byte)?;
         return Ok(());
     }
-    put_byte(out, byte)?;
+    put_byte_text(out, byte)?;
     Ok(())
-}
-
-fn put_byte(out: &mut Vec<u8>, byte: u8) -> Result<(), AllocError>
-    ensures { OnOk result (out.new.items ≡ out.old.items ++ byte_text byte) }
-{
-    match byte {
-        b'.' | b'\\' => {
-            out.extend_from_slice(&[b'\\', byte])?;
-            Ok(())
-        }
-        0..=32 | 127..=255 => {
-            let (high, middle, low) = (byte / 100, byte / 10 % 10, byte % 10);
-            out.extend_from_slice(&[b'\\', b'0' + high, b'0' + middle, b'0' + low])?;
-            Ok(())
-        }
-        _ => {
-            out.push(byte)?;
-            Ok(())
-        }
-    }
 }

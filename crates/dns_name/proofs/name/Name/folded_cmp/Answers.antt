@@ -1,7 +1,11 @@
-use Rattle.std.proofs.Common.{◌≡◌, ◌∙◌, sym}
-use Rattle.dns_name.specs.Names.{name_cmp}
+use Rattle.std.proofs.Common.{◌≡◌, ◌∙◌, ap, sym}
+use Rattle.dns_name.specs.Names.{name_cmp, folded}
 use Rattle.dns_name.proofs.Folding.{is_name_cmp, name_cmp-equal}
 use Rattle.dns_name.proofs.name.Name.folded_cmp.Goals as goal
+
+pub returns-then-is_spelled_as-clause-value : goal.returns-then-is_spelled_as-clause-value
+returns-then-is_spelled_as-clause-value c =
+    sym ((name_cmp-equal c.args.self.now c.args.other.now).1 (ap folded (c.is_spelled_as.ensures.0 c.if-is_spelled_as.true)))
 
 -- what is answered is the order of the names
 tells : (c : goal.After-folded_order) → c.folded_order.result ≡ name_cmp c.args.self.now c.args.other.now
