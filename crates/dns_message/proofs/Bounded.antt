@@ -1,6 +1,6 @@
 -- No fault behind the test of the length says that the message is too long.
 use Rattle.std.proofs.Common.{◌≡◌, ◌-◌, ◌||◌, not, eqb, leb, ◌≤◌, ◌∙◌, sym, inl, inr, length, ℕ, zero, suc, ◌+◌, Bool, true, false, cond, List, Option, Some, None, Result, Ok, Err}
-use Rattle.std.specs.List.{slice_get, slice_range}
+use Rattle.std.specs.List.{slice_range}
 use Rattle.std.proofs.lemmas.Bool.{le-leb}
 use Rattle.dns_record.specs.declared.record.Rdata.TheVariants.{A, Aaaa, Ptr, Cname, Txt, Raw}
 use Rattle.dns_pointers.specs.declared.fault.NameFault.{NameFault}

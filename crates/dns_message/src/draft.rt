@@ -89,12 +89,14 @@ impl<'a> Written<'a> {
 #[derive(Drop)]
 pub struct Draft<'a> {
     message: Message,
-    so_far: Option<Written<'a>>,
+    so_far: Written<'a>,
+    // Whether memory was refused, so that what was written may be other than the message.
+    lost: bool,
     over: bool,
 }
 
 impl<'a> Model for Draft<'a> {
-    ghost use Rattle.std.specs.Prelude.{◌<◌, length, IsTrue, IfSome};
+    ghost use Rattle.std.specs.Prelude.{◌≡◌, ◌<◌, false, length, IsTrue};
     ghost use Rattle.dns_message.specs.declared.message.Message.{Message};
     ghost use Rattle.dns_message.specs.Writing.{written};
     ghost use Rattle.dns_message.specs.Drafting.{IsDrafted};
@@ -103,8 +105,8 @@ impl<'a> Model for Draft<'a> {
 
     ghost view = { λ d. d.message };
 
-    // Nothing is written of a message that is longer than any may be, nor where memory was refused.
-    ghost invariant = { λ d. IfSome d.so_far (λ w. IsDrafted d.message w.0 w.1) × (IsTrue d.over → 8972 < length (written d.message)) };
+    // Nothing more is written of a message that is longer than any may be, nor where memory was refused.
+    ghost invariant = { λ d. (d.lost ≡ false → IsDrafted d.message d.so_far.0 d.so_far.1) × (IsTrue d.over → 8972 < length (written d.message)) };
 }
 
 impl<'a> Draft<'a> {
@@ -126,7 +128,7 @@ impl<'a> Draft<'a> {
     fn of(alloc: Global, response: bool) -> Result<Self, AllocError>
         ensures { IfOk result (λ draft. draft ≡ (if response then bare_reply [] else bare_query [] [])) }
     {
-        let so_far = Some(Written::new(alloc)?);
+        let so_far = Written::new(alloc)?;
         let message = Message {
             id: 0,
             response,
@@ -142,8 +144,17 @@ impl<'a> Draft<'a> {
         Ok(Draft {
             message,
             so_far,
+            lost: false,
             over: false,
         })
+    }
+
+    /// Takes room for so many answers more. Nothing else changes. Refused only for want of memory.
+    pub fn reserve(&mut self, answers: usize) -> Result<(), AllocError>
+        ensures { self.new ≡ self.old }
+    {
+        self.message.answers.reserve(answers)?;
+        Ok(())
     }
 
     /// Adds a question to a message without records, where the message then has at most so many bytes, and tells whether
@@ -158,15 +169,16 @@ impl<'a> Draft<'a> {
         if self.over {
             return Ok(false);
         }
-        let Some(mut written) = self.so_far.take() else {
+        if self.lost {
             return Err(AllocError);
-        };
-        if !written.question(question, most)? {
-            self.so_far = Some(written);
+        }
+        self.lost = true;
+        if !self.so_far.question(question, most)? {
+            self.lost = false;
             return Ok(false);
         }
         self.message.questions.push(copied(question))?;
-        self.so_far = Some(written);
+        self.lost = false;
         Ok(true)
     }
 
@@ -185,15 +197,16 @@ impl<'a> Draft<'a> {
         if is_too_long(&rr.rdata) {
             return Ok(false);
         }
-        let Some(mut written) = self.so_far.take() else {
+        if self.lost {
             return Err(AllocError);
-        };
-        if !written.record(rr, most)? {
-            self.so_far = Some(written);
+        }
+        self.lost = true;
+        if !self.so_far.record(rr, most)? {
+            self.lost = false;
             return Ok(false);
         }
         self.message.answers.push(rr.copy()?)?;
-        self.so_far = Some(written);
+        self.lost = false;
         Ok(true)
     }
 
@@ -208,7 +221,7 @@ impl<'a> Draft<'a> {
             return Ok(());
         }
         self.message.answers.push(rr.copy()?)?;
-        self.so_far = None;
+        self.lost = true;
         self.over = true;
         Ok(())
     }
@@ -224,7 +237,7 @@ impl<'a> Draft<'a> {
             return Ok(());
         }
         self.message.questions.push(copied(question))?;
-        self.so_far = None;
+        self.lost = true;
         self.over = true;
         Ok(())
     }

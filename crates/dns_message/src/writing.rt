@@ -1,7 +1,7 @@
 // Writing a message.
 ghost use Rattle.std.specs.Prelude.{◌≡◌, ◌≢◌, ◌+◌, ◌<◌, ◌≤◌, ◌++◌, ℕ, List, [], ◌∷◌, Ok, Err, length, IfOk, OnOk, IsErrOf, MatchResult};
-ghost use Rattle.std.specs.Int.{to_be_bytes, w16};
-ghost use Rattle.dns_record.specs.Records.{data_of};
+ghost use Rattle.std.specs.Int.{to_be_bytes, w16, w32};
+ghost use Rattle.dns_record.specs.Records.{data_of, kind_of};
 ghost use Rattle.dns_message.specs.declared.message.Message.{Message};
 ghost use Rattle.dns_pointers.specs.Writing.{Offsets, Piece};
 ghost use Rattle.dns_message.specs.Writing.{written, written_question, written_record, written_data, written_all, header, flag_bytes, count_bytes, item_count, class_word, bit_worth};
@@ -181,11 +181,19 @@ pub(crate) fn put_record<'a>(
 {
     let owner = compress(names, out.len(), &rr.owner)?;
     owner.put(out)?;
-    out.extend_from_slice(&rr.rdata.kind().to_be_bytes())?;
-    out.extend_from_slice(&class(rr.flush))?;
-    out.extend_from_slice(&rr.ttl.to_be_bytes())?;
+    out.extend_from_slice(&fixed(rr))?;
     put_data(out, names, &rr.rdata)?;
     Ok(())
+}
+
+// The fields between the owner and the data: type, class and TTL. They are put behind a message at once.
+fn fixed(rr: &Rr) -> [u8; 8]
+    ensures { result ≡ to_be_bytes w16 (kind_of rr.now.rdata) ++ class_word rr.now.flush ++ to_be_bytes w32 rr.now.ttl }
+{
+    let [a, b] = rr.rdata.kind().to_be_bytes();
+    let [c, d] = class(rr.flush);
+    let [e, f, g, h] = rr.ttl.to_be_bytes();
+    [a, b, c, d, e, f, g, h]
 }
 
 // The length of data and the data.
@@ -201,8 +209,8 @@ fn put_data<'a>(
         (λ e. e ≢ WriteError.NoMemory → 8972 < length piece.bytes) }
 {
     match rdata {
-        Rdata::A(address) => put_sized(out, &address.to_be_bytes()),
-        Rdata::Aaaa(address) => put_sized(out, &address.to_be_bytes()),
+        Rdata::A(address) => put_address(out, &address.to_be_bytes()),
+        Rdata::Aaaa(address) => put_address(out, &address.to_be_bytes()),
         Rdata::Ptr(name) | Rdata::Cname(name) => {
             let name = compress(names, out.len() + 2, name)?;
             put_length(out, name.len())?;
@@ -227,6 +235,18 @@ fn put_sized(out: &mut Vec<u8>, bytes: &[u8]) -> Result<(), WriteError>
         (λ e. e ≢ WriteError.NoMemory → 8972 < length bytes.now) }
 {
     put_length(out, bytes.len())?;
+    out.extend_from_slice(bytes)?;
+    Ok(())
+}
+
+// The bytes of an address behind their length, which is less than 256.
+fn put_address(out: &mut Vec<u8>, bytes: &[u8]) -> Result<(), WriteError>
+    requires { length bytes.now < 256 }
+    ensures { MatchResult result
+        (λ _. out.new.items ≡ out.old.items ++ to_be_bytes w16 (length bytes.now) ++ bytes.now)
+        (λ e. e ≡ WriteError.NoMemory) }
+{
+    out.extend_from_slice(&[0, bytes.len() as u8])?;
     out.extend_from_slice(bytes)?;
     Ok(())
 }

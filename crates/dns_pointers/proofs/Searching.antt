@@ -1,11 +1,11 @@
 -- The search for a name begins at the first place of its slot.
-use Rattle.std.proofs.Common.{◌≡◌, ℕ, zero, suc, ◌+◌, ◌*◌, ◌%◌, ◌<◌, ◌≤◌, ◌⊎◌, inl, inr, ◌++◌, List, [], ◌∷◌, ◌∙◌, Bool, true, false, cond, length, take, drop, set, get_or, refl, arith, ap, sym, Some, None}
+use Rattle.std.proofs.Common.{◌≡◌, ℕ, zero, suc, ◌+◌, ◌*◌, ◌%◌, ◌<◌, ◌≤◌, ◌⊎◌, inl, inr, ◌++◌, List, [], ◌∷◌, ◌∙◌, Bool, true, false, cond, length, take, drop, set, get_or, refl, arith, ap, sym, subst, Some, None}
 use Rattle.std.proofs.Math.Seq.{take-nil, take-length, drop-cons}
 use Rattle.std.proofs.lemmas.List.{take-append-le, take-append-drop}
 use Rattle.std.proofs.lemmas.List.{get_or-set_same, get_or-set_other}
 use Rattle.std.proofs.lemmas.Bool.Decides.{leb_tells, eqb_tells}
-use Rattle.std.specs.Prelude.{IsTrue, eqb, leb}
-use Rattle.dns_name.specs.Names.{wire_of, exact_eq}
+use Rattle.std.specs.Prelude.{IsTrue, Option, MatchOption, eqb, leb}
+use Rattle.dns_name.specs.Names.{wire_of, labels_of, exact_eq, IsNameInWire}
 use Rattle.dns_name.proofs.Folding.{exact_eq-tells}
 use Rattle.dns_pointers.specs.Writing.{Offsets, offset_of}
 use Rattle.dns_pointers.specs.Compressing.{slot_of, mixed, AreFirsts}
@@ -70,6 +70,12 @@ none_yet names firsts e = record {
   none = λ name. ap (offset_of name) (ap (take (get_or firsts (slot_of (wire_of name)) 0)) e ∙ take-nil (get_or firsts (slot_of (wire_of name)) 0)) ∙ nowhere name;
 }
 
+-- a table that isn't there
+pub none_at_all : (names : Offsets) (firsts : List ℕ) → firsts ≡ [] → AreFirsts names firsts
+none_at_all names firsts e = record {
+  none = λ name. ap (λ (l : List ℕ). offset_of name (take (get_or l (slot_of (wire_of name)) 0) names)) e ∙ nowhere name;
+}
+
 -- fewer names
 pub fewer_names : (names : Offsets) (firsts : List ℕ) (k : ℕ) → AreFirsts names firsts → AreFirsts (take k names) firsts
 fewer_names names firsts k h = record {
@@ -79,16 +85,23 @@ fewer_names names firsts k h = record {
 }
 
 -- the search from there
-pub searched : (names : Offsets) (firsts : List ℕ) (name : List (List ℕ)) (first : ℕ) → AreFirsts names firsts → first ≡ get_or firsts (slot_of (wire_of name)) 0
+searched : (names : Offsets) (firsts : List ℕ) (name : List (List ℕ)) (first : ℕ) → AreFirsts names firsts → first ≡ get_or firsts (slot_of (wire_of name)) 0
     → offset_of name (drop first names) ≡ offset_of name names
 searched names firsts name first h e =
     let none : offset_of name (take first names) ≡ None = ap (λ (n : ℕ). offset_of name (take n names)) e ∙ h.none name in
     sym (none_in_both name (take first names) (drop first names) none) ∙ ap (offset_of name) (take-append-drop first names)
 
--- no name has the slot
-pub none_there : (names : Offsets) (firsts : List ℕ) (name : List (List ℕ)) (first : ℕ) → AreFirsts names firsts → first ≡ get_or firsts (slot_of (wire_of name)) 0
-    → length names ≤ first → None ≡ offset_of name names
-none_there names firsts name first h e past = sym (nowhere name) ∙ ap (offset_of name) (sym (drop_all first names past)) ∙ searched names firsts name first h e
+-- no name stands from there on
+pub none_behind : (names : Offsets) (name : List (List ℕ)) (first : ℕ) → length names ≤ first → None ≡ offset_of name (drop first names)
+none_behind names name first past = sym (nowhere name) ∙ ap (offset_of name) (sym (drop_all first names past))
+
+-- the same, of a name in wire form, by its slot
+pub sought_behind : (names all : Offsets) (firsts table wire : List ℕ) (slot first : ℕ) → IsNameInWire wire → AreFirsts names firsts → slot ≡ slot_of wire
+    → first ≡ get_or table slot 0 → table ≡ firsts → all ≡ names → offset_of (labels_of wire) (drop first all) ≡ offset_of (labels_of wire) names
+sought_behind names all firsts table wire slot first kept h s f t a =
+    let at : first ≡ get_or firsts (slot_of (wire_of (labels_of wire))) 0 =
+    f ∙ ap (λ (l : List ℕ). get_or l slot 0) t ∙ ap (λ (i : ℕ). get_or firsts i 0) (s ∙ ap slot_of (sym kept.1)) in
+    ap (λ (l : Offsets). offset_of (labels_of wire) (drop first l)) a ∙ searched names firsts (labels_of wire) first h at
 
 -- One more name leaves what is known of a slot, where it has another slot or one of it stands before.
 still_none : (names : Offsets) (name other : List (List ℕ)) (offset first : ℕ) → offset_of name (take first names) ≡ None
@@ -148,12 +161,23 @@ new_first names firsts other offset h within past = record {
 
 -- The number that a slot is mixed of.
 pub mixed_step : (bytes : List ℕ) (i : ℕ) (x slot : ℕ) → i < length bytes → x ≡ get_or bytes i 0
-    → mixed slot (drop i bytes) ≡ mixed ((slot * 33 + x) % 2048) (drop (i + 1) bytes)
+    → mixed slot (drop i bytes) ≡ mixed ((slot * 33 + x) % 1024) (drop (i + 1) bytes)
 unfolding mixed
 mixed_step bytes i x slot h e =
     let one : i + 1 ≡ suc i = omega arith in
-    rw one (ap (mixed slot) (drop-cons bytes i 0 h) ∙ ap (λ (y : ℕ). mixed ((slot * 33 + y) % 2048) (drop (suc i) bytes)) (sym e))
+    rw one (ap (mixed slot) (drop-cons bytes i 0 h) ∙ ap (λ (y : ℕ). mixed ((slot * 33 + y) % 1024) (drop (suc i) bytes)) (sym e))
 
 pub mixed_end : (bytes : List ℕ) (i slot : ℕ) → length bytes ≤ i → mixed slot (drop i bytes) ≡ slot
 unfolding mixed
 mixed_end bytes i slot h = ap (mixed slot) (drop_all i bytes h)
+
+-- what is told of a name that was found, and of one that wasn't
+pub told_found : (A B : Type 0) (found : Option ℕ) (offset : ℕ) → found ≡ Some offset → MatchOption found A (λ _. B) → B
+told_found A B found offset e h = subst (λ (o : Option ℕ). MatchOption o A (λ _. B)) e h
+
+pub none_told : (A B : Type 0) (found : Option ℕ) → found ≡ None → MatchOption found A (λ _. B) → A
+none_told A B found e h = subst (λ (o : Option ℕ). MatchOption o A (λ _. B)) e h
+
+pub told_none : (found : Option ℕ) → ((offset : ℕ) → found ≡ Some offset → ⊥) → found ≡ None
+told_none None none = refl
+told_none (Some offset) none = absurd (none offset refl)

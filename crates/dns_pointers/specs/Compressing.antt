@@ -15,14 +15,14 @@ pub record IsCut (wire rest : List ℕ) : Type 0 where
   pub bytes : wire ≡ length label ∷ label ++ rest
   pub in_wire : IsNameInWire rest
 
--- a number below 2048, mixed of a start and of bytes
+-- a number below 1024, mixed of a start and of bytes
 unfoldable pub mixed : ℕ → List ℕ → ℕ
 mixed slot [] = slot
-mixed slot (byte ∷ bytes) = mixed ((slot * 33 + byte) % 2048) bytes
+mixed slot (byte ∷ bytes) = mixed ((slot * 33 + byte) % 1024) bytes
 
 -- the slot of a name in wire form: by its length and its first label
 abbrev pub slot_of : List ℕ → ℕ
-slot_of wire = mixed (length wire % 2048) (take (1 + get_or wire 0 0) wire)
+slot_of wire = mixed (length wire % 1024) (take (1 + get_or wire 0 0) wire)
 
 -- For each slot it is known before which place no name of it stands.
 pub record AreFirsts (names : Offsets) (firsts : List ℕ) : Type 0 where

@@ -67,13 +67,12 @@ pub fn compress<'a>(
     let mut rest = wire;
     'labels: while rest.len() > 1 {
         let place = wire.len() - rest.len();
-        if let Some(offset) = names.find(rest) {
+        if let Some(offset) = names.find_or_push(rest, (at + place) as u16)? {
             return Ok(Compressed {
                 labels: &wire[..place],
                 pointer: Some(offset),
             });
         }
-        names.push(rest, (at + place) as u16)?;
         rest = behind_label(rest);
     }
     Ok(Compressed {

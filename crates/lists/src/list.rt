@@ -35,6 +35,14 @@ impl<T: Drop> List<T> {
         List { vec }
     }
 
+    /// Takes room for so many values more. Nothing else changes. Refused only for want of memory.
+    pub fn reserve(&mut self, more: usize) -> Result<(), AllocError>
+        ensures { self.new ≡ self.old }
+    {
+        self.vec.reserve(more)?;
+        Ok(())
+    }
+
     /// Puts a value at the end. Where memory is refused, the list stays as it was.
     pub fn push(&mut self, value: T) -> Result<(), AllocError>
         ensures ok { OnOk result (self.new ≡ self.old ++ value ∷ []) }

@@ -12,6 +12,9 @@ use dns_record::{Key, Question};
 use std::alloc::{AllocError, Global};
 use std::mem;
 
+// About so many records of a few bytes fit a message, so that there is room for them ahead.
+const MOST_LISTED: usize = 90;
+
 /// The messages that ask questions, in their order, and list those of the known answers that match one of them. As many
 /// questions as fit 1440 bytes, and at least one, make a batch; its known answers follow while the message stays within
 /// 1440 bytes. Where one doesn't fit, the message says that more follows (TC), and a message without questions begins with
@@ -96,7 +99,9 @@ fn put_batch<'a>(
     requires { draft ≡ bare_query (map question_for batch.now) [] }
     ensures { OnOk result (messages.new ≡ messages.old ++ batch_messages known.now batch.now) }
 {
-    let mut listed = Vec::new(alloc);
+    let room = known.len().min(MOST_LISTED);
+    draft.reserve(room)?;
+    let mut listed = Vec::with_capacity(alloc, room)?;
     for listing in known {
         if listing.matches_any(batch) {
             put_known(alloc, messages, &mut draft, &mut listed, listing)?;
@@ -143,6 +148,7 @@ fn begin_next<'a>(
     ensures message { OnOk result (bare_query draft.new.questions listed.new.items ≡ bare_query [] (listing.now ∷ [])) }
 {
     let mut next = Draft::query(alloc)?;
+    next.reserve(listed.len())?;
     next.answer_always(listing.record())?;
     let mut message = laid_out(mem::replace(draft, next).into_message(), listed);
     message.truncated = true;

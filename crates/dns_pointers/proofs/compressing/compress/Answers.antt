@@ -1,6 +1,7 @@
-use Rattle.std.proofs.Common.{◌≡◌, ◌-◌, length, arith, ap, ◌∙◌, append-nil, length-append}
+use Rattle.std.proofs.Common.{◌≡◌, ◌-◌, length, arith, ap, sym, ◌∙◌, append-nil, length-append}
 use Rattle.dns_pointers.specs.Writing.{Piece}
 use Rattle.dns_pointers.proofs.NameParts.{begins, found, pushed_on, ended}
+use Rattle.dns_pointers.proofs.Searching.{told_found, told_none, none_told}
 use Rattle.dns_pointers.proofs.compressing.compress.Goals as goal
 
 pub labels-init : goal.labels-init
@@ -15,19 +16,22 @@ labels-init c =
 
 pub returns-in-Some-clause-bytes : goal.returns-in-Some-clause-bytes
 returns-in-Some-clause-bytes c =
-    ap (λ (p : Piece). p.bytes) (found _ _ _ c.in-Some.offset _ _ _ c.labels.invariant.under_way c.labels-test.true c.in-Some.ensures.value)
+    ap (λ (p : Piece). p.bytes) (found _ _ _ c.in-Some.offset _ _ _ c.labels.invariant.under_way c.labels-test.true (sym c.in-Some.is ∙ c.in_ok-offset.ensures.found))
 
 pub returns-in-Some-clause-names : goal.returns-in-Some-clause-names
 returns-in-Some-clause-names c =
-    ap (λ (p : Piece). p.names) (found _ _ _ c.in-Some.offset _ _ _ c.labels.invariant.under_way c.labels-test.true c.in-Some.ensures.value)
+    told_found _ _ _ _ c.in-Some.is c.in_ok-offset.ensures.names
+    ∙ ap (λ (p : Piece). p.names) (found _ _ _ c.in-Some.offset _ _ _ c.labels.invariant.under_way c.labels-test.true (sym c.in-Some.is ∙ c.in_ok-offset.ensures.found))
 
 pub labels-preserved : goal.labels-preserved
 labels-preserved c =
     let cut = c.behind_label-rest.ensures in
+    let none = told_none c.in_ok-offset.field-0 c.in_default.not-Some in
     record {
       wire = c.labels.invariant.wire;
       within = omega (arith, ap length cut.bytes, length-append cut.label c.behind_label-rest.result.now, c.labels.invariant.within);
-      under_way = pushed_on _ _ _ _ _ _ _ _ c.labels.invariant.wire c.labels.invariant.within c.labels.invariant.under_way cut c.in_default.ensures.value c.in_ok-push.ensures;
+      under_way = pushed_on _ _ _ _ _ _ _ _ c.labels.invariant.wire c.labels.invariant.within c.labels.invariant.under_way cut
+          (sym none ∙ c.in_ok-offset.ensures.found) (none_told _ _ _ none c.in_ok-offset.ensures.names);
     }
 
 pub returns-clause-bytes : goal.returns-clause-bytes

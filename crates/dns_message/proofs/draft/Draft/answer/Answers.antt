@@ -1,7 +1,5 @@
-use Rattle.std.proofs.Common.{◌<◌, ◌∙◌, ℕ, true≢false, ap, sym, subst, length}
-use Rattle.std.specs.Prelude.{Option, IfSome}
+use Rattle.std.proofs.Common.{◌<◌, ◌∙◌, true≢false, ap, sym, subst, length}
 use Rattle.dns_message.specs.declared.message.Message.{Message}
-use Rattle.dns_pointers.specs.Writing.{Offsets}
 use Rattle.dns_message.specs.Writing.{written, written_record}
 use Rattle.dns_message.specs.Packing.{is_within_length}
 use Rattle.dns_message.specs.Drafting.{with_answer, IsDrafted}
@@ -31,16 +29,16 @@ returns-then-is_too_long-clause-grown c =
 pub returns-then-not-branch-clause-fits : goal.returns-then-not-branch-clause-fits
 returns-then-not-branch-clause-fits c =
     let m = c.self.inside.message in
-    let w = c.in-Some.written in
-    let drafted : IsDrafted m w.0 w.1 = subst (λ (o : Option (ℕ × Offsets)). IfSome o (λ v. IsDrafted m v.0 v.1)) (sym c.in-Some.ensures.value) c.self.invariant.0 in
+    let w = c.self.inside.so_far in
+    let drafted : IsDrafted m w.0 w.1 = c.self.invariant.0 c.if-self-2.false in
     sym c.if-not-branch.true ∙ c.in_ok-record.ensures.fits ∙ fits_is m (with_answer m c.args.rr.now) w.0 c.args.most (written_record w.1 w.0 c.args.rr.now) (next_answer m c.args.rr.now w.0 w.1 drafted (ap (λ (m : Message). m.authority) c.self.view_is ∙ c.requires.authority) (ap (λ (m : Message). m.additional) c.self.view_is ∙ c.requires.additional))
     ∙ ap (λ (x : Message). is_within_length c.args.most (with_answer x c.args.rr.now)) c.self.view_is
 
 pub returns-then-not-branch-clause-grown : goal.returns-then-not-branch-clause-grown
 returns-then-not-branch-clause-grown c =
     let m = c.self.inside.message in
-    let w = c.in-Some.written in
-    let drafted : IsDrafted m w.0 w.1 = subst (λ (o : Option (ℕ × Offsets)). IfSome o (λ v. IsDrafted m v.0 v.1)) (sym c.in-Some.ensures.value) c.self.invariant.0 in
+    let w = c.self.inside.so_far in
+    let drafted : IsDrafted m w.0 w.1 = c.self.invariant.0 c.if-self-2.false in
     c.self.view_is ∙ no_is (is_within_length c.args.most (with_answer c.args.self.now c.args.rr.now)) (with_answer c.args.self.now c.args.rr.now) c.args.self.now
     (sym c.if-not-branch.true ∙ c.in_ok-record.ensures.fits ∙ fits_is m (with_answer m c.args.rr.now) w.0 c.args.most (written_record w.1 w.0 c.args.rr.now) (next_answer m c.args.rr.now w.0 w.1 drafted (ap (λ (m : Message). m.authority) c.self.view_is ∙ c.requires.authority) (ap (λ (m : Message). m.additional) c.self.view_is ∙ c.requires.additional))
     ∙ ap (λ (x : Message). is_within_length c.args.most (with_answer x c.args.rr.now)) c.self.view_is)
@@ -48,9 +46,9 @@ returns-then-not-branch-clause-grown c =
 pub invariant_of-self-2 : goal.invariant_of-self-2
 invariant_of-self-2 c =
     let m = c.self.inside.message in
-    let w = c.in-Some.written in
-    let drafted : IsDrafted m w.0 w.1 = subst (λ (o : Option (ℕ × Offsets)). IfSome o (λ v. IsDrafted m v.0 v.1)) (sym c.in-Some.ensures.value) c.self.invariant.0 in (
-      drafted_put m (with_answer m c.args.rr.now) _ w c.record.new.self (written_record w.1 w.0 c.args.rr.now) c.args.most (next_answer m c.args.rr.now w.0 w.1 drafted (ap (λ (m : Message). m.authority) c.self.view_is ∙ c.requires.authority) (ap (λ (m : Message). m.additional) c.self.view_is ∙ c.requires.additional)) c.requires.limit
+    let w = c.self.inside.so_far in
+    let drafted : IsDrafted m w.0 w.1 = c.self.invariant.0 c.if-self-2.false in (
+      λ _. drafted_put m (with_answer m c.args.rr.now) _ w c.record.new.self (written_record w.1 w.0 c.args.rr.now) c.args.most (next_answer m c.args.rr.now w.0 w.1 drafted (ap (λ (m : Message). m.authority) c.self.view_is ∙ c.requires.authority) (ap (λ (m : Message). m.additional) c.self.view_is ∙ c.requires.additional)) c.requires.limit
           (sym c.if-not-branch.false ∙ c.in_ok-record.ensures.fits) c.in_ok-record.ensures.grown (answered m c.push.new.self c.args.rr.now c.in_ok-copy.field-0 c.in_ok-copy.ensures c.in_ok-push.ensures.ok),
       λ e. absurd (true≢false (sym e ∙ c.if-self.false)),
     )
@@ -58,16 +56,16 @@ invariant_of-self-2 c =
 pub returns-clause-fits : goal.returns-clause-fits
 returns-clause-fits c =
     let m = c.self.inside.message in
-    let w = c.in-Some.written in
-    let drafted : IsDrafted m w.0 w.1 = subst (λ (o : Option (ℕ × Offsets)). IfSome o (λ v. IsDrafted m v.0 v.1)) (sym c.in-Some.ensures.value) c.self.invariant.0 in
+    let w = c.self.inside.so_far in
+    let drafted : IsDrafted m w.0 w.1 = c.self.invariant.0 c.if-self-2.false in
     sym c.if-not-branch.false ∙ c.in_ok-record.ensures.fits ∙ fits_is m (with_answer m c.args.rr.now) w.0 c.args.most (written_record w.1 w.0 c.args.rr.now) (next_answer m c.args.rr.now w.0 w.1 drafted (ap (λ (m : Message). m.authority) c.self.view_is ∙ c.requires.authority) (ap (λ (m : Message). m.additional) c.self.view_is ∙ c.requires.additional))
     ∙ ap (λ (x : Message). is_within_length c.args.most (with_answer x c.args.rr.now)) c.self.view_is
 
 pub returns-clause-grown : goal.returns-clause-grown
 returns-clause-grown c =
     let m = c.self.inside.message in
-    let w = c.in-Some.written in
-    let drafted : IsDrafted m w.0 w.1 = subst (λ (o : Option (ℕ × Offsets)). IfSome o (λ v. IsDrafted m v.0 v.1)) (sym c.in-Some.ensures.value) c.self.invariant.0 in
+    let w = c.self.inside.so_far in
+    let drafted : IsDrafted m w.0 w.1 = c.self.invariant.0 c.if-self-2.false in
     answered m c.push.new.self c.args.rr.now c.in_ok-copy.field-0 c.in_ok-copy.ensures c.in_ok-push.ensures.ok ∙ ap (λ (x : Message). with_answer x c.args.rr.now) c.self.view_is
     ∙ yes_is (is_within_length c.args.most (with_answer c.args.self.now c.args.rr.now)) (with_answer c.args.self.now c.args.rr.now) c.args.self.now
     (sym c.if-not-branch.false ∙ c.in_ok-record.ensures.fits ∙ fits_is m (with_answer m c.args.rr.now) w.0 c.args.most (written_record w.1 w.0 c.args.rr.now) (next_answer m c.args.rr.now w.0 w.1 drafted (ap (λ (m : Message). m.authority) c.self.view_is ∙ c.requires.authority) (ap (λ (m : Message). m.additional) c.self.view_is ∙ c.requires.additional))

@@ -1,7 +1,5 @@
-use Rattle.std.proofs.Common.{◌<◌, ◌∙◌, ℕ, true≢false, ap, sym, subst, length}
-use Rattle.std.specs.Prelude.{Option, IfSome}
+use Rattle.std.proofs.Common.{◌<◌, ◌∙◌, true≢false, ap, sym, subst, length}
 use Rattle.dns_message.specs.declared.message.Message.{Message}
-use Rattle.dns_pointers.specs.Writing.{Offsets}
 use Rattle.dns_message.specs.Writing.{written, written_question}
 use Rattle.dns_message.specs.Packing.{is_within_length}
 use Rattle.dns_message.specs.Drafting.{with_question, records_of, IsDrafted}
@@ -22,16 +20,16 @@ returns-then-self-clause-grown c =
 pub returns-then-not-branch-clause-fits : goal.returns-then-not-branch-clause-fits
 returns-then-not-branch-clause-fits c =
     let m = c.self.inside.message in
-    let w = c.in-Some.written in
-    let drafted : IsDrafted m w.0 w.1 = subst (λ (o : Option (ℕ × Offsets)). IfSome o (λ v. IsDrafted m v.0 v.1)) (sym c.in-Some.ensures.value) c.self.invariant.0 in
+    let w = c.self.inside.so_far in
+    let drafted : IsDrafted m w.0 w.1 = c.self.invariant.0 c.if-self-2.false in
     sym c.if-not-branch.true ∙ c.in_ok-question.ensures.fits ∙ fits_is m (with_question m c.args.question.now) w.0 c.args.most (written_question w.1 w.0 c.args.question.now) (next_question m c.args.question.now w.0 w.1 drafted (ap records_of c.self.view_is ∙ c.requires.first))
     ∙ ap (λ (x : Message). is_within_length c.args.most (with_question x c.args.question.now)) c.self.view_is
 
 pub returns-then-not-branch-clause-grown : goal.returns-then-not-branch-clause-grown
 returns-then-not-branch-clause-grown c =
     let m = c.self.inside.message in
-    let w = c.in-Some.written in
-    let drafted : IsDrafted m w.0 w.1 = subst (λ (o : Option (ℕ × Offsets)). IfSome o (λ v. IsDrafted m v.0 v.1)) (sym c.in-Some.ensures.value) c.self.invariant.0 in
+    let w = c.self.inside.so_far in
+    let drafted : IsDrafted m w.0 w.1 = c.self.invariant.0 c.if-self-2.false in
     c.self.view_is ∙ no_is (is_within_length c.args.most (with_question c.args.self.now c.args.question.now)) (with_question c.args.self.now c.args.question.now) c.args.self.now
     (sym c.if-not-branch.true ∙ c.in_ok-question.ensures.fits ∙ fits_is m (with_question m c.args.question.now) w.0 c.args.most (written_question w.1 w.0 c.args.question.now) (next_question m c.args.question.now w.0 w.1 drafted (ap records_of c.self.view_is ∙ c.requires.first))
     ∙ ap (λ (x : Message). is_within_length c.args.most (with_question x c.args.question.now)) c.self.view_is)
@@ -39,9 +37,9 @@ returns-then-not-branch-clause-grown c =
 pub invariant_of-self-2 : goal.invariant_of-self-2
 invariant_of-self-2 c =
     let m = c.self.inside.message in
-    let w = c.in-Some.written in
-    let drafted : IsDrafted m w.0 w.1 = subst (λ (o : Option (ℕ × Offsets)). IfSome o (λ v. IsDrafted m v.0 v.1)) (sym c.in-Some.ensures.value) c.self.invariant.0 in (
-      drafted_put m (with_question m c.args.question.now) _ w c.question.new.self (written_question w.1 w.0 c.args.question.now) c.args.most (next_question m c.args.question.now w.0 w.1 drafted (ap records_of c.self.view_is ∙ c.requires.first)) c.requires.limit
+    let w = c.self.inside.so_far in
+    let drafted : IsDrafted m w.0 w.1 = c.self.invariant.0 c.if-self-2.false in (
+      λ _. drafted_put m (with_question m c.args.question.now) _ w c.question.new.self (written_question w.1 w.0 c.args.question.now) c.args.most (next_question m c.args.question.now w.0 w.1 drafted (ap records_of c.self.view_is ∙ c.requires.first)) c.requires.limit
           (sym c.if-not-branch.false ∙ c.in_ok-question.ensures.fits) c.in_ok-question.ensures.grown (asked m c.push.new.self c.args.question.now c.copied.result c.copied.ensures c.in_ok-push.ensures.ok),
       λ e. absurd (true≢false (sym e ∙ c.if-self.false)),
     )
@@ -49,16 +47,16 @@ invariant_of-self-2 c =
 pub returns-clause-fits : goal.returns-clause-fits
 returns-clause-fits c =
     let m = c.self.inside.message in
-    let w = c.in-Some.written in
-    let drafted : IsDrafted m w.0 w.1 = subst (λ (o : Option (ℕ × Offsets)). IfSome o (λ v. IsDrafted m v.0 v.1)) (sym c.in-Some.ensures.value) c.self.invariant.0 in
+    let w = c.self.inside.so_far in
+    let drafted : IsDrafted m w.0 w.1 = c.self.invariant.0 c.if-self-2.false in
     sym c.if-not-branch.false ∙ c.in_ok-question.ensures.fits ∙ fits_is m (with_question m c.args.question.now) w.0 c.args.most (written_question w.1 w.0 c.args.question.now) (next_question m c.args.question.now w.0 w.1 drafted (ap records_of c.self.view_is ∙ c.requires.first))
     ∙ ap (λ (x : Message). is_within_length c.args.most (with_question x c.args.question.now)) c.self.view_is
 
 pub returns-clause-grown : goal.returns-clause-grown
 returns-clause-grown c =
     let m = c.self.inside.message in
-    let w = c.in-Some.written in
-    let drafted : IsDrafted m w.0 w.1 = subst (λ (o : Option (ℕ × Offsets)). IfSome o (λ v. IsDrafted m v.0 v.1)) (sym c.in-Some.ensures.value) c.self.invariant.0 in
+    let w = c.self.inside.so_far in
+    let drafted : IsDrafted m w.0 w.1 = c.self.invariant.0 c.if-self-2.false in
     asked m c.push.new.self c.args.question.now c.copied.result c.copied.ensures c.in_ok-push.ensures.ok ∙ ap (λ (x : Message). with_question x c.args.question.now) c.self.view_is
     ∙ yes_is (is_within_length c.args.most (with_question c.args.self.now c.args.question.now)) (with_question c.args.self.now c.args.question.now) c.args.self.now
     (sym c.if-not-branch.false ∙ c.in_ok-question.ensures.fits ∙ fits_is m (with_question m c.args.question.now) w.0 c.args.most (written_question w.1 w.0 c.args.question.now) (next_question m c.args.question.now w.0 w.1 drafted (ap records_of c.self.view_is ∙ c.requires.first))
