@@ -4,7 +4,7 @@ use Rattle.std.specs.List.{AllByRecursion}
 use Rattle.std.specs.Str.{bytes_eq}
 use Rattle.std.proofs.lemmas.Slice.Eq.{bytes_eq-Decides}
 use Rattle.dns_name.specs.Names.{folded_eq}
-use Rattle.by_name.specs.At.{owner_of}
+use Rattle.by_name.specs.At.{At, owner_of}
 use Rattle.by_name.specs.Filed.{found, in_layers, AllOwned}
 use Rattle.by_name.specs.Filed.{AreFiled as AreKept}
 use Rattle.std.specs.Map.{values_of}
@@ -28,10 +28,14 @@ named_alike name e named = bytes_turned (owner_of e.1.rr.owner) (owner_of name) 
 pub kept : (es : List Entry) → AreFiled es → AreKept es
 kept es filed = record { distinct = filed.distinct; gapless = filed.gapless }
 
-pub visited_of : (name : List (List ℕ)) (place : ℕ) (es : List Entry) → AreFiled es → slice_get (held_of name (in_layers es)) place ≡ found (owner_of name) place es
+visited_of : (name : List (List ℕ)) (place : ℕ) (es : List Entry) → AreFiled es → slice_get (held_of name (in_layers es)) place ≡ found (owner_of name) place es
 visited_of name place es filed =
     visited (is_of name) (owner_of name) place es
     (each-weaker (λ (e : Entry). is_of name e.1 ≡ bytes_eq (owner_of name) e.0.owner) (λ (e : Entry). e.0.owner ≡ owner_of e.1.rr.owner) (named_alike name) es filed.named) (kept es filed)
+
+pub visited_at : (name : List (List ℕ)) (place : At) (es : List Entry) → AreFiled es → place.owner ≡ owner_of name
+    → found place.owner place.number es ≡ slice_get (held_of name (in_layers es)) place.number
+visited_at name place es filed named = ap (λ (o : List ℕ). found o place.number es) named ∙ sym (visited_of name place.number es filed)
 
 -- whether a value is filed under the name of its owner
 abbrev pub is_named : List ℕ → Held → Bool

@@ -2,6 +2,7 @@
 ghost use Rattle.std.specs.Prelude.{◌≡◌, ◌↔◌, ℕ, ◌+◌, ◌-◌, ◌<◌, ◌≤◌, ◌^◌, List, [], ◌∷◌, ◌++◌, map, filter, length, slice_get, IsTrue, IsOk, IfOk, OnOk, OnErr, IfErr, IfNone, IfSome, Err};
 ghost use Rattle.std.specs.Option.{option_copied};
 ghost use Rattle.std.specs.List.Sorted.{IsPermutation};
+ghost use Rattle.by_name.specs.At.{owner_of};
 ghost use Rattle.mdns_cache.specs.Ends.{IsPlayed};
 ghost use Rattle.mdns_cache.specs.Ended.{HasEnded, AreOfEnded};
 ghost use Rattle.mdns_history.specs.Hearings.{Hearing};
@@ -15,8 +16,8 @@ use crate::error::HearError;
 use crate::expiry::{expire_from, least_end};
 use crate::heard::hear_all;
 use crate::holdings::Holdings;
-use crate::look::held_at;
 use crate::steps::Steps;
+use by_name::Place;
 use dns_name::Name;
 use mdns_base::Moment;
 use mdns_history::{Held, SharedRr, SharedRrs};
@@ -161,8 +162,17 @@ impl Cache {
         ensures visited { option_copied result ≡ slice_get (held_of name.now self.now.held) place }
         ensures steps { steps.new ≡ steps.old + 1 }
     {
+        self.visit_at(&Place::new(name, place), steps)
+    }
+
+    /// The same of a place that has the name and the number: who visits all records of a name makes it once.
+    pub fn visit_at<L: Ledger>(&self, place: &Place, steps: &mut Steps<L>) -> Option<&Held>
+        ensures visited { (name : List (List ℕ)) → place.now.owner ≡ owner_of name
+            → option_copied result ≡ slice_get (held_of name self.now.held) place.now.number }
+        ensures steps { steps.new ≡ steps.old + 1 }
+    {
         steps.tick();
-        held_at(&self.records, name, place)
+        self.records.get(place)
     }
 
     /// The owners of all held records that have ended at `now`, in no promised order. Nothing is changed. Refused only for

@@ -1,28 +1,16 @@
 // Looking among the records that are filed by name.
 ghost use Rattle.std.specs.Prelude.{◌≡◌, ◌≤◌, ℕ, suc, slice_get, true, false, Some, None, IsSome, IfOk, IfErr};
-ghost use Rattle.std.specs.Option.{option_copied};
 ghost use Rattle.std.specs.List.{AllByRecursion};
 ghost use Rattle.std.specs.Map.{values_of};
 ghost use Rattle.dns_record.specs.Records.{same};
-ghost use Rattle.by_name.specs.At.{at, owner_of};
-ghost use Rattle.by_name.specs.Filed.{found, in_layers};
-ghost use Rattle.mdns_cache.specs.Lifetimes.{held_of};
+ghost use Rattle.by_name.specs.At.{owner_of};
+ghost use Rattle.by_name.specs.Filed.{found};
 ghost use Rattle.mdns_cache.specs.Named.{AreFiled};
 
 use crate::holdings::Holdings;
 use by_name::Place;
-use dns_name::Name;
 use dns_record::Rr;
 use mdns_history::Held;
-
-/// The held record of a name at a place among those of that name, counted from 0.
-#[tactic(auto, using(crate::proofs::Visiting::visited_of))]
-pub fn held_at<'a>(records: &'a Holdings, name: &Name, place: usize) -> Option<&'a Held>
-    requires { AreFiled records.now.entries }
-    ensures { option_copied result ≡ slice_get (held_of name.now (in_layers records.now.entries)) place }
-{
-    records.get(&Place::new(name, place))
-}
 
 /// The index of the record that is the same as this one, or the place behind the last of its name.
 pub fn same_of(records: &Holdings, rr: &Rr) -> Result<usize, Place>

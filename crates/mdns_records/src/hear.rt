@@ -1,4 +1,4 @@
-// What hearings do to the records of a name, in a copy of them.
+// What hearings do to the records of a name, in a list of their own, which shares them.
 ghost use Rattle.std.specs.Prelude.{◌≡◌, ◌+◌, ◌<◌, ◌≤◌, ◌^◌, ◌&&◌, ◌++◌, ◌∷◌, [], map, filter, length, position, IfOk, IfSome, OnOk};
 ghost use Rattle.mdns_history.specs.Lifetimes.{cuts, is_live_at, is_other};
 ghost use Rattle.mdns_cache.specs.Lifetimes.{hearing_at, shortened, renewed, after_hearing};
@@ -41,7 +41,7 @@ fn first_of(name: &Name, heard: &[SharedRr]) -> Option<usize>
     heard.iter().position(|rr| rr.owner.folded_eq(name))
 }
 
-// The records that are live, copied, once one more is heard: what that is the same as isn't copied.
+// The records that are live, once one more is heard: what that is the same as isn't among them.
 fn first_heard_copy(
     alloc: Global,
     earlier: &[Held],
@@ -61,7 +61,7 @@ fn first_heard_copy(
     Ok(later)
 }
 
-// Those of the records that are live then, copied.
+// Those of the records that are live then.
 fn live_copies(alloc: Global, held: &[Held], when: When) -> Result<Vec<Held>, AllocError>
     ensures { IfOk result (λ live. live.items ≡ filter (is_live_at when.moment) held.now) }
 {
@@ -111,7 +111,7 @@ fn hear_all(
     Ok(())
 }
 
-// Hears one record: what it is the same as is dropped, other lives are cut, and it is held itself, copied.
+// Hears one record: what it is the same as is dropped, other lives are cut, and it is held itself.
 fn hear_one(held: &mut Vec<Held>, when: When, rr: &SharedRr) -> Result<(), AllocError>
     ensures { OnOk result (held.new.items ≡ after_hearing held.old.items (hearing_at when.moment when.word rr.now)) }
 {

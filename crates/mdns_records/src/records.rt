@@ -13,6 +13,7 @@ ghost use Rattle.mdns_records.specs.Visits.{visits_of, visits_of_all, ended_in};
 use crate::changing::change;
 use crate::hear::heard_copy;
 use crate::names::with_owners;
+use by_name::Place;
 use dns_name::Name;
 use mdns_base::Moment;
 use mdns_cache::{Cache, Steps};
@@ -163,8 +164,10 @@ impl Records {
     {
         // Most names have one record.
         let mut held = Vec::with_capacity(self.alloc, 1)?;
-        while let Some(one) = self.cache.visit(name, held.len(), steps) {
+        let mut place = Place::new(name, 0);
+        while let Some(one) = self.cache.visit_at(&place, steps) {
             held.push(one.copy()?)?;
+            place.go(held.len());
         }
         Ok(held)
     }
