@@ -3,8 +3,8 @@ use Rattle.std.proofs.Common.{arith, ◌≡◌, ◌∙◌, inl, inr, ℕ, suc, B
 use Rattle.std.specs.Prelude.{◌≢◌, ◌⊎◌}
 use Rattle.mdns_base.specs.Outside.{Rose}
 use Rattle.mdns_outside.specs.Places.{Counted, risen, counting, MakesLink, MakesDoor, MakesSpawner, TakesDoor, TakesSpawner, TakesEar}
-use Rattle.mdns_server.specs.declared.stop.Stop.{Stop}
-use Rattle.mdns_server.specs.declared.stop.Stop.TheVariants.{Over, Door, Spawner, Link}
+use Rattle.mdns_server.specs.declared.status.Stop.{Stop}
+use Rattle.mdns_server.specs.declared.status.Stop.TheVariants.{Over, Door, Spawner, Link}
 use Rattle.mdns_server.specs.Endings.{Stays, MayFault, StaysCounted, TakesBack, IsLoopStatus, Ends, stop_status}
 
 -- a count that has risen stays so

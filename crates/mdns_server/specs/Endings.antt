@@ -2,8 +2,8 @@
 use Rattle.std.specs.Prelude.{◌≡◌, ◌≢◌, ◌⊎◌, ◌≤◌, ◌<◌, ◌-◌, ◌^◌, ℕ, zero, suc, min, Bool, true, false, List, Option, Some, None, codes, if◌then◌else◌}
 use Rattle.mdns_base.specs.Outside.{Rose}
 use Rattle.mdns_outside.specs.Places.{Counted, risen, counting}
-use Rattle.mdns_server.specs.declared.stop.Stop.{Stop}
-use Rattle.mdns_server.specs.declared.stop.Stop.TheVariants.{Over, Door, Spawner, Link, Ear}
+use Rattle.mdns_server.specs.declared.status.Stop.{Stop}
+use Rattle.mdns_server.specs.declared.status.Stop.TheVariants.{Over, Door, Spawner, Link, Ear}
 
 -- the line that says that connections are accepted
 abbrev pub serving_line : List ℕ

@@ -11,7 +11,7 @@ use crate::making::{HalfParts, KitOf, make_halves};
 use crate::session::{attach, miss};
 use crate::slot::Slot;
 use crate::starting::{Chairs, Session, start_halves, sweep};
-use crate::stop::Stop;
+use crate::status::Stop;
 use mdns_base::Sink;
 use mdns_outside::{Door, Place};
 use mdns_serve::{Common, Half, Shared};

@@ -7,8 +7,7 @@ ghost use Rattle.mdns_server.specs.Endings.{MayFault, Stays, TakesBack, HasStopp
 use crate::accepting::Desk;
 use crate::slot::{EndedEar, Slot};
 use crate::starting::{Pair, finish, finish_both};
-use crate::status::{DONE, DOOR_FAULT, LINK_FAULT, SPAWN_FAULT};
-use crate::stop::Stop;
+use crate::status::{DONE, DOOR_FAULT, LINK_FAULT, SPAWN_FAULT, Stop};
 use mdns_outside::Place;
 use mdns_serve::HearEnd;
 use std::sync::Wait;

@@ -1,5 +1,4 @@
-//! A server: it boots the daemon that the words of `mdnsd serve` ask for, accepts connections, and gives each two halves in threads that
-//! share this daemon by turns.
+//! A server: it boots the daemon that `mdnsd serve` asks for, accepts connections, and gives each two halves in threads that share it by turns.
 #![tactic(auto)]
 
 mod accepting;
@@ -13,7 +12,6 @@ mod session;
 mod slot;
 mod starting;
 mod status;
-mod stop;
 mod wrong;
 
 pub use booting::{SharedDaemon, boot_plan};

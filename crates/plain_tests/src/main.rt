@@ -17,23 +17,29 @@ use crate::row_error::RowError;
 use std::alloc::Global;
 
 fn main(rt: HostRuntime) -> Result<(), RowError> {
-    let alloc = rt.alloc();
-    let mut kept = Kept::new(alloc);
-    for line in rt.lines(alloc) {
-        let line = line?;
-        if line.is_empty() || line.starts_with('#') {
-            println!(rt; "{line}")?;
-            continue;
-        }
-        match answer(alloc, &mut kept, &line) {
-            Ok(told) => println!(rt; "{line} = {told}")?,
-            Err(error) => {
-                eprintln!(rt; "{line}: {error}")?;
-                return Err(error);
-            }
-        }
+    let mut kept = Kept::new(rt.alloc());
+    print_all(rt, &mut kept)
+}
+
+fn print_all(rt: HostRuntime, kept: &mut Kept) -> Result<(), RowError> {
+    for line in rt.lines(rt.alloc()) {
+        print(rt, kept, line?.as_str())?;
     }
     Ok(())
+}
+
+// Prints a line and what came of it. Of a row that gives nothing it is said on standard error why.
+fn print(rt: HostRuntime, kept: &mut Kept, line: &str) -> Result<(), RowError> {
+    if line.is_empty() || line.starts_with('#') {
+        return Ok(println!(rt; "{line}")?);
+    }
+    match answer(rt.alloc(), kept, line) {
+        Ok(told) => Ok(println!(rt; "{line} = {told}")?),
+        Err(error) => {
+            let _ = eprintln!(rt; "{line}: {error}");
+            Err(error)
+        }
+    }
 }
 
 // What a row answers, by its subject.
