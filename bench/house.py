@@ -104,7 +104,8 @@ def main(words):
     sums = [sum(row[at] for row in rows) for at in range(1, 5)]
     print(f"| all | {' | '.join(map(str, sums))} | {(sums[2] + sums[3]) / (sums[0] + sums[1]):.1f} | {len(made)} | {spread(it[4] for it in made)} | {spread(it[3] for it in made)} | "
           f"{spread(it[5] for it in made)} | {sum(row[-1] for row in rows)} |")
-    print(f"\nOutside the limits ({', '.join(f'{key} {value}' for key, value in LIMITS.items() if key != 'edits')}):\n")
+    limits = ", ".join(f"{key} {value}" for key, value in LIMITS.items() if key != "edits")
+    print(f"\nOutside the limits ({limits}):\n" if over else f"\nNothing lies outside the limits ({limits}).")
     for it in over:
         print(f"- {it}")
 
