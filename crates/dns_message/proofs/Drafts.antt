@@ -221,8 +221,8 @@ drafted_put m after now old new piece most next limit fits e same =
     subst (λ (x : Message). IsDrafted x new.0 new.1) (sym same)
     (subst (λ (p : ℕ × Offsets). IsDrafted after p.0 p.1) (sym whole) (drafted_next m after old.0 most piece next limit (sym fits)))
 
-pub answered : (m : Message) (answers : List Rr) (rr copy : Rr) → copy ≡ rr → answers ≡ m.answers ++ copy ∷ [] → answering m answers ≡ with_answer m rr
-answered m answers rr copy c e = ap (answering m) (e ∙ ap (λ (x : Rr). m.answers ++ x ∷ []) c)
+pub answered : (m : Message) (answers : List Rr) (rr : Rr) → answers ≡ m.answers ++ rr ∷ [] → answering m answers ≡ with_answer m rr
+answered m answers rr e = ap (answering m) e
 
 pub asked : (m : Message) (questions : List Question) (question copy : Question) → copy ≡ question → questions ≡ m.questions ++ copy ∷ []
     → asking m questions ≡ with_question m question

@@ -1,5 +1,5 @@
 // A message under way, that grows while it has room.
-ghost use Rattle.std.specs.Prelude.{◌≡◌, ◌+◌, ◌<◌, ◌≤◌, ℕ, [], length, take, min, nat_le, true, false, IsTrue, IfOk, OnOk, OnErr, if◌then◌else◌};
+ghost use Rattle.std.specs.Prelude.{◌≡◌, ◌+◌, ◌<◌, ◌≤◌, ◌++◌, ℕ, [], ◌∷◌, length, take, min, nat_le, true, false, IsTrue, IfOk, OnOk, OnErr, if◌then◌else◌};
 ghost use Rattle.dns_pointers.specs.Writing.{Offsets};
 ghost use Rattle.dns_message.specs.Writing.{written_question, written_record, written_data};
 ghost use Rattle.dns_message.specs.Packing.{is_within_length, bare_query, bare_reply};
@@ -205,7 +205,7 @@ impl<'a> Draft<'a> {
             self.lost = false;
             return Ok(false);
         }
-        self.message.answers.push(rr.copy()?)?;
+        push_copy(&mut self.message.answers, rr)?;
         self.lost = false;
         Ok(true)
     }
@@ -220,7 +220,7 @@ impl<'a> Draft<'a> {
         if self.answer(rr, LONGEST_MESSAGE)? {
             return Ok(());
         }
-        self.message.answers.push(rr.copy()?)?;
+        push_copy(&mut self.message.answers, rr)?;
         self.lost = true;
         self.over = true;
         Ok(())
@@ -261,6 +261,21 @@ fn is_too_long(rdata: &Rdata) -> bool
         Rdata::Nsec { bitmap, .. } => bitmap.as_slice().len() > LONGEST_MESSAGE,
         _ => false,
     }
+}
+
+// Puts an equal record behind others; these stay as they were where memory is refused. The copy is made in its place, since
+// records are long.
+fn push_copy(records: &mut Rrs, rr: &Rr) -> Result<(), AllocError>
+    ensures ok { OnOk result (records.new ≡ records.old ++ rr.now ∷ []) }
+    ensures err { OnErr result (records.new ≡ records.old) }
+{
+    let rdata = rr.rdata.copy()?;
+    records.push(Rr {
+        owner: rr.owner.copy(),
+        flush: rr.flush,
+        ttl: rr.ttl,
+        rdata,
+    })
 }
 
 // An equal question.

@@ -14,6 +14,9 @@ const INTERNET: u16 = 1;
 /// In a question: any class. (RFC 1035 3.2.5)
 const ANY: u16 = 255;
 
+// For so many records there is room before they are read, if so many are told of: most messages have no more.
+const MANY: usize = 16;
+
 // The bit of the class that asks for a unicast answer, or says that a record's set is complete.
 const TOP_BIT: u16 = 0x8000;
 
@@ -49,6 +52,7 @@ pub(crate) fn read_records(
     ensures { IsReadAs result (all_at (record_at packet.now) count at) }
 {
     let mut rrs = Rrs::new(alloc);
+    rrs.reserve(usize::from(count).min(MANY))?;
     let mut place = at;
     'records: for read in 0..count {
         let (rr, end) = read_record(alloc, packet, place)?;

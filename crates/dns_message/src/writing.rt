@@ -190,10 +190,12 @@ pub(crate) fn put_record<'a>(
 fn fixed(rr: &Rr) -> [u8; 8]
     ensures { result ≡ to_be_bytes w16 (kind_of rr.now.rdata) ++ class_word rr.now.flush ++ to_be_bytes w32 rr.now.ttl }
 {
-    let [a, b] = rr.rdata.kind().to_be_bytes();
-    let [c, d] = class(rr.flush);
-    let [e, f, g, h] = rr.ttl.to_be_bytes();
-    [a, b, c, d, e, f, g, h]
+    let kind = rr.rdata.kind().to_be_bytes();
+    let class = class(rr.flush);
+    let ttl = rr.ttl.to_be_bytes();
+    [
+        kind[0], kind[1], class[0], class[1], ttl[0], ttl[1], ttl[2], ttl[3],
+    ]
 }
 
 // The length of data and the data.

@@ -6,7 +6,7 @@ use Rattle.dns_message.proofs.sections.read_records.Goals.{in-Some+in_ok-push, i
 
 pub returns-in_err-rr : goal.returns-in_err-rr
 returns-in_err-rr c =
-    let p = err_from_is_err_and c.from_residual.result c.from_residual.ensures.1 in
+    let p = err_from_is_err_and c.from_residual-in_err-rr.result c.from_residual-in_err-rr.ensures.1 in
     rw (p.1, p.2)
     (one_refused _ _ _ _ _ _ _ (one_left _ c.records.read _ _ _ _ c.records-test.true c.records.invariant) c.in_err-rr.ensures)
 

@@ -49,7 +49,7 @@ invariant_of-self-2 c =
     let w = c.self.inside.so_far in
     let drafted : IsDrafted m w.0 w.1 = c.self.invariant.0 c.if-self-2.false in (
       λ _. drafted_put m (with_answer m c.args.rr.now) _ w c.record.new.self (written_record w.1 w.0 c.args.rr.now) c.args.most (next_answer m c.args.rr.now w.0 w.1 drafted (ap (λ (m : Message). m.authority) c.self.view_is ∙ c.requires.authority) (ap (λ (m : Message). m.additional) c.self.view_is ∙ c.requires.additional)) c.requires.limit
-          (sym c.if-not-branch.false ∙ c.in_ok-record.ensures.fits) c.in_ok-record.ensures.grown (answered m c.push.new.self c.args.rr.now c.in_ok-copy.field-0 c.in_ok-copy.ensures c.in_ok-push.ensures.ok),
+          (sym c.if-not-branch.false ∙ c.in_ok-record.ensures.fits) c.in_ok-record.ensures.grown (answered m c.push_copy.new.records c.args.rr.now c.in_ok-push_copy.ensures.ok),
       λ e. absurd (true≢false (sym e ∙ c.if-self.false)),
     )
 
@@ -66,7 +66,7 @@ returns-clause-grown c =
     let m = c.self.inside.message in
     let w = c.self.inside.so_far in
     let drafted : IsDrafted m w.0 w.1 = c.self.invariant.0 c.if-self-2.false in
-    answered m c.push.new.self c.args.rr.now c.in_ok-copy.field-0 c.in_ok-copy.ensures c.in_ok-push.ensures.ok ∙ ap (λ (x : Message). with_answer x c.args.rr.now) c.self.view_is
+    answered m c.push_copy.new.records c.args.rr.now c.in_ok-push_copy.ensures.ok ∙ ap (λ (x : Message). with_answer x c.args.rr.now) c.self.view_is
     ∙ yes_is (is_within_length c.args.most (with_answer c.args.self.now c.args.rr.now)) (with_answer c.args.self.now c.args.rr.now) c.args.self.now
     (sym c.if-not-branch.false ∙ c.in_ok-record.ensures.fits ∙ fits_is m (with_answer m c.args.rr.now) w.0 c.args.most (written_record w.1 w.0 c.args.rr.now) (next_answer m c.args.rr.now w.0 w.1 drafted (ap (λ (m : Message). m.authority) c.self.view_is ∙ c.requires.authority) (ap (λ (m : Message). m.additional) c.self.view_is ∙ c.requires.additional))
     ∙ ap (λ (x : Message). is_within_length c.args.most (with_answer x c.args.rr.now)) c.self.view_is)
