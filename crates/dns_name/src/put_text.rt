@@ -4,6 +4,8 @@ ghost use Rattle.dns_name.specs.NameText.{byte_text, label_text, name_text};
 ghost use Rattle.dns_name.specs.ReadName.{read_name};
 
 use crate::Name;
+use crate::text::write_label_byte;
+use arrayvec::ArrayString;
 use std::alloc::AllocError;
 
 impl Name {
@@ -57,17 +59,14 @@ pub fn put_byte_text(out: &mut Vec<u8>, byte: u8) -> Result<(), AllocError>
     ensures { OnOk result (out.new.items ≡ out.old.items ++ byte_text byte) }
 {
     match byte {
-        b'.' | b'\\' => {
-            out.extend_from_slice(&[b'\\', byte])?;
-            Ok(())
-        }
-        0..=32 | 127..=255 => {
-            let (high, middle, low) = (byte / 100, byte / 10 % 10, byte % 10);
-            out.extend_from_slice(&[b'\\', b'0' + high, b'0' + middle, b'0' + low])?;
+        b'!'..=b'-' | b'/'..=b'[' | b']'..=b'~' => {
+            out.push(byte)?;
             Ok(())
         }
         _ => {
-            out.push(byte)?;
+            let mut text = ArrayString::<4>::new();
+            write_label_byte(&mut text, byte);
+            out.extend_from_slice(text.as_bytes())?;
             Ok(())
         }
     }

@@ -94,7 +94,7 @@ impl WireBytes {
     }
 }
 
-// Whether the first so many of some bytes are the same, fewer than sixteen. Behind a name there are zero bytes, mostly, so that sixteen are the same where
+// Whether the first so many of some bytes are the same, sixteen at most. Behind a name there are zero bytes, mostly, so that all sixteen are the same where
 // these are.
 fn begin_alike(ours: &[u8], theirs: &[u8], len: usize) -> bool
     requires few { len ≤ 16 }

@@ -61,6 +61,7 @@ fn put_spelled(out: &mut Vec<u8>, bytes: &[u8]) -> Result<(), AllocError>
         out.push(b'-')?;
         return Ok(());
     }
+    out.reserve(bytes.len().saturating_mul(2))?;
     put_digits(out, bytes)?;
     Ok(())
 }
