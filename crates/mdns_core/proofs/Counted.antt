@@ -6,11 +6,11 @@ use Rattle.mdns_history.specs.Hearings.{Hearing, counted_records}
 use Rattle.mdns_cache.specs.Lifetimes.{Holds}
 use Rattle.mdns_happened.specs.Told.{Told, told_of}
 use Rattle.mdns_claims.specs.Owned.{own_in}
-use Rattle.mdns_step.specs.Enough.{claims_told}
-use Rattle.mdns_step.specs.Looked.{is_looked_at, AreFew, AreBounded}
-use Rattle.mdns_step.specs.Next.{is_full, refusal_of}
-use Rattle.mdns_step.specs.State.{State}
-use Rattle.mdns_step.specs.Viewed.{kept_outcome}
+use Rattle.mdns_core.specs.Enough.{claims_told}
+use Rattle.mdns_core.specs.Looked.{is_looked_at, AreFew, AreBounded}
+use Rattle.mdns_core.specs.Next.{is_full, refusal_of}
+use Rattle.mdns_core.specs.State.{State}
+use Rattle.mdns_core.specs.Viewed.{kept_outcome}
 
 pub bounded-walk : (state : State) (now word : ℕ) (event : Event) (told : Told) (heard : List Rr) (before after : ℕ) →
     told ≡ told_of event (kept_outcome state.claims state.opened state.sessions event) told.refusal →

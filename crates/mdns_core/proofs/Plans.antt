@@ -36,14 +36,14 @@ use Rattle.mdns_owing.specs.Owing.{ours_in, news_told, query_told, followed_by, 
 use Rattle.mdns_owing.specs.Laws.{AreFollowed}
 use Rattle.mdns_owing.proofs.Following.{queries_follow}
 use Rattle.mdns_responding.specs.Told.{responses_told, announced_told}
-use Rattle.mdns_step.specs.Viewed.{kept_outcome}
-use Rattle.mdns_step.specs.InForce.{in_force}
-use Rattle.mdns_step.specs.State.{State, Stands, due_of}
-use Rattle.mdns_step.specs.Enough.{chosen_for, claims_told}
-use Rattle.mdns_step.proofs.ticks.Ticked.{due-ticked}
-use Rattle.mdns_step.proofs.ticks.Replies.{replies-later}
-use Rattle.mdns_step.proofs.step.Moved.{stands-moved}
-use Rattle.mdns_step.proofs.step.Carried.{IsCarriedOut, carried}
+use Rattle.mdns_core.specs.Viewed.{kept_outcome}
+use Rattle.mdns_core.specs.InForce.{in_force}
+use Rattle.mdns_core.specs.State.{State, Stands, due_of}
+use Rattle.mdns_core.specs.Enough.{chosen_for, claims_told}
+use Rattle.mdns_core.proofs.ticks.Ticked.{due-ticked}
+use Rattle.mdns_core.proofs.ticks.Replies.{replies-later}
+use Rattle.mdns_core.proofs.step.Moved.{stands-moved}
+use Rattle.mdns_core.proofs.step.Carried.{IsCarriedOut, carried}
 use Rattle.mdns_core.specs.declared.parts.Done.{Done}
 use Rattle.mdns_core.specs.Planned.{told_in, IsPlanFor}
 use Rattle.mdns_core.specs.Made.{IsMade, asked_of_plan}

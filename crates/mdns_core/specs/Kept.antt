@@ -1,7 +1,7 @@
 -- What a daemon keeps, as contracts see it.
 use Rattle.std.specs.Prelude.{ℕ}
 use Rattle.mdns_core.specs.declared.parts.Parts.{Parts}
-use Rattle.mdns_step.specs.State.{State}
+use Rattle.mdns_core.specs.State.{State}
 
 -- what is kept in parts, behind a last moment
 abbrev pub state_of : ℕ → Parts → State

@@ -1,7 +1,11 @@
--- What a daemon stands for, for the crates above: definitions and laws of a step.
-pub use Rattle.mdns_step.specs.State
-pub use Rattle.mdns_step.specs.InForce
-pub use Rattle.mdns_step.specs.Laws
+pub mod InForce
+pub mod Viewed
+pub mod State
+pub mod Next
+pub mod Enough
+pub mod Laws
+pub mod Touched
+pub mod Looked
 pub mod Kept
 pub mod Planned
 pub mod Made

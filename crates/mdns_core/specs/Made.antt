@@ -17,8 +17,8 @@ use Rattle.mdns_claims.specs.Owned.{own_in}
 use Rattle.mdns_reply.specs.Lasts as lasts
 use Rattle.mdns_debts.specs.Queries.{Query}
 use Rattle.mdns_owing.specs.Owing.{news_told, followed_by, kept_ours}
-use Rattle.mdns_step.specs.State.{State}
-use Rattle.mdns_step.specs.Enough.{claims_told}
+use Rattle.mdns_core.specs.State.{State}
+use Rattle.mdns_core.specs.Enough.{claims_told}
 use Rattle.mdns_core.specs.declared.plan.Plan.{Plan}
 use Rattle.mdns_core.specs.declared.parts.Parts.{Parts}
 use Rattle.mdns_core.specs.declared.parts.Done.{Done}

@@ -28,18 +28,18 @@ use Rattle.mdns_happened.specs.declared.walk.Walk.{Walk}
 use Rattle.mdns_happened.specs.Walks.{AreWalks}
 use Rattle.mdns_asking.specs.Walked as for_asking
 use Rattle.sd_sessions.specs.Sessions.{Session}
-use Rattle.mdns_step.specs.State.{State}
+use Rattle.mdns_core.specs.State.{State}
 use Rattle.mdns_history.specs.declared.entry.Entry.{Entry}
 use Rattle.mdns_history.specs.declared.entry.Sent.{Sent}
 use Rattle.mdns_history.specs.Debts.{multicasts_in}
 use Rattle.mdns_owing.specs.Owing.{query_told}
 use Rattle.mdns_responding.specs.Told.{responses_told, announced_told}
-use Rattle.mdns_step.specs.Viewed.{viewed, kept_outcome}
+use Rattle.mdns_core.specs.Viewed.{viewed, kept_outcome}
 use Rattle.mdns_claims.specs.Owned.{own_in, is_ours}
 use Rattle.mdns_claims.specs.Behind.{occasion_of, probes_told}
 use Rattle.mdns_claims.specs.Planned as claiming
-use Rattle.mdns_step.specs.Next.{IsHeard}
-use Rattle.mdns_step.specs.Enough.{AreEnough, claims_told}
+use Rattle.mdns_core.specs.Next.{IsHeard}
+use Rattle.mdns_core.specs.Enough.{AreEnough, claims_told}
 
 -- what is told of an event by its plan
 abbrev pub told_in : Plan → Told

@@ -8,8 +8,8 @@ ghost use Rattle.mdns_history.specs.Sessions.{is_attached, is_cut};
 ghost use Rattle.mdns_history.specs.Items.{session_items, taken_items, queue};
 ghost use Rattle.mdns_history.specs.Replays.{answer_sets};
 ghost use Rattle.mdns_asserts.specs.Earned.{IsEarned};
-ghost use Rattle.mdns_step.specs.InForce.{in_force};
-ghost use Rattle.mdns_step.specs.Touched.{touched};
+ghost use Rattle.mdns_core.specs.InForce.{in_force};
+ghost use Rattle.mdns_core.specs.Touched.{touched};
 ghost use Rattle.mdns_history.specs.Fitting.{Fits, FitsAt, boot_entry, is_boot, is_host_label};
 ghost use Rattle.mdns_history.specs.Due.{NextDue};
 ghost use Rattle.sd_sessions.specs.Codes.{has_number};
@@ -51,7 +51,7 @@ impl Model for Daemon {
     ghost use Rattle.mdns_history.specs.Lifetimes.{room_for_records};
     ghost use Rattle.mdns_cache.specs.Lifetimes.{AllLive, AllHeard};
     ghost use Rattle.mdns_question.specs.Refreshing.{AreTimed};
-    ghost use Rattle.mdns_step.specs.State.{State};
+    ghost use Rattle.mdns_core.specs.State.{State};
     ghost use Rattle.mdns_core.specs.Kept.{state_of};
 
     ghost Value = { State };
@@ -63,7 +63,7 @@ impl Model for Daemon {
 }
 
 impl Daemon {
-    ghost use Rattle.mdns_step.specs.State.{Stands, due_of};
+    ghost use Rattle.mdns_core.specs.State.{Stands, due_of};
 
     /// A daemon that is booted `when`, with an IPv4 address and maybe a host whose name it claims, and the entry of its boot. Refused
     /// only for want of memory. (RFC 6762 section 8)

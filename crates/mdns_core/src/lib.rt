@@ -2,10 +2,11 @@
 #![tactic(auto)]
 
 mod daemon;
+mod law;
 mod outcomes;
 mod parts;
 mod plan;
 mod reading;
 
 pub use daemon::Daemon;
-pub use mdns_step::steps_follow_the_history;
+pub use law::steps_follow_the_history;

@@ -8,8 +8,8 @@ ghost use Rattle.mdns_happened.specs.Told.{told_of, told_by, packet_told};
 ghost use Rattle.mdns_cache.specs.Lifetimes.{Holds};
 ghost use Rattle.mdns_records.specs.After.{held_after};
 ghost use Rattle.mdns_claims.specs.Planned.{IsAcceptable};
-ghost use Rattle.mdns_step.specs.Viewed.{kept_outcome, registering};
-ghost use Rattle.mdns_step.specs.Next.{refusal_of, is_full, are_too_many};
+ghost use Rattle.mdns_core.specs.Viewed.{kept_outcome, registering};
+ghost use Rattle.mdns_core.specs.Next.{refusal_of, is_full, are_too_many};
 ghost use Rattle.sd_sessions.specs.Kept.{IsWellFormedCall};
 
 use crate::outcomes::{boot, take, tick};

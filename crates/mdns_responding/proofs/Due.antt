@@ -10,7 +10,7 @@ use Rattle.mdns_probe.specs.Claiming.{is_announce_due, ticked}
 use Rattle.mdns_probe.specs.Kept.{Kept, announced_for}
 use Rattle.mdns_claimants.proofs.Passing.{IsOfDue}
 use Rattle.mdns_claimants.proofs.Still.{still_announce}
-use Rattle.mdns_announcing.specs.Told.{announced_in, records_in}
+use Rattle.mdns_responding.specs.Announced.{announced_in, records_in}
 
 pub marks_due : (now : ℕ) → IsOfDue (λ kept. announced_for (map (λ one. one.claim) kept) now) now
 marks_due now = record { none = refl; first = first; still = λ one later. ap (λ (b : Bool). map (λ (claim : Claim). mark.Announced claim.group) (cond b (one.claim ∷ []) [])) (still_announce now one later) }

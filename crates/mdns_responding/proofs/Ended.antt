@@ -18,7 +18,7 @@ use Rattle.mdns_probe.specs.Kept.{Kept}
 use Rattle.mdns_claims.specs.Behind.{ends_by}
 use Rattle.mdns_claims.specs.Owned.{own_in}
 use Rattle.mdns_claims.specs.Planned.{going_on}
-use Rattle.mdns_announcing.specs.Told.{records_in, ended_in, goodbyes_told}
+use Rattle.mdns_responding.specs.Announced.{records_in, ended_in, goodbyes_told}
 use Rattle.mdns_reply.specs.Lasts.{Last}
 use Rattle.mdns_debts.specs.Queries.{Query}
 use Rattle.mdns_responding.specs.Told.{responses_told}

@@ -29,9 +29,9 @@ use Rattle.mdns_debts.proofs.Debts.{are_released_by}
 use Rattle.mdns_debts.proofs.Unicasts.{are_replied_to}
 use Rattle.mdns_debts.proofs.Kept.{lasts_tell_no_more}
 use Rattle.mdns_owing.specs.Owing.{last_in}
-use Rattle.mdns_announcing.specs.Told.{announced_in, records_in, goodbyes_told}
-use Rattle.mdns_announcing.proofs.Announced.{announced_records_are, announced_marks_are, ticks_tell_own}
-use Rattle.mdns_announcing.proofs.Goodbyes.{goodbyes_are}
+use Rattle.mdns_responding.specs.Announced.{announced_in, records_in, goodbyes_told}
+use Rattle.mdns_responding.proofs.Announced.{announced_records_are, announced_marks_are, ticks_tell_own}
+use Rattle.mdns_responding.proofs.TakenBack.{goodbyes_are}
 use Rattle.mdns_responding.specs.Told.{is_free_by}
 use Rattle.mdns_responding.specs.Laws.{Follows, ResponsesFollow}
 

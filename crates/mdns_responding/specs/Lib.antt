@@ -1,2 +1,4 @@
+pub mod Announced
+pub mod AnnouncedLaws
 pub mod Told
 pub mod Laws

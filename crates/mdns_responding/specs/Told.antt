@@ -18,7 +18,7 @@ use Rattle.mdns_reply.specs.Lasts.{Last, last_of}
 use Rattle.mdns_debts.specs.Queries.{Query, replies_at}
 use Rattle.mdns_debts.specs.Releasing.{released_by}
 use Rattle.mdns_owing.specs.Owing.{last_in}
-use Rattle.mdns_announcing.specs.Told.{announced_in, records_in, goodbyes_told}
+use Rattle.mdns_responding.specs.Announced.{announced_in, records_in, goodbyes_told}
 
 -- whether a record's last multicast is a second ago, by those that are kept
 abbrev pub is_free_by : List Last → ℕ → Rr → Bool

@@ -6,7 +6,7 @@ ghost use Rattle.mdns_history.specs.Sending.{to_all};
 ghost use Rattle.mdns_probe.specs.Claiming.{is_announce_due, ticked};
 ghost use Rattle.mdns_probe.specs.Kept.{announced_for};
 ghost use Rattle.mdns_responding.specs.Told.{answers_told, is_free_by, multicasts_told};
-ghost use Rattle.mdns_announcing.specs.Told.{announced_in, records_in};
+ghost use Rattle.mdns_responding.specs.Announced.{announced_in, records_in};
 
 use crate::responder::Responder;
 use dns_message::Rrs;

@@ -9,7 +9,7 @@ ghost use Rattle.mdns_claims.specs.Owned.{own_in};
 ghost use Rattle.mdns_claims.specs.Planned.{going_on};
 ghost use Rattle.mdns_happened.specs.Told.{told_by};
 ghost use Rattle.mdns_history.specs.Sending.{taken_back};
-ghost use Rattle.mdns_announcing.specs.Told.{ended_in, gone_in, goodbyes_told, records_in};
+ghost use Rattle.mdns_responding.specs.Announced.{ended_in, gone_in, goodbyes_told, records_in};
 
 use crate::announcing::send_to_all;
 use crate::responder::Responder;

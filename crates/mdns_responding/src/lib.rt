@@ -8,5 +8,5 @@ mod law;
 mod responder;
 mod wanting;
 
-pub use law::responses_follow_the_history;
+pub use law::{announcements_follow_the_history, responses_follow_the_history};
 pub use responder::Responder;

@@ -19,10 +19,10 @@ use Rattle.mdns_claims.proofs.Typed.{own_data}
 use Rattle.mdns_claims.specs.Later.{groups_behind}
 use Rattle.mdns_claims.specs.Owned.{is_ours, own_in, registered_answers}
 use Rattle.sd_sessions.specs.Sessions.{Session}
-use Rattle.mdns_step.specs.Viewed.{viewed}
-use Rattle.mdns_step.specs.Enough.{claims_told}
-use Rattle.mdns_step.proofs.records.Walked.{heard-walked, beside-told, then-kept}
-use Rattle.mdns_step.proofs.records.Begun.{begun-told}
+use Rattle.mdns_core.specs.Viewed.{viewed}
+use Rattle.mdns_core.specs.Enough.{claims_told}
+use Rattle.mdns_core.proofs.records.Walked.{heard-walked, beside-told, then-kept}
+use Rattle.mdns_core.proofs.records.Begun.{begun-told}
 use Rattle.mdns_core.proofs.plan.led_to.Goals as goal
 
 pub make_traffic-requires-clause-heard : goal.make_traffic-requires-clause-heard

@@ -10,10 +10,10 @@ use Rattle.mdns_claims.proofs.Typed.{own_data}
 use Rattle.mdns_claims.specs.Behind.{probes_told}
 use Rattle.mdns_claims.specs.Owned.{own_in}
 use Rattle.mdns_asking.specs.Planned as asking
-use Rattle.mdns_step.specs.Enough.{AreEnough, claims_told}
+use Rattle.mdns_core.specs.Enough.{AreEnough, claims_told}
 use Rattle.sd_answer.specs.Laws.{have_data}
-use Rattle.mdns_step.proofs.records.HeldData.{data-after, data-counted}
-use Rattle.mdns_step.proofs.records.HeardPackets.{heard-read}
+use Rattle.mdns_core.proofs.records.HeldData.{data-after, data-counted}
+use Rattle.mdns_core.proofs.records.HeardPackets.{heard-read}
 use Rattle.mdns_core.specs.Kept.{state_of}
 use Rattle.mdns_core.proofs.Counted.{bounded-walk}
 use Rattle.mdns_core.proofs.plan.make_plan.Goals as goal

@@ -3,7 +3,7 @@ use Rattle.std.proofs.lemmas.List.Edits.{map_over_more}
 use Rattle.mdns_happened.specs.declared.walk.Walk.{Walk}
 use Rattle.mdns_claims.specs.Later.{groups_behind}
 use Rattle.mdns_claims.specs.Owned.{own_in}
-use Rattle.mdns_step.specs.Enough.{with_own}
+use Rattle.mdns_core.specs.Enough.{with_own}
 use Rattle.mdns_core.proofs.plan.put_own.Goals as goal
 
 pub loop-walk-preserved : goal.loop-walk-preserved

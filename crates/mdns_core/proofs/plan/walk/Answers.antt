@@ -14,10 +14,10 @@ use Rattle.mdns_claims.specs.Later.{groups_behind}
 use Rattle.mdns_claims.specs.Owned.{own_in}
 use Rattle.sd_sessions.specs.Sessions.{Session}
 use Rattle.sd_sessions.specs.Walked as for_sessions
-use Rattle.mdns_step.specs.Enough.{AreEnough, claims_told}
-use Rattle.mdns_step.proofs.records.HeardPackets.{ok_with}
-use Rattle.mdns_step.proofs.records.Walked.{among-none, kept-unmoved, then-kept, enough-owned}
-use Rattle.mdns_step.proofs.records.Looked.{few-none, few-walked}
+use Rattle.mdns_core.specs.Enough.{AreEnough, claims_told}
+use Rattle.mdns_core.proofs.records.HeardPackets.{ok_with}
+use Rattle.mdns_core.proofs.records.Walked.{among-none, kept-unmoved, then-kept, enough-owned}
+use Rattle.mdns_core.proofs.records.Looked.{few-none, few-walked}
 use Rattle.mdns_core.proofs.plan.walk.Goals as goal
 
 pub returns-clause-enough : goal.returns-clause-enough

@@ -1,8 +1,8 @@
-use Rattle.mdns_step.proofs.records.HeardPackets.{room-left, ok_with}
+use Rattle.mdns_core.proofs.records.HeardPackets.{room-left, ok_with}
 use Rattle.std.proofs.Common.{subst, sym}
 use Rattle.mdns_happened.specs.Told.{Told, told_by}
 use Rattle.mdns_claims.specs.Planned.{IsAcceptable}
-use Rattle.mdns_step.proofs.records.Begun.{acceptable-told}
+use Rattle.mdns_core.proofs.records.Begun.{acceptable-told}
 use Rattle.mdns_core.proofs.reading.read_event.Goals as goal
 
 pub returns-in-Call-clause-acceptable : goal.returns-in-Call-clause-acceptable

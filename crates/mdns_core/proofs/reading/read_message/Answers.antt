@@ -2,7 +2,7 @@ use Rattle.std.proofs.Common.{◌↔◌, ◌∙◌, ◌≤◌, ◌++◌, [], ◌
 use Rattle.dns_record.specs.declared.record.Rr.{Rr}
 use Rattle.mdns_happened.specs.Told.{Told}
 use Rattle.mdns_history.specs.declared.mark.Mark.TheVariants as mark
-use Rattle.mdns_step.proofs.records.HeardPackets.{refused-ignored, refused-unless, room-left, ok_with}
+use Rattle.mdns_core.proofs.records.HeardPackets.{refused-ignored, refused-unless, room-left, ok_with}
 use Rattle.mdns_history.specs.Lifetimes.{live_of}
 use Rattle.mdns_cache.specs.Lifetimes.{hearings_at}
 use Rattle.mdns_records.specs.After.{held_after}

@@ -2,7 +2,7 @@ use Rattle.std.proofs.Common.{◌∙◌, sym, ap}
 use Rattle.dns_message.specs.Reading.{fault_number}
 use Rattle.mdns_history.specs.Hearings.{counted_records}
 use Rattle.mdns_happened.specs.Told.{Told, told_by}
-use Rattle.mdns_step.proofs.records.HeardPackets.{refused-message, refused-fault, data-message, data-fault, told-refused, room-left, ok_with, ok_two, ok_always}
+use Rattle.mdns_core.proofs.records.HeardPackets.{refused-message, refused-fault, data-message, data-fault, told-refused, room-left, ok_with, ok_two, ok_always}
 use Rattle.mdns_core.proofs.reading.read_packet.Goals as goal
 
 pub returns-in-Ok-clause-refused : goal.returns-in-Ok-clause-refused

@@ -1,9 +1,9 @@
 use Rattle.std.proofs.Common.{◌∙◌, ap}
 use Rattle.std.specs.List.{find}
 use Rattle.std.specs.Option.{is_some}
-use Rattle.mdns_step.specs.State.{State}
+use Rattle.mdns_core.specs.State.{State}
 use Rattle.sd_sessions.specs.Codes.{has_number}
-use Rattle.mdns_step.proofs.step.Standing.{attached-stands}
+use Rattle.mdns_core.proofs.step.Standing.{attached-stands}
 use Rattle.mdns_core.proofs.daemon.Daemon.attached.Goals as goal
 
 pub returns-clause-attached : goal.returns-clause-attached

@@ -14,9 +14,9 @@ use Rattle.mdns_claims.specs.State.{Contents}
 use Rattle.mdns_reply.specs.Lasts.{Last}
 use Rattle.mdns_reply.specs.Lasts as lasts
 use Rattle.mdns_debts.specs.Queries.{Query}
-use Rattle.mdns_step.specs.InForce.{in_force}
-use Rattle.mdns_step.specs.State.{Stands}
-use Rattle.mdns_step.proofs.step.Standing.{booted_state, stands-boot}
+use Rattle.mdns_core.specs.InForce.{in_force}
+use Rattle.mdns_core.specs.State.{Stands}
+use Rattle.mdns_core.proofs.step.Standing.{booted_state, stands-boot}
 use Rattle.mdns_core.proofs.daemon.Daemon.new.Goals as goal
 
 pub returns-clause-stands : goal.returns-clause-stands

@@ -4,12 +4,12 @@ use Rattle.std.specs.List.{flat_map}
 use Rattle.mdns_claims.specs.Behind.{next_in}
 use Rattle.std.specs.Option.{option_map}
 use Rattle.lists.specs.Lists.{least}
-use Rattle.mdns_step.specs.InForce.{in_force}
+use Rattle.mdns_core.specs.InForce.{in_force}
 use Rattle.mdns_history.specs.declared.held.Held.{Held}
 use Rattle.mdns_history.specs.Due.{NextDue}
 use Rattle.mdns_question.specs.Next.{next_of}
-use Rattle.mdns_step.specs.State.{reply_moments, due_of}
-use Rattle.mdns_step.proofs.step.Standing.{due-stands}
+use Rattle.mdns_core.specs.State.{reply_moments, due_of}
+use Rattle.mdns_core.proofs.step.Standing.{due-stands}
 use Rattle.mdns_core.proofs.daemon.Daemon.next_due.Goals as goal
 
 pub returns-clause-value : goal.returns-clause-value

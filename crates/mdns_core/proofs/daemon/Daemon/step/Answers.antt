@@ -8,12 +8,12 @@ use Rattle.mdns_records.specs.Visits.{ended_in}
 use Rattle.mdns_records.specs.After.{held_after}
 use Rattle.mdns_records.proofs.Holding.{after-live}
 use Rattle.mdns_asking.proofs.Timed.{are_timed}
-use Rattle.mdns_step.proofs.records.HeldData.{data-moved}
-use Rattle.mdns_step.specs.InForce.{in_force}
-use Rattle.mdns_step.specs.State.{State, Stands}
-use Rattle.mdns_step.proofs.records.Bounded.{few-visits}
-use Rattle.mdns_step.proofs.step.Standing.{replayed-stands, queued-stands}
-use Rattle.mdns_step.proofs.step.Moved.{timed-moved, heard-since}
+use Rattle.mdns_core.proofs.records.HeldData.{data-moved}
+use Rattle.mdns_core.specs.InForce.{in_force}
+use Rattle.mdns_core.specs.State.{State, Stands}
+use Rattle.mdns_core.proofs.records.Bounded.{few-visits}
+use Rattle.mdns_core.proofs.step.Standing.{replayed-stands, queued-stands}
+use Rattle.mdns_core.proofs.step.Moved.{timed-moved, heard-since}
 use Rattle.mdns_core.specs.Kept.{state_of}
 use Rattle.mdns_core.specs.Planned.{IsPlan}
 use Rattle.mdns_core.specs.Made.{IsMade, asked_of_plan}

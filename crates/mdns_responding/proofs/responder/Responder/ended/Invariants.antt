@@ -1,6 +1,6 @@
 use Rattle.std.proofs.Common.{◌≡◌, ◌++◌, drop}
 use Rattle.mdns_happened.specs.Told.{told_by}
-use Rattle.mdns_announcing.specs.Told.{ended_in, records_in}
+use Rattle.mdns_responding.specs.Announced.{ended_in, records_in}
 use Rattle.mdns_responding.proofs.responder.Responder.ended.Given as goal
 
 abbrev pub invariant-loop-one : goal.invariant-loop-one

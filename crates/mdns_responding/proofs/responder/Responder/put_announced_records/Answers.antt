@@ -3,7 +3,7 @@ use Rattle.std.specs.Prelude.{filter}
 use Rattle.dns_record.specs.declared.record.Rr.{Rr}
 use Rattle.mdns_probe.specs.Kept.{Kept}
 use Rattle.mdns_claimants.proofs.Passing.{put_more, put_all}
-use Rattle.mdns_announcing.specs.Told.{announced_in, records_in}
+use Rattle.mdns_responding.specs.Announced.{announced_in, records_in}
 use Rattle.mdns_responding.specs.Told.{is_free_by}
 use Rattle.mdns_responding.proofs.Due.{records_due}
 use Rattle.mdns_responding.proofs.responder.Responder.put_announced_records.Goals as goal

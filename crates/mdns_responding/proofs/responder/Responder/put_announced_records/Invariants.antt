@@ -1,6 +1,6 @@
 use Rattle.std.proofs.Common.{◌≡◌, ◌++◌, ◌-◌, ◌≤◌, drop, length}
 use Rattle.std.specs.Prelude.{filter}
-use Rattle.mdns_announcing.specs.Told.{announced_in, records_in}
+use Rattle.mdns_responding.specs.Announced.{announced_in, records_in}
 use Rattle.mdns_responding.specs.Told.{is_free_by}
 use Rattle.mdns_responding.proofs.responder.Responder.put_announced_records.Given as goal
 

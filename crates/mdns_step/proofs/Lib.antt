@@ -1,4 +1,0 @@
-pub mod records
-pub mod asking
-pub mod ticks
-pub mod step
