@@ -4,7 +4,7 @@ use Rattle.mdns_real.specs.declared.relay.RelayEar.{RelayEar}
 use Rattle.mdns_real.specs.declared.threads.RealSpawner.{RealSpawner}
 
 -- how often an ear failed
-abbrev pub ear_faults : RelayEar → ℕ
+abbrev pub ear_faults : {R : Type 0} → RelayEar R → ℕ
 ear_faults ear = ear.faults
 
 -- how often what starts threads failed

@@ -1,3 +1,4 @@
+pub mod Datagrams
 pub mod Doors
 pub mod Faults
 pub mod Lacks

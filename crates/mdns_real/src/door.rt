@@ -1,9 +1,7 @@
 // Connections at a Unix socket. They tell nothing of what is said.
-ghost use Rattle.std.specs.Prelude.{◌≡◌, None, false};
-ghost use Rattle.std.specs.IoError.{raw_os_error};
-ghost use Rattle.mdns_real.specs.Lacks.{IsLack};
+ghost use Rattle.std.specs.Prelude.{◌≡◌, ◌≤◌, None, IfOk, length, false};
 
-use crate::clock::nap;
+use crate::failure::pass_over;
 use mdns_base::{Failed, Sink, Source};
 use mdns_outside::Door;
 use std::io::{ErrorKind, Read, Write};
@@ -24,7 +22,7 @@ impl Source for Reader {
     ghost faults = { λ s. s.faults };
 
     fn read(&mut self, into: &mut [u8]) -> Result<usize, Failed> {
-        match self.stream.read(into) {
+        match read_once(&mut self.stream, into) {
             Ok(count) => Ok(count),
             Err(_) => {
                 self.faults = self.faults.saturating_add(1);
@@ -32,6 +30,19 @@ impl Source for Reader {
             }
         }
     }
+}
+
+// Reads once, again where the call was interrupted.
+fn read_once(stream: &mut UnixStream, into: &mut [u8]) -> io::Result<usize>
+    ensures { IfOk result (λ count. count ≤ length into.new) }
+{
+    for _ in 0..u64::MAX {
+        match stream.read(into) {
+            Err(error) if error.kind() == ErrorKind::Interrupted => {}
+            read => return read,
+        }
+    }
+    Ok(0)
 }
 
 /// What is said to a client.
@@ -103,7 +114,7 @@ impl<R: time::Clock + Drop> UnixDoor<R> {
         for _ in 0..u64::MAX {
             match self.listener.accept() {
                 Ok((stream, _)) => return Ok(stream),
-                Err(error) => self.pass_over(error)?,
+                Err(error) => pass_over(&self.rt, error)?,
             }
         }
         Err(io::Error::from(ErrorKind::Other))
@@ -114,60 +125,11 @@ impl<R: time::Clock + Drop> UnixDoor<R> {
         for _ in 0..u64::MAX {
             match stream.try_clone() {
                 Ok(other) => return Ok(other),
-                Err(error) => self.pass_over(error)?,
+                Err(error) => pass_over(&self.rt, error)?,
             }
         }
         Err(io::Error::from(ErrorKind::Other))
     }
-
-    // Naps where the call that failed is to be tried again later. The error comes back where it is a fault.
-    fn pass_over(&self, error: io::Error) -> io::Result<()> {
-        match failure_of(&error) {
-            Failure::Passing => Ok(()),
-            Failure::Lacking => {
-                nap(&self.rt);
-                Ok(())
-            }
-            Failure::Fault => Err(error),
-        }
-    }
-}
-
-/// What comes of a call of the door that failed.
-#[derive(Clone, Copy, Debug, PartialEq, Eq)]
-pub(crate) enum Failure {
-    /// The call is tried again at once.
-    Passing,
-    /// The call is tried again after a nap.
-    Lacking,
-    /// The door counts a fault.
-    Fault,
-}
-
-/// What an error comes to.
-///
-/// - `Lacking`: there is no room for one more connection yet, and there is once something was given back: this process
-///   (EMFILE, 24) or the machine (ENFILE, 23) has no file descriptor left, or the machine has no memory left for one
-///   (ENOMEM, 12, and ENOBUFS, 105). Clients that stay connected can bring that about, so it mustn't end the server.
-/// - `Passing`: the call was interrupted, or the client went away again.
-/// - `Fault`: any other.
-pub(crate) fn failure_of(error: &io::Error) -> Failure
-    ensures waits { IsLack (raw_os_error error.now) → result ≡ Failure.Lacking }
-    ensures only { result ≡ Failure.Lacking → IsLack (raw_os_error error.now) }
-{
-    match error.raw_os_error() {
-        Some(12 | 23 | 24 | 105) => Failure::Lacking,
-        _ if is_passing(error.kind()) => Failure::Passing,
-        _ => Failure::Fault,
-    }
-}
-
-/// Whether a failed call is to be tried again at once.
-pub(crate) fn is_passing(kind: ErrorKind) -> bool {
-    matches!(
-        kind,
-        ErrorKind::ConnectionAborted | ErrorKind::ConnectionRefused | ErrorKind::Interrupted
-    )
 }
 
 impl<R: time::Clock + Drop> Door for UnixDoor<R> {

@@ -3,6 +3,7 @@
 
 mod clock;
 mod door;
+mod failure;
 mod place;
 mod relay;
 mod socket;

@@ -112,13 +112,13 @@ impl<R: Net + Files + Threads + time::Clock + Copy + Drop> RealPlace<R> {
         }
     }
 
-    fn make_ear(&mut self) -> io::Result<RelayEar>
+    fn make_ear(&mut self) -> io::Result<RelayEar<R>>
         ensures kept { real_counted self.new ≡ real_counted self.old }
         ensures fresh { IfOk result (λ ear. ear_faults ear ≡ 0) }
     {
         self.open()?;
         match &self.link {
-            Some(link) => ear_of(link),
+            Some(link) => ear_of(self.rt, link),
             None => Err(no_plan()),
         }
     }
@@ -164,7 +164,7 @@ impl<R: Net + Files + Threads + time::Clock + Copy + Drop> RealPlace<R> {
 impl<R: Net + Files + Threads + time::Clock + Copy + Send + Drop + 'static> Place for RealPlace<R> {
     ghost use Rattle.mdns_real.specs.Places.{real_counted};
 
-    type Ear = RelayEar;
+    type Ear = RelayEar<R>;
 
     type Air = RelayAir;
 
@@ -184,7 +184,7 @@ impl<R: Net + Files + Threads + time::Clock + Copy + Send + Drop + 'static> Plac
         self.plan = Some(plan);
     }
 
-    fn ear(&mut self) -> Result<RelayEar, Failed> {
+    fn ear(&mut self) -> Result<RelayEar<R>, Failed> {
         let made = self.make_ear();
         self.count_link(made)
     }
@@ -239,7 +239,7 @@ impl<R: Net + Files + Threads + time::Clock + Copy + Send + Drop + 'static> Plac
         }
     }
 
-    fn ear_back(&mut self, ear: RelayEar) {
+    fn ear_back(&mut self, ear: RelayEar<R>) {
         if ear.faults() != 0 {
             self.link_faults = self.link_faults.saturating_add(1);
         }
@@ -266,11 +266,11 @@ fn air_of(link: &Link) -> io::Result<RelayAir> {
 }
 
 // An ear of a link.
-fn ear_of(link: &Link) -> io::Result<RelayEar>
+fn ear_of<R: time::Clock + Drop>(rt: R, link: &Link) -> io::Result<RelayEar<R>>
     ensures { IfOk result (λ ear. ear_faults ear ≡ 0) }
 {
     let socket = Arc::try_clone(&link.socket)?;
-    Ok(RelayEar::new(socket, link.address))
+    Ok(RelayEar::new(rt, socket, link.address))
 }
 
 // What is asked without a plan, which can't be had.

@@ -1,30 +1,45 @@
 // The link as a relay: each packet goes as a UDP datagram from the relay port of the daemon on 127.0.0.1 to those of its
 // peers. A datagram is the sender's address (4 bytes), its port (2), the destination's address (4, 0 for all), its port
 // (2, 0 for all), and the message.
-ghost use Rattle.std.specs.Prelude.{◌≡◌, ◌≤◌, None, IfSome, length};
+ghost use Rattle.std.specs.Prelude.{◌≡◌, ◌≤◌, [], None, IfSome, OnOk, length};
 ghost use Rattle.mdns_outside.specs.Parts.{FitsBuffer};
+ghost use Rattle.mdns_real.specs.Datagrams.{datagram_of};
 
-use crate::door::is_passing;
+use crate::failure::pass_over;
+use arrayvec::{ArrayVec, CapacityError};
 use mdns_base::{Dest, Failed, Host, MDNS_PORT};
 use mdns_outside::{Air, Arrival, Ear};
-use std::io;
 use std::net::{Ipv4Addr, SocketAddr, SocketAddrV4, UdpSocket};
 use std::sync::Arc;
+use std::{io, time};
+
+// How many bytes of a datagram stand before its message.
+const HEAD: usize = 12;
+
+// The longest message. (RFC 6762 17)
+const LONGEST_MESSAGE: usize = 8972;
+
+// The longest datagram.
+const LONGEST: usize = HEAD + LONGEST_MESSAGE;
+
+// A datagram that is sent.
+type Datagram = ArrayVec<u8, LONGEST>;
 
 /// The address of a port of this machine.
 pub(crate) fn loopback(port: u16) -> SocketAddr {
     SocketAddr::V4(SocketAddrV4::new(Ipv4Addr::new(127, 0, 0, 1), port))
 }
 
-/// Hears what the peers send. It tells nothing of what comes.
+/// Hears what the peers send. It tells nothing of what comes. While the machine has no memory for the next packet, it waits.
 #[derive(Drop)]
-pub struct RelayEar {
+pub struct RelayEar<R: time::Clock + Drop> {
+    rt: R,
     socket: Arc<UdpSocket>,
     address: u32,
     faults: u64,
 }
 
-impl Ear for RelayEar {
+impl<R: time::Clock + Drop> Ear for RelayEar<R> {
     ghost use Rattle.mdns_real.specs.Faults.{ear_faults};
 
     ghost arrivals = { λ s. None };
@@ -42,14 +57,15 @@ impl Ear for RelayEar {
     }
 }
 
-impl RelayEar {
+impl<R: time::Clock + Drop> RelayEar<R> {
     ghost use Rattle.mdns_real.specs.Faults.{ear_faults};
 
     /// The ear of a daemon with this address at the relay's socket, without a fault.
-    pub fn new(socket: Arc<UdpSocket>, address: u32) -> RelayEar
+    pub fn new(rt: R, socket: Arc<UdpSocket>, address: u32) -> Self
         ensures { ear_faults result ≡ 0 }
     {
         RelayEar {
+            rt,
             socket,
             address,
             faults: 0,
@@ -63,11 +79,12 @@ impl RelayEar {
         self.faults
     }
 
-    // The next packet for this daemon; others are passed over.
+    // The next packet for this daemon; others are passed over. There is room for one byte more than a datagram has, so that one that
+    // is too long is seen.
     fn next(&self, into: &mut [u8]) -> io::Result<Option<Arrival>>
         ensures { FitsBuffer result into.new }
     {
-        let mut datagram = [0u8; 8985];
+        let mut datagram = [0u8; LONGEST + 1];
         for _ in 0..u64::MAX {
             match self.socket.recv_from(&mut datagram) {
                 Ok((len, _)) => {
@@ -75,8 +92,7 @@ impl RelayEar {
                         return Ok(Some(arrival));
                     }
                 }
-                Err(e) if is_passing(e.kind()) => {}
-                Err(e) => return Err(e),
+                Err(error) => pass_over(&self.rt, error)?,
             }
         }
         Ok(None)
@@ -120,12 +136,9 @@ impl Air for RelayAir {
     ghost faults = { λ s. s.faults };
 
     fn send(&mut self, bytes: &[u8], to: Dest) -> Result<(), Failed> {
-        let mut datagram = [0u8; 8984];
-        let sent = match fill(&mut datagram, self.address, to, bytes) {
-            Some(len) => self.to_all(&datagram[..len]),
-            None => false,
-        };
-        if sent {
+        let mut datagram = Datagram::new();
+        let fits = fill(&mut datagram, self.address, to, bytes).is_ok();
+        if fits && self.to_all(&datagram) {
             return Ok(());
         }
         self.faults = self.faults.saturating_add(1);
@@ -156,21 +169,18 @@ impl RelayAir {
     }
 }
 
-// Fills a datagram and says how long it is; None where the message is too long.
-fn fill(datagram: &mut [u8; 8984], address: u32, to: Dest, bytes: &[u8]) -> Option<usize>
-    ensures { IfSome result (λ len. len ≤ 8984) }
+// Puts a packet to a place into a datagram, which is empty. The error is that the packet is too long.
+fn fill(datagram: &mut Datagram, address: u32, to: Dest, bytes: &[u8]) -> Result<(), CapacityError>
+    requires { datagram.old.items ≡ [] }
+    ensures { OnOk result (datagram.new.items ≡ datagram_of address to bytes.now) }
 {
-    if bytes.len() > 8972 {
-        return None;
-    }
     let (ip, port) = match to {
         Dest::All => (0, 0),
         Dest::One(host) => (host.ip, host.port),
     };
-    datagram[..4].copy_from_slice(&address.to_be_bytes());
-    datagram[4..6].copy_from_slice(&MDNS_PORT.to_be_bytes());
-    datagram[6..10].copy_from_slice(&ip.to_be_bytes());
-    datagram[10..12].copy_from_slice(&port.to_be_bytes());
-    datagram[12..12 + bytes.len()].copy_from_slice(bytes);
-    Some(12 + bytes.len())
+    datagram.try_extend_from_slice(&address.to_be_bytes())?;
+    datagram.try_extend_from_slice(&MDNS_PORT.to_be_bytes())?;
+    datagram.try_extend_from_slice(&ip.to_be_bytes())?;
+    datagram.try_extend_from_slice(&port.to_be_bytes())?;
+    datagram.try_extend_from_slice(bytes)
 }

@@ -1,5 +1,5 @@
 // The real outside: a client at a Unix socket, and a packet over the relay.
-use mdns_base::{Dest, Sink, Source};
+use mdns_base::{Dest, Host, Sink, Source};
 use mdns_outside::{Air, Door, Ear};
 use mdns_real::{RelayAir, RelayEar, UnixDoor, open_socket};
 use std::io::{ErrorKind, Read, Write};
@@ -43,16 +43,44 @@ fn a_client_is_heard_and_answered(rt: HostRuntime) -> Result<(), Fail> {
     Ok(())
 }
 
-#[test]
-fn a_packet_comes_as_it_was_sent(rt: HostRuntime) -> Result<(), Fail> {
+// The address of the daemon whose air and ear are tried.
+const ADDRESS: u32 = 0x0a00_0001;
+
+// An air and an ear at one socket, whose peer is that socket.
+fn relay(rt: HostRuntime) -> io::Result<(RelayAir, RelayEar<HostRuntime>)> {
     let any = SocketAddr::V4(SocketAddrV4::new(Ipv4Addr::new(127, 0, 0, 1), 0));
     let socket = UdpSocket::bind(&rt, any)?;
     let port = socket.local_addr()?.port();
     let alloc = rt.alloc();
     let socket = Arc::new(alloc, socket)?;
     let peers = Arc::new(alloc, Vec::from_slice(alloc, &[port])?)?;
-    let mut air = RelayAir::new(Arc::try_clone(&socket)?, 0x0a00_0001, peers);
-    let mut ear = RelayEar::new(socket, 0x0a00_0001);
+    let air = RelayAir::new(Arc::try_clone(&socket)?, ADDRESS, peers);
+    Ok((air, RelayEar::new(rt, socket, ADDRESS)))
+}
+
+// What is sent to a host reaches the daemon of its address alone.
+#[test]
+fn a_packet_to_another_is_passed_over(rt: HostRuntime) -> Result<(), Fail> {
+    let (mut air, mut ear) = relay(rt)?;
+    for (ip, packet) in [(ADDRESS + 1, b"others"), (ADDRESS, b"for us")] {
+        let host = Host { ip, port: 5353 };
+        assert_eq!(rt; air.send(packet, Dest::One(host)), Ok(()));
+    }
+    let mut bytes = [0u8; 8];
+    let Ok(Some(arrival)) = ear.receive(&mut bytes) else {
+        return Err(io::Error::from(ErrorKind::Other).into());
+    };
+    assert_eq!(rt;
+        (arrival.from.ip, arrival.from.port, arrival.len),
+        (ADDRESS, 5353, 6)
+    );
+    assert_eq!(rt; bytes, *b"for us\0\0");
+    Ok(())
+}
+
+#[test]
+fn a_packet_comes_as_it_was_sent(rt: HostRuntime) -> Result<(), Fail> {
+    let (mut air, mut ear) = relay(rt)?;
     assert_eq!(rt; air.send(b"packet", Dest::All), Ok(()));
     let mut bytes = [0u8; 8];
     let Ok(Some(arrival)) = ear.receive(&mut bytes) else {
@@ -60,7 +88,7 @@ fn a_packet_comes_as_it_was_sent(rt: HostRuntime) -> Result<(), Fail> {
     };
     assert_eq!(rt;
         (arrival.from.ip, arrival.from.port, arrival.len),
-        (0x0a00_0001, 5353, 6)
+        (ADDRESS, 5353, 6)
     );
     assert_eq!(rt; bytes, *b"packet\0\0");
     assert_eq!(rt; ear.faults(), 0);
