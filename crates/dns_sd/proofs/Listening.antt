@@ -97,39 +97,42 @@ same_put before between after bytes h e = subst (λ (o : Option (List ℕ)). App
 
 -- why the tool ended
 pub heard_end : (ending : Ending) (count : Option ℕ) (old mid new : Connection) (before between after : Option (List ℕ)) (lines reads : ℕ)
-    → HasHeard count old mid before between lines reads → Steps count lines mid new between after (Err ending) → Told old.left (λ bytes. Heard count bytes ending before after)
-heard_end Done count old mid new before between after lines reads h s bytes e =
+    → HasHeard count old mid before between lines reads → reads < 4294967295 → Steps count lines mid new between after (Err ending) → Told old.left (λ bytes. Heard count bytes ending before after)
+heard_end Done count old mid new before between after lines reads h few s bytes e =
     let r = h.read bytes e in record {
       items = h.items;
       rest = r.0;
       read = r.2;
       going = h.going;
+      few = λ _. rw h.reads_are few;
       closed = (s.0, s.1.spelled r.0 r.1, s.2.0, s.2.1 ∙ ap (λ (n : ℕ). Some (n + 1)) h.lines_are, Appends-trans before between after _ _ h.printed s.2.2);
     }
-heard_end Usage count old mid new before between after lines reads h s bytes e = absurd s
-heard_end TooMany count old mid new before between after lines reads h s bytes e = absurd s
-heard_end PeerFault count old mid new before between after lines reads h s bytes e =
-    let r = h.read bytes e in record { items = h.items; rest = r.0; read = r.2; going = h.going; closed = same_put before between after _ h.printed s }
-heard_end NoMemory count old mid new before between after lines reads h s bytes e =
-    let r = h.read bytes e in record { items = h.items; rest = r.0; read = r.2; going = h.going; closed = same_put before between after _ h.printed s }
-heard_end Ended count old mid new before between after lines reads h s bytes e =
-    let r = h.read bytes e in record { items = h.items; rest = r.0; read = r.2; going = h.going; closed = (s.0 r.0 r.1, same_put before between after _ h.printed s.1) }
-heard_end BadFrame count old mid new before between after lines reads h s bytes e =
-    let r = h.read bytes e in record { items = h.items; rest = r.0; read = r.2; going = h.going; closed = (s.0 r.0 r.1, same_put before between after _ h.printed s.1) }
-heard_end Refused count old mid new before between after lines reads h s bytes e =
+heard_end Usage count old mid new before between after lines reads h few s bytes e = absurd s
+heard_end TooMany count old mid new before between after lines reads h few s bytes e = absurd s
+heard_end PeerFault count old mid new before between after lines reads h few s bytes e =
+    let r = h.read bytes e in record { items = h.items; rest = r.0; read = r.2; going = h.going; few = λ _. rw h.reads_are few; closed = same_put before between after _ h.printed s }
+heard_end NoMemory count old mid new before between after lines reads h few s bytes e =
+    let r = h.read bytes e in record { items = h.items; rest = r.0; read = r.2; going = h.going; few = λ _. rw h.reads_are few; closed = same_put before between after _ h.printed s }
+heard_end Ended count old mid new before between after lines reads h few s bytes e =
+    let r = h.read bytes e in record { items = h.items; rest = r.0; read = r.2; going = h.going; few = λ _. rw h.reads_are few; closed = (s.0 r.0 r.1, same_put before between after _ h.printed s.1) }
+heard_end BadFrame count old mid new before between after lines reads h few s bytes e =
+    let r = h.read bytes e in record { items = h.items; rest = r.0; read = r.2; going = h.going; few = λ _. rw h.reads_are few; closed = (s.0 r.0 r.1, same_put before between after _ h.printed s.1) }
+heard_end Refused count old mid new before between after lines reads h few s bytes e =
     let r = h.read bytes e in record {
       items = h.items;
       rest = r.0;
       read = r.2;
       going = h.going;
+      few = λ _. rw h.reads_are few;
       closed = (s.0, s.1.spelled r.0 r.1, s.2.0, Appends-trans before between after _ _ h.printed s.2.1);
     }
-heard_end WriteFault count old mid new before between after lines reads h s bytes e =
+heard_end WriteFault count old mid new before between after lines reads h few s bytes e =
     let r = h.read bytes e in record {
       items = h.items;
       rest = r.0;
       read = r.2;
       going = h.going;
+      few = λ _. rw h.reads_are few;
       closed = (s.0, s.1.spelled r.0 r.1, (s.2.0, Appends-trans before between after _ _ h.printed s.2.1));
     }
 
@@ -137,7 +140,7 @@ heard_end WriteFault count old mid new before between after lines reads h s byte
 pub heard_many : (count : Option ℕ) (old mid : Connection) (before after : Option (List ℕ)) (lines : ℕ)
     → HasHeard count old mid before after lines 4294967295 → Told old.left (λ bytes. Heard count bytes TooMany before after)
 heard_many count old mid before after lines h bytes e =
-    let r = h.read bytes e in record { items = h.items; rest = r.0; read = r.2; going = h.going; closed = (h.reads_are, h.printed) }
+    let r = h.read bytes e in record { items = h.items; rest = r.0; read = r.2; going = h.going; few = λ other. absurd (other refl); closed = (h.reads_are, h.printed) }
 
 -- no item was taken
 pub no_item : (error : ClientError) (count : Option ℕ) (lines : ℕ) (old new : Connection) (before : Option (List ℕ)) → old.over ≡ false → Processes old new (Err error) → Steps count lines old new before before (Err (ending_of error))

@@ -1,5 +1,5 @@
 -- What the tool hears from the daemon, and what it prints of it.
-use Rattle.std.specs.Prelude.{◌≡◌, ℕ, ◌+◌, true, List, [], ◌∷◌, ◌++◌, take, drop, length, Option, Some, None, Ok}
+use Rattle.std.specs.Prelude.{◌≡◌, ◌≢◌, ℕ, ◌+◌, ◌<◌, true, List, [], ◌∷◌, ◌++◌, take, drop, length, Option, Some, None, Ok}
 use Rattle.std.specs.Io.KnownBytes.{Appends}
 use Rattle.sd_call.specs.declared.item.Item.{Item}
 use Rattle.sd_ipc.specs.Reading.{item_in, frame_size}
@@ -33,10 +33,11 @@ Closes count items rest PeerFault old new = Appends old new (lines_of items)
 Closes count items rest NoMemory old new = Appends old new (lines_of items)
 Closes count items rest Usage old new = ⊥
 
--- What was heard of bytes: items that let the tool go on, and then why it ended.
+-- What was heard of bytes: items that let the tool go on, and then why it ended. It ends so before there are the most, or for their number.
 pub record Heard (count : Option ℕ) (bytes : List ℕ) (ending : Ending) (old new : Option (List ℕ)) : Type 0 where
   pub items : List Item
   pub rest : List ℕ
   pub read : AreRead bytes items rest
   pub going : GoesOn count items
+  pub few : ending ≢ TooMany → length items < most_items
   pub closed : Closes count items rest ending old new

@@ -31,6 +31,9 @@ fn main(rt: HostRuntime) -> ExitCode {
     let words = match read_words(rt) {
         Ok(words) => words,
         Err(status) => {
+            if status == Ending::Usage as u8 {
+                let _ = eprintln!(rt; "dns-sd: a word is no UTF-8 text");
+            }
             explain(&rt, status);
             return ExitCode::from(status);
         }

@@ -1,5 +1,5 @@
 // The real outside: standard output, and the daemon's Unix socket. Each part counts its faults, and none tells its bytes.
-ghost use Rattle.std.specs.Prelude.{◌≡◌, None, IfOk};
+ghost use Rattle.std.specs.Prelude.{◌≡◌, ◌≤◌, None, IfOk, length};
 
 use mdns_base::{Failed, Sink, Source};
 use mdns_outside::Plug;
@@ -50,7 +50,7 @@ impl Source for Reader {
     ghost faults = { λ s. s.faults };
 
     fn read(&mut self, into: &mut [u8]) -> Result<usize, Failed> {
-        match self.stream.read(into) {
+        match read_once(&mut self.stream, into) {
             Ok(count) => Ok(count),
             Err(_) => {
                 self.faults = self.faults.saturating_add(1);
@@ -58,6 +58,19 @@ impl Source for Reader {
             }
         }
     }
+}
+
+// Reads once, again where the call was interrupted.
+fn read_once(stream: &mut UnixStream, into: &mut [u8]) -> io::Result<usize>
+    ensures { IfOk result (λ count. count ≤ length into.new) }
+{
+    for _ in 0..u64::MAX {
+        match stream.read(into) {
+            Err(error) if error.kind() == io::ErrorKind::Interrupted => {}
+            read => return read,
+        }
+    }
+    Ok(0)
 }
 
 /// What is said to the daemon.

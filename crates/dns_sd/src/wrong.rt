@@ -44,7 +44,7 @@ fn wrong_command(alloc: Global, words: &[String]) -> Result<String, AllocError> 
 fn wrong_browse(alloc: Global, words: &[String]) -> Result<String, AllocError> {
     match words {
         [] => String::from_str(alloc, "-B wants a service type, as _ipp._tcp"),
-        [regtype, rest @ ..] if is_type(alloc, regtype.as_str()) => wrong_end(alloc, rest),
+        [regtype, rest @ ..] if fits_type(alloc, regtype.as_str()) => wrong_end(alloc, rest),
         [regtype, ..] => no_type(alloc, regtype.as_str()),
     }
 }
@@ -53,10 +53,10 @@ fn wrong_browse(alloc: Global, words: &[String]) -> Result<String, AllocError> {
 fn wrong_resolve(alloc: Global, words: &[String]) -> Result<String, AllocError> {
     match words {
         [label, regtype, rest @ ..] => {
-            if !is_type(alloc, regtype.as_str()) {
+            if !fits_type(alloc, regtype.as_str()) {
                 return no_type(alloc, regtype.as_str());
             }
-            if !is_instance(alloc, label.as_str(), regtype.as_str()) {
+            if !fits_instance(alloc, label.as_str(), regtype.as_str()) {
                 return no_label(alloc, label.as_str());
             }
             wrong_end(alloc, rest)
@@ -72,10 +72,10 @@ fn wrong_resolve(alloc: Global, words: &[String]) -> Result<String, AllocError> 
 fn wrong_register(alloc: Global, words: &[String]) -> Result<String, AllocError> {
     match words {
         [label, regtype, domain, port, strings @ ..] => {
-            if !is_type(alloc, regtype.as_str()) {
+            if !fits_type(alloc, regtype.as_str()) {
                 return no_type(alloc, regtype.as_str());
             }
-            if !is_service(alloc, label.as_str(), regtype.as_str()) {
+            if !fits_service(alloc, label.as_str(), regtype.as_str()) {
                 return no_label(alloc, label.as_str());
             }
             if !is_domain(domain.as_str()) {
@@ -114,15 +114,7 @@ fn wrong_query(alloc: Global, words: &[String]) -> Result<String, AllocError> {
         }
         [_, _, class, ..] if class.as_str() != "IN" => no_class(alloc, class.as_str()),
         [_, _, _, word, ..] => too_many(alloc, word.as_str()),
-        [_, rest @ ..] => wrong_kind(alloc, rest),
-    }
-}
-
-// What is wrong with a type of records that can be read.
-fn wrong_kind(alloc: Global, words: &[String]) -> Result<String, AllocError> {
-    match words {
-        [kind, ..] => format!(in alloc; "{kind} can't be asked for"),
-        [] => String::from_str(alloc, "the words are no command"),
+        _ => String::from_str(alloc, "the words are no command"),
     }
 }
 
@@ -147,18 +139,18 @@ fn wrong_end(alloc: Global, words: &[String]) -> Result<String, AllocError> {
     }
 }
 
-// Whether a text is a service type.
-fn is_type(alloc: Global, regtype: &str) -> bool {
+// Whether a text is short enough for a service type. Whether it is one the daemon tells.
+fn fits_type(alloc: Global, regtype: &str) -> bool {
     !is_bad(&browse_request(alloc, regtype))
 }
 
-// Whether a text is the name of an instance of a service type.
-fn is_instance(alloc: Global, label: &str, regtype: &str) -> bool {
+// Whether a text may be the name of an instance of a service type that is short enough.
+fn fits_instance(alloc: Global, label: &str, regtype: &str) -> bool {
     !is_bad(&resolve_request(alloc, label, regtype))
 }
 
-// Whether a service of that name and type may be registered.
-fn is_service(alloc: Global, label: &str, regtype: &str) -> bool {
+// Whether a text may be the name of a service to register, of a type that is short enough.
+fn fits_service(alloc: Global, label: &str, regtype: &str) -> bool {
     let none = Bytes::new();
     !is_bad(&register_request(alloc, 0, (label, regtype), 1, &none))
 }

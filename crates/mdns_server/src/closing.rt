@@ -12,7 +12,7 @@ use mdns_outside::Place;
 use mdns_serve::HearEnd;
 use std::sync::Wait;
 
-/// Waits until the sessions, the ear and the ticker have ended, and gives door, spawner and ear back to the place. The ear
+/// Gives the door back to the place, waits until the sessions, the ear and the ticker have ended, and gives spawner and ear back. The ear
 /// isn't waited for where the door, the spawner or the parts of a session failed. The answer is the status.
 pub(crate) fn close<R: Wait + Copy, P: Place>(
     desk: Desk<R, P>,
@@ -43,6 +43,8 @@ pub(crate) fn close<R: Wait + Copy, P: Place>(
         slot,
         ..
     } = desk;
+    // The door goes first: while sessions run to their end, nobody is to wait behind it.
+    place.door_back(door);
     for session in sessions {
         finish_both(&spawner, session.threads);
     }
@@ -54,7 +56,6 @@ pub(crate) fn close<R: Wait + Copy, P: Place>(
     finish(&spawner, second);
     let status = status_of(&stop);
     let ear_status = return_ear(&common.rt, place, &slot, stop);
-    place.door_back(door);
     place.spawner_back(spawner);
     if status == DONE { ear_status } else { status }
 }

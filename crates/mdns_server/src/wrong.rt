@@ -31,30 +31,29 @@ pub fn say_wrong(alloc: Global, words: &[String]) -> Result<String, AllocError> 
 
 // What is wrong first.
 fn wrong_in(alloc: Global, words: &[String]) -> Result<String, AllocError> {
-    let mut option: Option<&str> = None;
-    for (at, word) in words.iter().enumerate() {
+    let mut given: Vec<&str> = Vec::new(alloc);
+    let mut rest = words.iter();
+    while let Some(word) = rest.next() {
         let word = word.as_str();
-        let wrong = match option {
-            None => wrong_word(alloc, word, &words[..at])?,
-            Some(name) => wrong_value(alloc, name, word)?,
-        };
-        if let Some(wrong) = wrong {
+        if let Some(wrong) = wrong_word(alloc, word, &given)? {
             return Ok(wrong);
         }
-        option = if option.is_none() && word.starts_with("--") {
-            Some(word)
-        } else {
-            None
+        if !word.starts_with("--") {
+            continue;
+        }
+        given.push(word)?;
+        let Some(value) = rest.next() else {
+            return format!(in alloc; "{word} has no value");
         };
+        if let Some(wrong) = wrong_value(alloc, word, value.as_str())? {
+            return Ok(wrong);
+        }
     }
-    match option {
-        Some(name) => format!(in alloc; "{name} has no value"),
-        None => missing(alloc, words),
-    }
+    missing(alloc, &given)
 }
 
-// What is wrong where an option or a peer is wanted, behind these words.
-fn wrong_word(alloc: Global, word: &str, before: &[String]) -> Result<Option<String>, AllocError> {
+// What is wrong where an option or a peer is wanted, behind these options.
+fn wrong_word(alloc: Global, word: &str, given: &[&str]) -> Result<Option<String>, AllocError> {
     if !word.starts_with("--") {
         if is_good(alloc, word, "", word)? {
             return Ok(None);
@@ -66,7 +65,7 @@ fn wrong_word(alloc: Global, word: &str, before: &[String]) -> Result<Option<Str
     if !OPTIONS.iter().any(|(name, _, _)| *name == word) {
         return Ok(Some(format!(in alloc; "{word} is no option")?));
     }
-    if before.iter().any(|other| other.as_str() == word) {
+    if given.iter().any(|other| *other == word) {
         return Ok(Some(format!(in alloc; "{word} is given twice")?));
     }
     Ok(None)
@@ -94,10 +93,10 @@ fn is_good(alloc: Global, peer: &str, option: &str, value: &str) -> Result<bool,
     Ok(serve_words(alloc, words.as_slice())?.is_some())
 }
 
-// Which option is missing.
-fn missing(alloc: Global, words: &[String]) -> Result<String, AllocError> {
+// Which option is missing, where these are given.
+fn missing(alloc: Global, given: &[&str]) -> Result<String, AllocError> {
     for name in NEEDED {
-        if !words.iter().any(|word| word.as_str() == name) {
+        if !given.iter().any(|other| *other == name) {
             return format!(in alloc; "{name} is missing");
         }
     }

@@ -6,7 +6,8 @@ use Rattle.mdns_history.specs.Fitting.{IsLegal}
 use Rattle.mdns_history.specs.Replays.{IsReplayed, IsQueued}
 use Rattle.mdns_history.specs.Calls.{GoodCallsSucceed}
 use Rattle.mdns_asserts.specs.Earned.{AssertionsAreEarned}
-use Rattle.mdnsd.specs.Histories.{AreServedThroughout, CallsSucceedThroughout, AreEarnedThroughout}
+use Rattle.mdns_groups.specs.Registered.{HaveGroups, GroupsAreFew}
+use Rattle.mdnsd.specs.Histories.{AreServedThroughout, CallsSucceedThroughout, AreEarnedThroughout, HaveGroupsThroughout}
 
 pub are_served : IsReplayed → IsQueued → (history : List Entry) → IsLegal in_force history → AreServedThroughout history
 are_served replayed queued [] legal = tt
@@ -34,3 +35,9 @@ pub are_earned : AssertionsAreEarned → (history : List Entry) → IsLegal in_f
 are_earned law [] legal = tt
 are_earned law (entry ∷ []) legal = (law in_force entry [] legal, tt)
 are_earned law (entry ∷ before ∷ past) legal = (law in_force entry (before ∷ past) legal, are_earned law (before ∷ past) legal.1)
+
+pub have_groups : HaveGroups → GroupsAreFew → (history : List Entry) → IsLegal in_force history → HaveGroupsThroughout history
+have_groups law few [] legal = tt
+have_groups law few (entry ∷ []) legal = (law in_force (entry ∷ []) legal, few in_force (entry ∷ []) legal, tt)
+have_groups law few (entry ∷ before ∷ past) legal =
+    (law in_force (entry ∷ before ∷ past) legal, few in_force (entry ∷ before ∷ past) legal, have_groups law few (before ∷ past) legal.1)

@@ -13,6 +13,7 @@ use Rattle.mdns_history.specs.Fitting.{IsLegal}
 use Rattle.mdns_history.specs.Replays.{IsReplayed, IsQueued}
 use Rattle.mdns_history.specs.Calls.{GoodCallsSucceed}
 use Rattle.mdns_asserts.specs.Earned.{AssertionsAreEarned}
+use Rattle.mdns_groups.specs.Registered.{HaveGroups, GroupsAreFew}
 use Rattle.mdns_hub.specs.declared.hub.Hub.{Hub}
 use Rattle.mdns_hub.specs.declared.daemons.Booted.{Booted}
 use Rattle.mdns_hub.specs.Played.{Played, start, history_of, transcript}
@@ -23,9 +24,9 @@ use Rattle.mdnsd.specs.declared.stop.Stop.{Stop}
 use Rattle.mdnsd.specs.declared.stop.Stop.TheVariants as stop
 use Rattle.mdnsd.specs.Stops.{status_of}
 use Rattle.mdnsd.specs.Scripts.{lines_of, PlaysLine, PlaysAll, note_text}
-use Rattle.mdnsd.specs.Histories.{AreServedThroughout, CallsSucceedThroughout, AreEarnedThroughout}
+use Rattle.mdnsd.specs.Histories.{AreServedThroughout, CallsSucceedThroughout, AreEarnedThroughout, HaveGroupsThroughout}
 use Rattle.mdnsd.specs.Statuses.{ReadAll, PlaysScript, Stops, IsBadLine, PlaysPartOfLine, MayPrint, BreaksOff}
-use Rattle.mdnsd.proofs.Lawful.{are_served, calls_succeed, are_earned}
+use Rattle.mdnsd.proofs.Lawful.{are_served, calls_succeed, are_earned, have_groups}
 use Rattle.mdnsd.specs.Lines.{RanLine, StopsAt, BreaksAt, TakesLine}
 
 -- The lines before the rest of a script were played, and their entries were put.
@@ -67,15 +68,16 @@ legal_or_none P hub played stands none holds daemon = at_slot (slot_at hub.daemo
     at_slot None history h = subst P (sym h) none
     at_slot (Some booted) history h = holds history h.0.legal
 
-pub ran_whole : (script rest : List ℕ) (number : ℕ) (hub : Hub) (old new : Option (List ℕ)) → IsReplayed → IsQueued → GoodCallsSucceed → AssertionsAreEarned
+pub ran_whole : (script rest : List ℕ) (number : ℕ) (hub : Hub) (old new : Option (List ℕ)) → IsReplayed → IsQueued → GoodCallsSucceed → AssertionsAreEarned → HaveGroups → GroupsAreFew
     → Ran script rest number hub old new → lines_of rest ≡ [] → PlaysScript script old new
-ran_whole script rest number hub old new replayed queued succeed earned ran none = record {
+ran_whole script rest number hub old new replayed queued succeed earned registered few ran none = record {
   played = ran.played;
   plays = subst (λ (l : List (List ℕ)). PlaysAll start l ran.played) (sym (ran.lines ∙ ap (λ (l : List (List ℕ)). ran.done ++ l) none ∙ append-nil ran.done)) ran.plays;
   gains = ran.gains;
   replays = legal_or_none (λ history. AreServedThroughout history) hub ran.played ran.stands tt (are_served replayed queued);
   calls = legal_or_none (λ history. CallsSucceedThroughout history) hub ran.played ran.stands tt (calls_succeed succeed);
   asserts = legal_or_none (λ history. AreEarnedThroughout history) hub ran.played ran.stands tt (are_earned earned);
+  groups = legal_or_none (λ history. HaveGroupsThroughout history) hub ran.played ran.stands tt (have_groups registered few);
 }
 
 pub ran_stops : (script rest line after : List ℕ) (number : ℕ) (hub : Hub) (old mid new : Option (List ℕ))

@@ -1,5 +1,5 @@
--- What holds of a history at each of its moments: of the items of its sessions, of its calls, and of what it asserts.
-use Rattle.std.specs.Prelude.{◌≡◌, ℕ, true, false, List, [], ◌∷◌, ◌++◌, Some}
+-- What holds of a history at each of its moments: of the items of its sessions, of its calls, of what it asserts, and of its groups.
+use Rattle.std.specs.Prelude.{◌≡◌, ℕ, ◌+◌, ◌*◌, ◌≤◌, true, false, List, [], ◌∷◌, ◌++◌, length, Some}
 use Rattle.sd_call.specs.Replay.{replay}
 use Rattle.sd_call.specs.declared.request.Request.{Request}
 use Rattle.mdns_history.specs.declared.event.Event.TheVariants as event
@@ -8,7 +8,10 @@ use Rattle.mdns_history.specs.Sessions.{is_attached, is_cut}
 use Rattle.mdns_history.specs.Items.{session_items, taken_items, queue}
 use Rattle.mdns_history.specs.Replays.{answer_sets}
 use Rattle.mdns_history.specs.Calls.{is_good_call, good_outcome}
+use Rattle.mdns_history.specs.Groups.{groups}
+use Rattle.mdns_history.specs.Outcomes.{most_sessions, most_operations}
 use Rattle.mdns_asserts.specs.Earned.{IsEarned}
+use Rattle.mdns_groups.specs.Registered.{AreRegistered}
 
 -- A session's items, replayed, give exactly the answers of its operations, and they are those that it took and then those that are queued.
 pub record IsServed (session : ℕ) (history : List Entry) : Type 0 where
@@ -32,3 +35,9 @@ CallsSucceedThroughout (entry ∷ past) =
 abbrev pub AreEarnedThroughout : List Entry → Type 0
 AreEarnedThroughout [] = Unit {0}
 AreEarnedThroughout (entry ∷ past) = IsEarned entry past × AreEarnedThroughout past
+
+-- A live registration has one live group until that fails, every other live group is the host's, and there are no more than operations may be, and the host's.
+abbrev pub HaveGroupsThroughout : List Entry → Type 0
+HaveGroupsThroughout [] = Unit {0}
+HaveGroupsThroughout (entry ∷ past) =
+    AreRegistered (entry ∷ past) × (length (groups (entry ∷ past)) ≤ most_sessions * most_operations + 1) × HaveGroupsThroughout past

@@ -7,7 +7,7 @@ use Rattle.mdns_script.specs.Lines.{line_of}
 use Rattle.mdns_hub.specs.Played.{Played, start, history_of, transcript}
 use Rattle.mdns_hub.specs.Plays.{is_bad}
 use Rattle.mdns_hub.specs.Output.{PlaysPart}
-use Rattle.mdnsd.specs.Histories.{AreServedThroughout, CallsSucceedThroughout, AreEarnedThroughout}
+use Rattle.mdnsd.specs.Histories.{AreServedThroughout, CallsSucceedThroughout, AreEarnedThroughout, HaveGroupsThroughout}
 use Rattle.mdnsd.specs.Scripts.{lines_of, PlaysAll, note_text}
 
 -- the most bytes that a script may have
@@ -31,7 +31,7 @@ abbrev pub IsWithin : Option (List ℕ) → Option (List ℕ) → Type 0
 IsWithin old new = Took old new (λ count. count ≤ most_bytes)
 
 -- The whole script was played and the sink gained its transcript. Of each daemon, at each moment, the items replay to the answers, calls that are
--- as they should be succeed, and what is asserted is earned.
+-- as they should be succeed, what is asserted is earned, and live registrations have their groups.
 pub record PlaysScript (script : List ℕ) (old new : Option (List ℕ)) : Type 0 where
   pub played : Played
   pub plays : PlaysAll start (lines_of script) played
@@ -39,6 +39,7 @@ pub record PlaysScript (script : List ℕ) (old new : Option (List ℕ)) : Type 
   pub replays : (daemon : ℕ) → AreServedThroughout (history_of daemon played.told)
   pub calls : (daemon : ℕ) → CallsSucceedThroughout (history_of daemon played.told)
   pub asserts : (daemon : ℕ) → AreEarnedThroughout (history_of daemon played.told)
+  pub groups : (daemon : ℕ) → HaveGroupsThroughout (history_of daemon played.told)
 
 -- a line is none, or has a command that is bad at its place
 abbrev pub IsBadAt : Played → Line → Type 0

@@ -20,17 +20,17 @@ use crate::stop::{DONE, WRITE_FAULT};
 use crate::top::{CommandLine, mdnsd};
 use crate::why::why;
 use mdns_real::RealPlace;
-use std::alloc::AllocError;
 use std::process::ExitCode;
 use std::{env, io};
 
 fn main(rt: HostRuntime) -> ExitCode {
     let alloc = rt.alloc();
-    let words = match read_words(rt) {
-        Ok(words) => words,
-        Err(_) => Vec::new(alloc),
+    let read = read_words(rt);
+    let words = match &read {
+        Ok(words) => Some(words.as_slice()),
+        Err(_) => None,
     };
-    if let Some(text) = help_for(&words) {
+    if let Some(text) = help_for(words.unwrap_or(&[])) {
         let told = rt.println(text);
         return ExitCode::from(if told.is_ok() { DONE } else { WRITE_FAULT });
     }
@@ -42,20 +42,18 @@ fn main(rt: HostRuntime) -> ExitCode {
     let status = mdnsd(&rt, line, &mut input, &mut output, &mut place);
     let stopped = output.stopped_at().map(|line| (input.kept(), line));
     if status != DONE
-        && let Ok(why) = why(alloc, status, words.as_slice(), stopped, place.trouble())
+        && let Ok(why) = why(alloc, status, words, stopped, place.trouble())
     {
         let _ = eprintln!(rt; "mdnsd: {why}");
     }
     ExitCode::from(status)
 }
 
-// The words behind the program's own name; none where they can't be read.
-fn read_words(rt: HostRuntime) -> Result<Vec<String>, AllocError> {
+// The words behind the program's own name. They can't be read where one is no text, or where memory is refused.
+fn read_words(rt: HostRuntime) -> io::Result<Vec<String>> {
     let mut words = Vec::new(rt.alloc());
-    if let Ok(args) = env::args(&rt) {
-        for word in args.skip(1) {
-            words.push(word)?;
-        }
+    for word in env::args(&rt)?.skip(1) {
+        words.push(word)?;
     }
     Ok(words)
 }

@@ -14,6 +14,7 @@ use crate::lines::next_line;
 use crate::stop::{NO_MEMORY, READ_FAULT, Stop, TOO_LARGE, status_of};
 use mdns_asserts::assertions_are_earned;
 use mdns_base::{Sink, Source};
+use mdns_groups::{groups_are_few, registrations_have_groups};
 use mdns_history::{good_calls_succeed, items_replay};
 use mdns_hub::Hub;
 use mdns_script::{Line, read_line};
@@ -77,6 +78,8 @@ fn run_lines<K: Sink>(alloc: Global, script: &[u8], output: &mut K) -> Result<()
     items_replay();
     good_calls_succeed();
     assertions_are_earned();
+    registrations_have_groups();
+    groups_are_few();
     Ok(())
 }
 

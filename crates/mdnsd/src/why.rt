@@ -11,15 +11,18 @@ use std::alloc::{AllocError, Global};
 use std::io;
 use std::io::ErrorKind;
 
-/// What is said of a status other than 0: with the words that were typed, the line of a script that stopped it, and what failed
-/// at the place.
+/// What is said of a status other than 0: with the words that were typed, where they could be read, the line of a script that
+/// stopped it, and what failed at the place.
 pub fn why(
     alloc: Global,
     status: u8,
-    words: &[String],
+    words: Option<&[String]>,
     stopped: Option<(&[u8], u64)>,
     trouble: Option<&Trouble>,
 ) -> Result<String, AllocError> {
+    let Some(words) = words else {
+        return String::from_str(alloc, unread(status));
+    };
     match status {
         USAGE => wrong_words(alloc, words),
         BAD_LINE => match stopped {
@@ -29,6 +32,14 @@ pub fn why(
         DOOR_FAULT => failed_door(alloc, words, trouble),
         LINK_FAULT => failed_link(alloc, words, trouble),
         _ => String::from_str(alloc, reason(status)),
+    }
+}
+
+// What is said where the words can't be read.
+fn unread(status: u8) -> &'static str {
+    match status {
+        USAGE => "a word is no UTF-8 text",
+        _ => reason(status),
     }
 }
 

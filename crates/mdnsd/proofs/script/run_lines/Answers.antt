@@ -16,7 +16,8 @@ lines-preserved g c = record {
 pub returns-clause-done : goal.returns-clause-done
 returns-clause-done g c =
     ran_whole c.args.script.now c.lines.rest.now c.lines.number c.lines.hub (g.K.Sink.held c.args.output.now) (g.K.Sink.held c.lines.output)
-    c.items_replay.ensures.replayed c.items_replay.ensures.queued c.good_calls_succeed.ensures c.assertions_are_earned.ensures c.lines.invariant.ran
+    c.items_replay.ensures.replayed c.items_replay.ensures.queued c.good_calls_succeed.ensures c.assertions_are_earned.ensures
+    c.registrations_have_groups.ensures c.groups_are_few.ensures c.lines.invariant.ran
     (ap lines_of c.in_default.ensures ∙ no_lines)
 
 pub returns-in_err-run_numbered-clause-bad : goal.returns-in_err-run_numbered-clause-bad
