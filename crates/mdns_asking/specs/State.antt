@@ -9,6 +9,6 @@ pub record State : Type 0 where
   pub questions : List Tracked
   pub spare : ℕ
 
--- what an asker keeps that has these questions and was told of these records
+-- what an asker keeps that has these questions, where these records are held
 abbrev pub asker_of : List Tracked → List Held → Contents
 asker_of questions held = record { questions = questions; held = held }

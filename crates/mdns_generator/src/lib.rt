@@ -2,10 +2,8 @@
 #![tactic(auto)]
 
 mod commands;
-mod null;
 mod play;
 mod requests;
 mod summary;
 
-pub use null::NullSink;
 pub use summary::summarize;

@@ -6,8 +6,8 @@ ghost use Rattle.mdns_hub.specs.Hubs.{StandsFor};
 ghost use Rattle.mdns_generator.specs.Goodness.{AreGood};
 ghost use Rattle.mdns_generator.specs.Summaries.{HasPlayed};
 
-use crate::NullSink;
 use mdns_hub::{Hub, HubError};
+use mdns_outside::NullSink;
 use mdns_script::Command;
 use std::alloc::{AllocError, Global};
 

@@ -27,8 +27,8 @@ longest_delay = 10000
 abbrev pub is_out_of_reach : ℕ → ℕ → Bool
 is_out_of_reach clock moment = nat_lt moment clock || nat_lt last_moment moment || nat_lt (clock + furthest) moment
 
--- Whether a command is bad at a moment, told of which daemons were booted: it boots one twice or one of another number than 1 to 16, or one whose host's label has
--- control characters, names a daemon that wasn't booted, parts a daemon from itself, runs to a moment that is out of reach, lets packets be under way for another time
+-- Whether a command is bad at a moment, told of which daemons were booted: it boots one twice or one of another number than 1 to 16, or one whose host's label
+-- isn't text of 1 to 63 bytes without control characters, names a daemon that wasn't booted, parts a daemon from itself, runs to a moment that is out of reach, lets packets be under way for another time
 -- than 1 to 10,000 ms, or brings an event that is itself a boot.
 unfoldable pub is_bad_at : ℕ → (ℕ → Bool) → Command → Bool
 is_bad_at clock booted Pass = false

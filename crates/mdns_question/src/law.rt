@@ -17,7 +17,7 @@ ghost use Rattle.mdns_question.specs.Next.{next_of};
 ghost use Rattle.mdns_question.specs.Refreshing.{IsTimed, moment_of, cause_of};
 ghost use Rattle.mdns_question.specs.Standing.{uses, IsTracked, Stands, mark_of};
 
-/// Where the questions that are kept stand for a history, and the told records that are live are the history's, what is
+/// Where the questions that are kept stand for a history, and the held records that are live are the history's, what is
 /// due is what a tick asks. A question that begins with an entry, was asked in it, or neither, is behind the entry as
 /// `start` and `asked` make it. (RFC 6762 5.2)
 pub fn askings_follow_the_history()
