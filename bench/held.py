@@ -162,7 +162,7 @@ def collisions(program):
     owners = colliding()
     assert len(set(owners)) == 1024 and len(set(map(folded_hash, owners))) == 1
     others = [owner[:-9] + f"{number:08}".encode() + b"\0" for number, owner in enumerate(owners)]
-    for what, names in (("that collide under the kit's default hasher", owners), ("as long that don't", others)):
+    for what, names in (("that collide under the kit's default hasher", owners), ("that don't", others)):
         heard = packets([record(owner, A, struct.pack(">I", number)) for number, owner in enumerate(names)], 30)
         value = cost(program, asking("other"), heard) * len(heard) / len(names)
         yield f"1,024 records of names of 255 bytes {what}", f"{value:,.0f} instructions a record", ""
