@@ -8,4 +8,4 @@ pub mod Endings
 pub mod ReadBack
 pub mod FoldedBytes
 pub mod Spellings
-pub mod Sixteens
+pub mod Eights

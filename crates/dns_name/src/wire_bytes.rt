@@ -63,7 +63,7 @@ impl WireBytes {
         self.len = to as u8;
     }
 
-    /// Whether the bytes are the other's: sixteen at a time.
+    /// Whether the bytes are the other's: eight at a time.
     pub(crate) fn is_spelled_as(&self, other: &WireBytes) -> bool
         ensures { IsTrue result ↔ (bytes_in self.now ≡ bytes_in other.now) }
     {
@@ -72,15 +72,15 @@ impl WireBytes {
         }
         let (mut ours, mut theirs) = (self.bytes.as_slice(), other.bytes.as_slice());
         let mut left = usize::from(self.len);
-        'chunks: while left >= 16 {
-            let (our, our_rest) = ours.split_first_chunk::<16>().unwrap();
-            let (their, their_rest) = theirs.split_first_chunk::<16>().unwrap();
-            if our != their {
+        'chunks: while left >= 8 {
+            let (our, our_rest) = ours.split_first_chunk::<8>().unwrap();
+            let (their, their_rest) = theirs.split_first_chunk::<8>().unwrap();
+            if !are_same(our, their) {
                 return false;
             }
             ours = our_rest;
             theirs = their_rest;
-            left -= 16;
+            left -= 8;
         }
         begin_alike(ours, theirs, left)
     }
@@ -94,17 +94,25 @@ impl WireBytes {
     }
 }
 
-// Whether the first so many of some bytes are the same, sixteen at most. Behind a name there are zero bytes, mostly, so that all sixteen are the same where
+// Whether eight bytes are the same: as one number, since names are compared all the time.
+#[inline]
+fn are_same(ours: &[u8; 8], theirs: &[u8; 8]) -> bool
+    ensures { IsTrue result ↔ (ours.now ≡ theirs.now) }
+{
+    u64::from_le_bytes(*ours) == u64::from_le_bytes(*theirs)
+}
+
+// Whether the first so many of some bytes are the same, eight at most. Behind a name there are zero bytes, mostly, so that all eight are the same where
 // these are.
 fn begin_alike(ours: &[u8], theirs: &[u8], len: usize) -> bool
-    requires few { len ≤ 16 }
+    requires few { len ≤ 8 }
     requires ours { len ≤ length ours.now }
     requires theirs { len ≤ length theirs.now }
     ensures { IsTrue result ↔ (take len ours.now ≡ take len theirs.now) }
 {
-    if let Some(our) = ours.first_chunk::<16>()
-        && let Some(their) = theirs.first_chunk::<16>()
-        && our == their
+    if let Some(our) = ours.first_chunk::<8>()
+        && let Some(their) = theirs.first_chunk::<8>()
+        && are_same(our, their)
     {
         return true;
     }
