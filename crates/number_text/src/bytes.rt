@@ -4,9 +4,10 @@ ghost use Rattle.std.specs.Option.{option_map};
 ghost use Rattle.std.specs.Str.{bytes_eq};
 ghost use Rattle.number_text.specs.Cut.{cut_of};
 
+use memchr::memchr;
+
 /// The parts before and after the first `byte`, without it; `None` exactly where there is none. The second part is
 /// what std's `split` by that byte goes on with.
-#[tactic(auto, using(crate::proofs::Cuts::cut_here, crate::proofs::Cuts::cut_nowhere))]
 pub fn cut_at(bytes: &[u8], byte: u8) -> Option<(&[u8], &[u8])>
     ensures cut { option_map (λ parts. (parts.0.now, parts.1.now)) result ≡ cut_of byte bytes.now }
     ensures split { MatchOption result
@@ -14,12 +15,8 @@ pub fn cut_at(bytes: &[u8], byte: u8) -> Option<(&[u8], &[u8])>
         (λ parts. (slice_split (λ b. b == byte) bytes.now ≡ parts.0.now ∷ slice_split (λ b. b == byte) parts.1.now)
         × (length parts.1.now < length bytes.now)) }
 {
-    for (i, b) in bytes.iter().enumerate() {
-        if *b == byte {
-            return Some((&bytes[..i], &bytes[i + 1..]));
-        }
-    }
-    None
+    let place = memchr(byte, bytes)?;
+    Some((&bytes[..place], &bytes[place + 1..]))
 }
 
 /// Whether two byte strings are equal.
