@@ -1,6 +1,7 @@
 -- What each status says of the input and the output.
-use Rattle.std.specs.Prelude.{◌⊎◌, ◌≡◌, ℕ, ◌<◌, ◌≤◌, ◌++◌, List, [], length, take, Option, Some}
+use Rattle.std.specs.Prelude.{◌⊎◌, ◌≡◌, ℕ, List, take, Option}
 use Rattle.std.specs.Io.KnownBytes.{Appends}
+use Rattle.mdns_stdio.specs.Reads as reads
 use Rattle.mdns_check.specs.declared.verdict.Verdict.{Verdict}
 use Rattle.mdns_check.specs.Verdicts.{IsVerdict, status_of, line_of}
 
@@ -10,19 +11,15 @@ most_bytes = 1048576
 
 -- The text was read to its end, where the source tells it, and it isn't too large.
 abbrev pub ReadAll : Option (List ℕ) → Option (List ℕ) → (List ℕ → Type 0) → Type 0
-ReadAll old new P = (text : List ℕ) → old ≡ Some text → (length text ≤ most_bytes) × (new ≡ Some []) × P text
-
--- a first part of the text was taken, where the source tells it, and its length passes a test
-abbrev pub Took : Option (List ℕ) → Option (List ℕ) → (ℕ → Type 0) → Type 0
-Took old new IsLength = (text : List ℕ) → old ≡ Some text → (taken : List ℕ) × (rest : List ℕ) × (text ≡ taken ++ rest) × (new ≡ Some rest) × IsLength (length taken)
+ReadAll old new P = reads.ReadAll most_bytes old new P
 
 -- More bytes were taken than a transcript may have.
 abbrev pub IsTooLarge : Option (List ℕ) → Option (List ℕ) → Type 0
-IsTooLarge old new = Took old new (λ count. most_bytes < count)
+IsTooLarge old new = reads.IsTooLarge most_bytes old new
 
 -- No more bytes were taken than a transcript may have.
 abbrev pub IsWithin : Option (List ℕ) → Option (List ℕ) → Type 0
-IsWithin old new = Took old new (λ count. count ≤ most_bytes)
+IsWithin old new = reads.IsWithin most_bytes old new
 
 -- What is right to say of the text was put, with this status.
 pub record Says (text : List ℕ) (old new : Option (List ℕ)) (status : ℕ) : Type 0 where

@@ -2,18 +2,16 @@
 #![tactic(auto)]
 
 mod help;
-mod input;
-mod outside;
 mod stop;
 mod top;
 mod verdict;
 mod why;
 
 use crate::help::help_for;
-use crate::outside::{Input, Output};
 use crate::stop::{BAD_LINE, ILLEGAL, LEGAL, NO_MEMORY, USAGE, WRITE_FAULT};
 use crate::top::mdns_check;
 use crate::why::why;
+use mdns_stdio::{Input, Output};
 use std::io::ErrorKind;
 use std::process::ExitCode;
 use std::{env, io};

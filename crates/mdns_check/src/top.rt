@@ -3,11 +3,14 @@ ghost use Rattle.std.specs.Prelude.{◌≡◌, ◌⊎◌, ◌≢◌, ◌≤◌, 
 ghost use Rattle.mdns_base.specs.Outside.{Rose};
 ghost use Rattle.mdns_check.specs.Statuses.{ReadAll, IsTooLarge, IsWithin, Says, Begins, IsToldStatus, IsStatus};
 
-use crate::input::{ReadError, read_all};
 use crate::stop::{NO_MEMORY, READ_FAULT, TOO_LARGE, USAGE, WRITE_FAULT};
 use crate::verdict::judge;
 use mdns_base::{Sink, Source};
+use mdns_stdio::{ReadError, read_all};
 use std::alloc::Global;
+
+/// The most bytes that a transcript may have.
+const MOST_BYTES: usize = 1_048_576;
 
 /// Reads a transcript to its end and says whether every daemon's history in it is legal. The answer is the status of the program:
 /// - 0: it is the print of rows, and every history is legal: `legal N` was put, with the count of rows.
@@ -42,7 +45,7 @@ pub fn mdns_check<S: Source, K: Sink>(
     if !words.is_empty() {
         return USAGE;
     }
-    match read_all(alloc, input) {
+    match read_all(alloc, input, MOST_BYTES) {
         Ok(text) => tell(alloc, text.as_slice(), output),
         Err(ReadError::Fault) => READ_FAULT,
         Err(ReadError::NoMemory) => NO_MEMORY,

@@ -1,5 +1,1 @@
-mod Taking
-mod Lawful
-mod Running
 mod CommandLine
-mod Writing

@@ -1,7 +1,2 @@
-pub mod Stops
-pub mod Scripts
-pub mod Histories
-pub mod Statuses
-pub mod Lines
 pub mod Words
 pub mod Generating

@@ -4,7 +4,8 @@ ghost use Rattle.std.specs.IoError.{error_kind};
 ghost use Rattle.mdns_words.specs.Options.{texts};
 ghost use Rattle.mdnsd.specs.Words.{AreNoCommand, LackMemory, told, script_words, names_script, behind_serve, count_of, gen_number};
 
-use crate::stop::{NO_MEMORY, USAGE};
+use crate::stop::USAGE;
+use mdns_play::NO_MEMORY;
 use number_text::read_decimal;
 use std::alloc::{AllocError, Global};
 use std::env::Args;

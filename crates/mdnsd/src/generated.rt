@@ -3,9 +3,9 @@ ghost use Rattle.std.specs.Prelude.{◌≡◌, ◌≢◌, ◌≤◌};
 ghost use Rattle.mdns_base.specs.Outside.{Rose};
 ghost use Rattle.mdnsd.specs.Generating.{GainsSummary, BeginsSummary, IsGenStatus};
 
-use crate::stop::{DONE, NO_MEMORY, WRITE_FAULT};
 use mdns_base::Sink;
 use mdns_generator::summarize;
+use mdns_play::{DONE, NO_MEMORY, WRITE_FAULT};
 use std::alloc::Global;
 
 /// Plays the script that is made of a number, from 1 to 200, and puts its summary. The answer is the status of the program:

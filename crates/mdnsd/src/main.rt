@@ -5,21 +5,19 @@
 mod command;
 mod generated;
 mod help;
-mod input;
-mod lines;
 mod notes;
 mod outside;
-mod script;
 mod stop;
 mod top;
 mod why;
 
 use crate::help::help_for;
-use crate::outside::{Input, Output};
-use crate::stop::{DONE, WRITE_FAULT};
+use crate::outside::{Keeping, Naming};
 use crate::top::{CommandLine, mdnsd};
 use crate::why::why;
+use mdns_play::{DONE, WRITE_FAULT};
 use mdns_real::RealPlace;
+use mdns_stdio::{Input, Output};
 use std::process::ExitCode;
 use std::{env, io};
 
@@ -34,8 +32,8 @@ fn main(rt: HostRuntime) -> ExitCode {
         let told = rt.println(text);
         return ExitCode::from(if told.is_ok() { DONE } else { WRITE_FAULT });
     }
-    let mut input = Input::new(alloc, rt.reader());
-    let mut output = Output::new(io::writer(&rt));
+    let mut input = Keeping::new(alloc, Input::new(rt.reader()));
+    let mut output = Naming::new(Output::new(io::writer(&rt)));
     let mut place = RealPlace::new(rt, alloc);
     let args = env::args(&rt);
     let line = CommandLine { alloc, args };

@@ -1,5 +1,5 @@
 // What is said on standard error: what can be typed, and which word of a line was wanted. No clause speaks of it.
-use crate::lines::next_line;
+use mdns_play::next_line;
 use mdns_script::{Line, read_line};
 use number_text::{cut_at, is_same};
 use std::alloc::{AllocError, Global};

@@ -1,35 +1,26 @@
-// The real outside: standard input and output, each with its count of faults.
-ghost use Rattle.std.specs.Prelude.{◌≡◌, ◌<◌, ◌≤◌, IfOk, length};
-ghost use Rattle.std.specs.Io.KnownBytes.{WriteAppends};
-ghost use Rattle.mdns_base.specs.Outside.{HasCause};
-
+// What is kept of the input and the output for a note on a bad line.
 use mdns_base::{Failed, Sink, Source};
 use number_text::{cut_at, read_decimal};
 use std::alloc::Global;
-use std::io::{ErrorKind, Read, Write};
 
 /// How many bytes of the input are kept for a note on a bad line.
 const MOST_KEPT: usize = 1_048_576;
 
-/// A reader as a source. It tells what the reader has left, where that tells.
+/// A source of which the first bytes are kept.
 #[derive(Drop)]
-pub struct Input<R: Read> {
-    /// The reader.
-    inner: R,
-    /// How often a read failed; it stays at its greatest value.
-    faults: u64,
+pub struct Keeping<S: Source> {
+    inner: S,
     // The first bytes that were read.
     kept: Vec<u8>,
     // Whether all that was read is kept.
     is_whole: bool,
 }
 
-impl<R: Read> Input<R> {
-    /// A source over a reader, without a fault so far.
-    pub fn new(alloc: Global, inner: R) -> Self {
-        Input {
+impl<S: Source> Keeping<S> {
+    /// A source of which nothing was read.
+    pub fn new(alloc: Global, inner: S) -> Self {
+        Keeping {
             inner,
-            faults: 0,
             kept: Vec::new(alloc),
             is_whole: true,
         }
@@ -39,11 +30,6 @@ impl<R: Read> Input<R> {
     pub fn kept(&self) -> &[u8] {
         &self.kept
     }
-
-    /// How often a read failed.
-    pub fn faults(&self) -> u64 {
-        self.faults
-    }
 }
 
 // Keeps what was read, while there is room for it.
@@ -51,38 +37,22 @@ fn keep(kept: &mut Vec<u8>, is_whole: &mut bool, piece: &[u8]) {
     *is_whole = *is_whole && kept.len() < MOST_KEPT && kept.extend_from_slice(piece).is_ok();
 }
 
-impl<R: Read> Source for Input<R> {
-    ghost left = { λ s. R.remaining s.inner };
+impl<S: Source> Source for Keeping<S> {
+    ghost left = { λ s. S.left s.inner };
 
-    ghost faults = { λ s. s.faults };
+    ghost faults = { λ s. S.faults s.inner };
 
-    /// One read, tried again where a signal interrupted it.
     fn read(&mut self, into: &mut [u8]) -> Result<usize, Failed> {
-        for _ in 0..u64::MAX {
-            match self.inner.read(into) {
-                Ok(count) => {
-                    keep(&mut self.kept, &mut self.is_whole, &into[..count]);
-                    return Ok(count);
-                }
-                Err(error) => {
-                    if !matches!(error.kind(), ErrorKind::Interrupted) {
-                        break;
-                    }
-                }
-            }
-        }
-        self.faults = self.faults.saturating_add(1);
-        Err(Failed)
+        let count = self.inner.read(into)?;
+        keep(&mut self.kept, &mut self.is_whole, &into[..count]);
+        Ok(count)
     }
 }
 
-/// A writer as a sink. It tells what the writer holds, where that tells.
+/// A sink of which is known which line the last piece names.
 #[derive(Drop)]
-pub struct Output<W: Write> {
-    /// The writer.
-    inner: W,
-    /// How often a write failed; it stays at its greatest value.
-    faults: u64,
+pub struct Naming<K: Sink> {
+    inner: K,
     // The line that the last piece names, where it is no entry.
     stopped_at: Option<u64>,
 }
@@ -99,12 +69,11 @@ fn line_named(piece: &[u8]) -> Option<u64> {
     read_decimal(rest)
 }
 
-impl<W: Write> Output<W> {
-    /// A sink over a writer, without a fault so far.
-    pub fn new(inner: W) -> Self {
-        Output {
+impl<K: Sink> Naming<K> {
+    /// A sink into which nothing was put.
+    pub fn new(inner: K) -> Self {
+        Naming {
             inner,
-            faults: 0,
             stopped_at: None,
         }
     }
@@ -113,49 +82,19 @@ impl<W: Write> Output<W> {
     pub fn stopped_at(&self) -> Option<u64> {
         self.stopped_at
     }
-
-    /// How often a write failed, and the writer.
-    pub fn into_parts(self) -> (u64, W) {
-        (self.faults, self.inner)
-    }
-
-    // One write of at least one byte, tried again where a signal interrupted it.
-    fn write_some(&mut self, piece: &[u8]) -> Result<usize, Failed>
-        ensures bound { IfOk result (λ count. (0 < count) × (count ≤ length piece.now)) }
-        ensures bytes { WriteAppends (W.contents self.old.inner) (W.contents self.new.inner) result piece.now }
-        ensures cause { HasCause self.old.faults self.new.faults result }
-    {
-        for _ in 0..u64::MAX {
-            match self.inner.write(piece) {
-                Ok(0) => break,
-                Ok(count) => return Ok(count),
-                Err(error) => {
-                    if !matches!(error.kind(), ErrorKind::Interrupted) {
-                        break;
-                    }
-                }
-            }
-        }
-        self.faults = self.faults.saturating_add(1);
-        Err(Failed)
-    }
 }
 
-impl<W: Write> Sink for Output<W> {
-    ghost held = { λ s. W.contents s.inner };
+impl<K: Sink> Sink for Naming<K> {
+    ghost held = { λ s. K.held s.inner };
 
-    ghost faults = { λ s. s.faults };
+    ghost faults = { λ s. K.faults s.inner };
 
-    /// Writes until the whole piece is taken.
     fn put(&mut self, piece: &[u8]) -> Result<(), Failed> {
         self.stopped_at = line_named(piece);
-        let mut rest = piece;
-        'writes: while !rest.is_empty() {
-            let count = self.write_some(rest)?;
-            rest = &rest[count..];
-        }
-        Ok(())
+        self.inner.put(piece)
     }
 
-    fn finish(&mut self) {}
+    fn finish(&mut self) {
+        self.inner.finish();
+    }
 }

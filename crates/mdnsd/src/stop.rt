@@ -1,30 +1,7 @@
-// How a run ends: the statuses of the program, and why a script stops before its end.
-ghost use Rattle.std.specs.Prelude.{◌≡◌};
-ghost use Rattle.mdnsd.specs.Stops.{status_of, stop_of};
-
-use mdns_hub::HubError;
-use std::alloc::AllocError;
-
-/// Everything was done.
-pub const DONE: u8 = 0;
+// The statuses of the program that a script doesn't have.
 
 /// The words are no command.
 pub const USAGE: u8 = 2;
-
-/// A line is bad, or bad at its place.
-pub const BAD_LINE: u8 = 3;
-
-/// The source failed.
-pub const READ_FAULT: u8 = 4;
-
-/// The sink failed.
-pub const WRITE_FAULT: u8 = 5;
-
-/// Memory was refused.
-pub const NO_MEMORY: u8 = 6;
-
-/// The input has more than 67,108,864 bytes.
-pub const TOO_LARGE: u8 = 8;
 
 /// The door of a server failed.
 pub const DOOR_FAULT: u8 = 9;
@@ -34,48 +11,3 @@ pub const SPAWN_FAULT: u8 = 10;
 
 /// The link of a server failed.
 pub const LINK_FAULT: u8 = 11;
-
-/// Why a script stopped before its end.
-#[derive(Clone, Copy, Debug, PartialEq, Eq)]
-pub enum Stop {
-    /// A line is bad, or bad at its place.
-    BadLine,
-    /// The sink failed.
-    WriteFault,
-    /// Memory was refused.
-    NoMemory,
-}
-
-/// The status of the program.
-pub fn status_of(ran: Result<(), Stop>) -> u8
-    ensures { result ≡ status_of ran }
-{
-    match ran {
-        Ok(()) => DONE,
-        Err(Stop::BadLine) => BAD_LINE,
-        Err(Stop::WriteFault) => WRITE_FAULT,
-        Err(Stop::NoMemory) => NO_MEMORY,
-    }
-}
-
-impl From<AllocError> for Stop {
-    ghost use Rattle.mdnsd.specs.declared.stop.Stop.TheVariants.{NoMemory};
-
-    ghost from_gives = { λ _ e. e ≡ NoMemory };
-
-    fn from(_: AllocError) -> Self {
-        Stop::NoMemory
-    }
-}
-
-impl From<HubError> for Stop {
-    ghost from_gives = { λ e stop. stop ≡ stop_of e };
-
-    fn from(error: HubError) -> Self {
-        match error {
-            HubError::BadCommand => Stop::BadLine,
-            HubError::WriteFault => Stop::WriteFault,
-            HubError::NoMemory => Stop::NoMemory,
-        }
-    }
-}

@@ -5,16 +5,16 @@ ghost use Rattle.mdns_base.specs.Outside.{Rose};
 ghost use Rattle.mdns_outside.specs.declared.plan.ServePlan.{ServePlan};
 ghost use Rattle.mdns_server.specs.Endings.{IsServeStatus, serving_line};
 ghost use Rattle.mdns_server.specs.Serving.{Serves};
-ghost use Rattle.mdnsd.specs.Statuses.{Stops, PlaysScript, BreaksOff, ReadAll, IsTooLarge, IsWithin, IsScriptStatus};
+ghost use Rattle.mdns_play.specs.Statuses.{Stops, PlaysScript, BreaksOff, ReadAll, IsTooLarge, IsWithin, IsScriptStatus};
 ghost use Rattle.mdnsd.specs.Generating.{GainsSummary, BeginsSummary, IsGenStatus};
 ghost use Rattle.mdnsd.specs.Words.{AreNoCommand, AreScript, AreGen, AskFor, LackMemory};
 
 use crate::command::{gen_number, is_script, serve_words, words_of};
 use crate::generated::run_gen;
-use crate::script::run_script;
 use crate::stop::USAGE;
 use mdns_base::{Sink, Source};
 use mdns_outside::Place;
+use mdns_play::run_script;
 use mdns_server::serve_by_words;
 use std::alloc::Global;
 use std::env::Args;

@@ -1,10 +1,8 @@
 // Why the program failed, in words for a person. No clause speaks of it.
 use crate::help::HELP;
 use crate::notes::note_on;
-use crate::stop::{
-    BAD_LINE, DOOR_FAULT, LINK_FAULT, NO_MEMORY, READ_FAULT, SPAWN_FAULT, TOO_LARGE, USAGE,
-    WRITE_FAULT,
-};
+use crate::stop::{DOOR_FAULT, LINK_FAULT, SPAWN_FAULT, USAGE};
+use mdns_play::{BAD_LINE, NO_MEMORY, READ_FAULT, TOO_LARGE, WRITE_FAULT};
 use mdns_real::Trouble;
 use mdns_server::say_wrong;
 use std::alloc::{AllocError, Global};

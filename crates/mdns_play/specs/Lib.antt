@@ -1,0 +1,5 @@
+pub mod Stops
+pub mod Scripts
+pub mod Histories
+pub mod Statuses
+pub mod Lines
