@@ -1,7 +1,7 @@
 // The link as a relay: each packet goes as a UDP datagram from the relay port of the daemon on 127.0.0.1 to those of its
 // peers. A datagram is the sender's address (4 bytes), its port (2), the destination's address (4, 0 for all), its port
 // (2, 0 for all), and the message.
-ghost use Rattle.std.specs.Prelude.{◌≡◌, ◌≤◌, [], None, IfSome, OnOk, length};
+ghost use Rattle.std.specs.Prelude.{◌≡◌, ◌<◌, ◌≤◌, [], None, IfSome, OnOk, OnErr, length};
 ghost use Rattle.mdns_outside.specs.Parts.{FitsBuffer};
 ghost use Rattle.mdns_real.specs.Datagrams.{datagram_of};
 
@@ -172,7 +172,8 @@ impl RelayAir {
 // Puts a packet to a place into a datagram, which is empty. The error is that the packet is too long.
 fn fill(datagram: &mut Datagram, address: u32, to: Dest, bytes: &[u8]) -> Result<(), CapacityError>
     requires { datagram.old.items ≡ [] }
-    ensures { OnOk result (datagram.new.items ≡ datagram_of address to bytes.now) }
+    ensures text { OnOk result (datagram.new.items ≡ datagram_of address to bytes.now) }
+    ensures long { OnErr result (8972 < length bytes.now) }
 {
     let (ip, port) = match to {
         Dest::All => (0, 0),
