@@ -1,4 +1,5 @@
 // What wakes those that wait for a turn of another.
+use crate::order::SendOrder;
 use std::alloc::{AllocError, Global};
 use std::sync::Wait;
 use std::sync::atomic::{AtomicU64, Ordering};
@@ -22,6 +23,7 @@ pub struct Bell {
     // How often the ticker was called.
     calls: AtomicU64,
     closed: AtomicU64,
+    order: SendOrder,
 }
 
 impl Bell {
@@ -36,7 +38,13 @@ impl Bell {
             due: AtomicU64::new(0),
             calls: AtomicU64::new(0),
             closed: AtomicU64::new(0),
+            order: SendOrder::new(),
         })
+    }
+
+    /// The order in which packets leave.
+    pub(crate) fn order(&self) -> &SendOrder {
+        &self.order
     }
 
     /// How often the bell rang for a session.

@@ -10,10 +10,11 @@ ghost use Rattle.mdns_serve.specs.Shares.{StandsFor};
 ghost use Rattle.mdns_serve.specs.Packets.{packets_in, HandsSome};
 ghost use Rattle.mdns_serve.specs.Reading.{IsFor};
 
-use crate::air::send_all;
+use crate::air::send_in_order;
 use crate::bell::Bell;
 use crate::common::{Common, Kit};
 use crate::happening::Happening;
+use crate::order::SendPlace;
 use crate::shared::Shared;
 use crate::step::Step;
 use mdns_history::{Event, Given, Mark};
@@ -41,24 +42,43 @@ pub fn take_turn<R: Wait, A: Air, C: Clock, W: Words>(
     ensures air { HandsSome (A.handed kit.old.air) (A.handed kit.new.air) (packets_in result) }
     ensures later { A.faults kit.old.air ≤ A.faults kit.new.air }
 {
-    let bell = &*common.bell;
-    let step = Step::new(kit.clock.now(), kit.words.word(), event, bell);
+    let place = SendPlace::new();
+    let step = Step::new(
+        kit.clock.now(),
+        kit.words.word(),
+        event,
+        &*common.bell,
+        &place,
+    );
     let happening = common.turn.turn(&common.rt, seat, step);
-    if let Happening::Entered { entry } = &happening {
+    follow(common, &place, &happening, &mut kit.air);
+    happening
+}
+
+/// Wakes those that a turn concerns, and hands what it sends to the air, behind what the turns before send.
+pub(crate) fn follow<R: Wait, A: Air>(
+    common: &Common<R>,
+    place: &SendPlace,
+    done: &Happening,
+    air: &mut A,
+)
+    ensures packets { HandsSome (A.handed air.old) (A.handed air.new) (packets_in done.now) }
+    ensures later { A.faults air.old ≤ A.faults air.new }
+{
+    if let Happening::Entered { entry } = done {
         ring_for(
             entry.given.as_slice(),
             entry.marks.as_slice(),
             &entry.event,
-            bell,
+            &*common.bell,
         );
-        send_all(common.alloc, entry.sent.as_slice(), &mut kit.air);
+        send_in_order(common, place, entry.sent.as_slice(), air);
     }
-    happening
 }
 
-/// Wakes the writers of the sessions that were given something, cut or detached. What is given stands by session, so that
-/// each of these is rung once.
-pub(crate) fn ring_for(given: &[Given], marks: &[Mark], event: &Event, bell: &Bell) {
+// Wakes the writers of the sessions that were given something, cut or detached. What is given stands by session, so that
+// each of these is rung once.
+fn ring_for(given: &[Given], marks: &[Mark], event: &Event, bell: &Bell) {
     let mut rung = None;
     for one in given {
         if rung != Some(one.session) {

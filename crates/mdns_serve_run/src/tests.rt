@@ -9,13 +9,17 @@ use dns_name::Name;
 use mdns_base::{Host, Moment};
 use mdns_happened::When;
 use mdns_history::{Config, Event};
-use mdns_outside::{Clock, Incoming, MemAir, MemClock, MemEar, MemWords};
-use mdns_serve::{Bell, Common, Happening, HearEnd, Kit, Shared, Step, hear_loop, tick_loop};
+use mdns_outside::{Clock, Incoming, MemAir, MemClock, MemEar, MemWords, Notes};
+use mdns_serve::{
+    Bell, Common, Happening, HearEnd, Kit, SendOrder, SendPlace, Shared, Step, hear_loop, tick_loop,
+};
 use mdns_turn::{Seat, Turn};
 use sd_call::Request;
 use std::alloc::{AllocError, Global};
 use std::sync::{Arc, Wait};
 use std::test::Fail;
+use std::thread;
+use std::time::Duration;
 
 // A daemon without a host that threads share, and the first seat.
 fn shared_daemon(alloc: Global) -> Result<(Turn<Shared>, Seat<Shared>), AllocError>
@@ -56,11 +60,12 @@ fn a_moment_is_the_greatest_that_was_told(rt: HostRuntime) -> Result<(), Fail> {
     let alloc = rt.alloc();
     let (turn, mut seat) = shared_daemon(alloc)?;
     let bell = Bell::new(alloc)?;
+    let place = SendPlace::new();
     let mut other = turn.split(&rt, &mut seat)?;
-    turn.turn(&rt, &mut seat, Step::new(5, 0, Event::Tick, &bell));
-    turn.turn(&rt, &mut other, Step::new(3, 0, Event::Tick, &bell));
+    turn.turn(&rt, &mut seat, Step::new(5, 0, Event::Tick, &bell, &place));
+    turn.turn(&rt, &mut other, Step::new(3, 0, Event::Tick, &bell, &place));
     turn.join(&mut seat, other);
-    let done = turn.turn(&rt, &mut seat, Step::new(0, 0, Event::Tick, &bell));
+    let done = turn.turn(&rt, &mut seat, Step::new(0, 0, Event::Tick, &bell, &place));
     assert_eq!(rt; moment_of(&done).ok_or(AllocError)?, 5);
     Ok(())
 }
@@ -89,7 +94,8 @@ fn the_ticker_asks_what_is_due(rt: HostRuntime) -> Result<(), Fail> {
     let alloc = rt.alloc();
     let (common, mut seat) = shared_by_threads(rt, alloc)?;
     let bell = &*common.bell;
-    let attach = Step::new(0, 0, Event::Attach, bell);
+    let place = SendPlace::new();
+    let attach = Step::new(0, 0, Event::Attach, bell, &place);
     common.turn.turn(&rt, &mut seat, attach);
     let call = Event::Call {
         session: 1,
@@ -101,7 +107,7 @@ fn the_ticker_asks_what_is_due(rt: HostRuntime) -> Result<(), Fail> {
     };
     common
         .turn
-        .turn(&rt, &mut seat, Step::new(0, 0, call, bell));
+        .turn(&rt, &mut seat, Step::new(0, 0, call, bell, &place));
     let mut kit = Kit {
         air: MemAir::new(alloc, Vec::from_slice(alloc, &[1])?),
         clock: LastClock { bell, told: 0 },
@@ -143,5 +149,34 @@ fn the_ear_is_heard_until_it_fails(rt: HostRuntime) -> Result<(), Fail> {
     assert_eq!(rt; failed, HearEnd::LinkFault);
     let ended = hear_all(&common, &mut seat, &mut ear);
     assert_eq!(rt; ended, HearEnd::Ended);
+    Ok(())
+}
+
+// Who drew later waits until the one before has sent.
+#[test]
+fn packets_leave_in_the_order_of_turns(rt: HostRuntime) -> Result<(), Fail> {
+    let alloc = rt.alloc();
+    let order = Arc::new(alloc, SendOrder::new())?;
+    let sent = Arc::new(alloc, Notes::new(alloc))?;
+    let (first, second) = (SendPlace::new(), SendPlace::new());
+    order.draw(&first);
+    order.draw(&second);
+    let (other_order, other_sent) = (Arc::try_clone(&order)?, Arc::try_clone(&sent)?);
+    let other = thread::spawn(&rt, move || {
+        other_order.wait(&rt, &second);
+        other_sent.add(&rt, 2u8);
+        other_order.pass();
+    })?;
+    order.wait(&rt, &first);
+    thread::sleep(&rt, Duration::from_millis(20));
+    sent.add(&rt, 1u8);
+    order.pass();
+    other.join(&rt);
+    let sent = sent.take(&rt);
+    if sent.len() < 2 {
+        // What finds no memory is left out.
+        Err(AllocError)?;
+    }
+    assert_eq!(rt; sent.as_slice(), [1u8, 2].as_slice());
     Ok(())
 }
