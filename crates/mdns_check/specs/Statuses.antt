@@ -1,7 +1,7 @@
 -- What each status says of the input and the output.
 use Rattle.std.specs.Prelude.{◌⊎◌, ◌≡◌, ℕ, List, take, Option}
 use Rattle.std.specs.Io.KnownBytes.{Appends}
-use Rattle.mdns_stdio.specs.Reads as reads
+use Rattle.mdns_streams.specs.Reads as reads
 use Rattle.mdns_check.specs.declared.verdict.Verdict.{Verdict}
 use Rattle.mdns_check.specs.Verdicts.{IsVerdict, status_of, line_of}
 

@@ -11,7 +11,7 @@ use crate::help::help_for;
 use crate::stop::{BAD_LINE, ILLEGAL, LEGAL, NO_MEMORY, USAGE, WRITE_FAULT};
 use crate::top::mdns_check;
 use crate::why::why;
-use mdns_stdio::{Input, Output};
+use mdns_streams::{Input, Output};
 use std::io::ErrorKind;
 use std::process::ExitCode;
 use std::{env, io};

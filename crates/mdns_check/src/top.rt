@@ -6,7 +6,7 @@ ghost use Rattle.mdns_check.specs.Statuses.{ReadAll, IsTooLarge, IsWithin, Says,
 use crate::stop::{NO_MEMORY, READ_FAULT, TOO_LARGE, USAGE, WRITE_FAULT};
 use crate::verdict::judge;
 use mdns_base::{Sink, Source};
-use mdns_stdio::{ReadError, read_all};
+use mdns_streams::{ReadError, read_all};
 use std::alloc::Global;
 
 /// The most bytes that a transcript may have.

@@ -1,7 +1,7 @@
 -- What each status of a script says of its input and output.
 use Rattle.std.specs.Prelude.{◌⊎◌, ◌≡◌, ℕ, ◌+◌, ◌++◌, true, List, [], ◌∷◌, length, take, Option}
 use Rattle.std.specs.Io.KnownBytes.{Appends}
-use Rattle.mdns_stdio.specs.Reads as reads
+use Rattle.mdns_streams.specs.Reads as reads
 use Rattle.mdns_script.specs.declared.command.Line.{Line}
 use Rattle.mdns_script.specs.declared.command.Line.TheVariants.{Bad, Command as CommandLine}
 use Rattle.mdns_script.specs.Lines.{line_of}

@@ -17,7 +17,7 @@ use mdns_groups::{groups_are_few, registrations_have_groups};
 use mdns_history::{good_calls_succeed, items_replay};
 use mdns_hub::Hub;
 use mdns_script::{Line, read_line};
-use mdns_stdio::{ReadError, read_all};
+use mdns_streams::{ReadError, read_all};
 use number_text::put_decimal;
 use std::alloc::{AllocError, Global};
 

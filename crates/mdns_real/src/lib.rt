@@ -10,7 +10,7 @@ mod socket;
 mod threads;
 
 pub use clock::RealClock;
-pub use door::{Reader, UnixDoor, Writer};
+pub use door::UnixDoor;
 pub use place::{RealPlace, Trouble};
 pub use relay::{RelayAir, RelayEar};
 pub use socket::open_socket;

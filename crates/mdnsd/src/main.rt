@@ -17,7 +17,7 @@ use crate::top::{CommandLine, mdnsd};
 use crate::why::why;
 use mdns_play::{DONE, WRITE_FAULT};
 use mdns_real::RealPlace;
-use mdns_stdio::{Input, Output};
+use mdns_streams::{Input, Output};
 use std::process::ExitCode;
 use std::{env, io};
 

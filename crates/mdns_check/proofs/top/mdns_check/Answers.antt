@@ -1,4 +1,4 @@
-use Rattle.mdns_stdio.proofs.Reading.{read_as}
+use Rattle.mdns_streams.proofs.Reading.{read_as}
 use Rattle.mdns_check.specs.Statuses.{most_bytes, Says, Begins}
 use Rattle.mdns_check.proofs.top.mdns_check.Goals as goal
 

@@ -1,5 +1,5 @@
 use Rattle.std.proofs.Common.{◌∙◌, inl, inr, sym}
-use Rattle.mdns_stdio.proofs.Reading.{read_as}
+use Rattle.mdns_streams.proofs.Reading.{read_as}
 use Rattle.mdns_play.specs.Statuses.{most_bytes, PlaysScript, Stops, BreaksOff}
 use Rattle.mdns_play.proofs.Running.{from_done, from_bad, from_write_fault, from_no_memory}
 use Rattle.mdns_play.proofs.script.run_script.Goals as goal

@@ -1,7 +1,7 @@
 -- A read that was interrupted took nothing.
 use Rattle.std.proofs.Common.{◌≡◌, length}
 use Rattle.std.specs.Io.KnownBytes.{Keeps}
-use Rattle.mdns_stdio.proofs.adapters.InputSource.read.Given as goal
+use Rattle.mdns_streams.proofs.adapters.InputSource.read.Given as goal
 
 abbrev pub invariant-loop : goal.invariant-loop
 invariant-loop g l = record {

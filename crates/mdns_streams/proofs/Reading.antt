@@ -1,6 +1,6 @@
 -- An input that was read to its end.
 use Rattle.std.proofs.Common.{◌≡◌, ℕ, List, Option, subst}
-use Rattle.mdns_stdio.specs.Reads.{ReadAll}
+use Rattle.mdns_streams.specs.Reads.{ReadAll}
 
 -- what holds of the bytes that were read holds of the input
 pub read_as : (most : ℕ) (old new : Option (List ℕ)) (all : List ℕ) (P : List ℕ → Type 0) → ReadAll most old new (λ bytes. all ≡ bytes) → P all → ReadAll most old new P

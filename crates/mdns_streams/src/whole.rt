@@ -1,7 +1,7 @@
 // An input, read whole.
 ghost use Rattle.std.specs.Prelude.{◌≡◌, ◌≢◌, ◌<◌, ◌≤◌, ◌^◌, Err, IfOk, length};
 ghost use Rattle.mdns_base.specs.Outside.{Rose};
-ghost use Rattle.mdns_stdio.specs.Reads.{ReadAll, IsTooLarge, IsWithin};
+ghost use Rattle.mdns_streams.specs.Reads.{ReadAll, IsTooLarge, IsWithin};
 
 use mdns_base::Source;
 use std::alloc::Global;

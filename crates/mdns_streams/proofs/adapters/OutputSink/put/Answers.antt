@@ -1,8 +1,8 @@
 use Rattle.std.proofs.Common.{rules, ◌++◌, take}
 use Rattle.std.proofs.lemmas.Result.{err_from_is_err_and}
 use Rattle.std.proofs.KnownBytes.{Appends-trans}
-use Rattle.mdns_stdio.proofs.Writing.{moves_front, left_off}
-use Rattle.mdns_stdio.proofs.adapters.OutputSink.put.Goals as goal
+use Rattle.mdns_streams.proofs.Writing.{moves_front, left_off}
+use Rattle.mdns_streams.proofs.adapters.OutputSink.put.Goals as goal
 
 pub returns-in_err-count-clause-bytes : goal.returns-in_err-count-clause-bytes
 returns-in_err-count-clause-bytes g c =

@@ -1,5 +1,5 @@
 use Rattle.std.proofs.Common.{◌≡◌, ◌+◌, ◌-◌, ◌≤◌, ◌++◌, List, ℕ, Some, length, vec_len}
-use Rattle.mdns_stdio.proofs.whole.read_all.Given as goal
+use Rattle.mdns_streams.proofs.whole.read_all.Given as goal
 
 abbrev pub invariant-pieces : goal.invariant-pieces
 invariant-pieces g l = record {

@@ -1,7 +1,7 @@
 -- A write that was interrupted took nothing.
 use Rattle.std.proofs.Common.{◌≡◌}
 use Rattle.std.specs.Io.KnownBytes.{Keeps}
-use Rattle.mdns_stdio.proofs.adapters.Output.write_some.Given as goal
+use Rattle.mdns_streams.proofs.adapters.Output.write_some.Given as goal
 
 abbrev pub invariant-loop : goal.invariant-loop
 invariant-loop g l = record {

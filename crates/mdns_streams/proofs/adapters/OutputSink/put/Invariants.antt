@@ -1,7 +1,7 @@
 -- What is gone from the rest of the piece was appended.
 use Rattle.std.proofs.Common.{◌≡◌, List, ℕ, ◌++◌, length}
 use Rattle.std.specs.Io.KnownBytes.{Appends}
-use Rattle.mdns_stdio.proofs.adapters.OutputSink.put.Given as goal
+use Rattle.mdns_streams.proofs.adapters.OutputSink.put.Given as goal
 
 abbrev pub invariant-writes : goal.invariant-writes
 invariant-writes g l = record {

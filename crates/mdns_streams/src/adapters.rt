@@ -16,23 +16,30 @@ pub struct Input<R: Read> {
 }
 
 impl<R: Read> Input<R> {
+    ghost use Rattle.mdns_streams.specs.Adapters.{input_faults, input_over};
+
     /// A source over a reader, without a fault so far.
-    pub fn new(inner: R) -> Self {
+    pub fn new(inner: R) -> Self
+        ensures over { input_over result ≡ inner }
+        ensures faults { input_faults result ≡ 0 }
+    {
         Input { inner, faults: 0 }
     }
 
-    /// How often a read failed.
+    /// How often a read failed. The count stays at 2^64 - 1 once there.
     pub fn faults(&self) -> u64
-        ensures { result ≡ self.now.faults }
+        ensures { result ≡ input_faults self.now }
     {
         self.faults
     }
 }
 
 impl<R: Read> Source for Input<R> {
-    ghost left = { λ s. R.remaining s.inner };
+    ghost use Rattle.mdns_streams.specs.Adapters.{input_faults, input_over};
 
-    ghost faults = { λ s. s.faults };
+    ghost left = { λ s. R.remaining (input_over s) };
+
+    ghost faults = { λ s. input_faults s };
 
     /// One read, tried again where a signal interrupted it.
     fn read(&mut self, into: &mut [u8]) -> Result<usize, Failed> {
@@ -55,19 +62,33 @@ impl<R: Read> Source for Input<R> {
 #[derive(Drop)]
 pub struct Output<W: Write> {
     /// The writer.
-    inner: W,
+    pub(crate) inner: W,
     /// How often a write failed; it stays at its greatest value.
     faults: u64,
 }
 
 impl<W: Write> Output<W> {
+    ghost use Rattle.mdns_streams.specs.Adapters.{output_faults, output_over};
+
     /// A sink over a writer, without a fault so far.
-    pub fn new(inner: W) -> Self {
+    pub fn new(inner: W) -> Self
+        ensures over { output_over result ≡ inner }
+        ensures faults { output_faults result ≡ 0 }
+    {
         Output { inner, faults: 0 }
     }
 
+    /// How often a write failed. The count stays at 2^64 - 1 once there.
+    pub fn faults(&self) -> u64
+        ensures { result ≡ output_faults self.now }
+    {
+        self.faults
+    }
+
     /// How often a write failed, and the writer.
-    pub fn into_parts(self) -> (u64, W) {
+    pub fn into_parts(self) -> (u64, W)
+        ensures { result ≡ (output_faults self, output_over self) }
+    {
         (self.faults, self.inner)
     }
 
@@ -94,9 +115,11 @@ impl<W: Write> Output<W> {
 }
 
 impl<W: Write> Sink for Output<W> {
-    ghost held = { λ s. W.contents s.inner };
+    ghost use Rattle.mdns_streams.specs.Adapters.{output_faults, output_over};
 
-    ghost faults = { λ s. s.faults };
+    ghost held = { λ s. W.contents (output_over s) };
+
+    ghost faults = { λ s. output_faults s };
 
     /// Writes until the whole piece is taken.
     fn put(&mut self, piece: &[u8]) -> Result<(), Failed> {
@@ -108,5 +131,6 @@ impl<W: Write> Sink for Output<W> {
         Ok(())
     }
 
+    // There is no connection to end.
     fn finish(&mut self) {}
 }
