@@ -1,31 +1,11 @@
 //! Asks the daemon for names and services, and registers services. `dns-sd -B _ipp._tcp` lists the printers of the link.
 #![tactic(auto)]
 
-mod ending;
-mod help;
-mod lines;
-mod listen;
-mod outside;
-mod request;
-mod top;
-mod words;
-mod wrong;
-
-use crate::ending::Ending;
-use crate::help::{USAGE, help_for};
-use crate::outside::{Output, UnixPlug};
-use crate::top::dns_sd;
-use crate::wrong::say_wrong;
+use mdns_streams::Output;
+use sd_command::{Ending, UnixPlug, dns_sd, help_for, say_wrong, why};
 use std::io::Eprint;
 use std::process::ExitCode;
 use std::{env, io};
-
-/// What the codes behind `refused` mean.
-const REFUSED: &str = "dns-sd: the daemon refused the request. The codes:
-  -65540  it is malformed: a service type, say, is one as _ipp._tcp
-  -65544  its name is outside local, or there is no host to register at
-  -65548  the name is held
-  -65553  a limit was reached";
 
 fn main(rt: HostRuntime) -> ExitCode {
     let words = match read_words(rt) {
@@ -74,11 +54,8 @@ fn read_words(rt: HostRuntime) -> Result<Vec<String>, u8> {
 
 // Runs the words of the command line, and answers the status.
 fn run(rt: HostRuntime, words: &[String]) -> u8 {
-    let mut plug = UnixPlug { rt, faults: 0 };
-    let mut output = Output {
-        inner: io::writer(&rt),
-        faults: 0,
-    };
+    let mut plug = UnixPlug::new(rt);
+    let mut output = Output::new(io::writer(&rt));
     dns_sd(rt.alloc(), words, &mut plug, &mut output)
 }
 
@@ -91,20 +68,9 @@ fn unread_status(error: &io::Error) -> u8 {
     }
 }
 
-// Tells a person on standard error why the program ended. Of a missing daemon the plug has told already.
+// Tells a person on standard error why the program ended.
 fn explain<R: Eprint>(rt: &R, status: u8) {
-    let why = match status {
-        1 => USAGE,
-        3 => REFUSED,
-        4 => "dns-sd: the daemon ended the connection",
-        5 => "dns-sd: the output failed",
-        6 => "dns-sd: out of memory",
-        7 => "dns-sd: what came is no item",
-        8 => "dns-sd: too many items came",
-        _ => return,
-    };
-    let _ = eprintln!(rt; "{why}");
+    if let Some(why) = why(status) {
+        let _ = eprintln!(rt; "{why}");
+    }
 }
-
-#[cfg(test)]
-mod tests;

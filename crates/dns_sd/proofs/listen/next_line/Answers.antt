@@ -1,5 +1,0 @@
-use Rattle.dns_sd.proofs.Listening.{prints_item}
-use Rattle.dns_sd.proofs.listen.next_line.Goals as goal
-
-pub returns-clause-step : goal.returns-clause-step
-returns-clause-step g c = prints_item c.print.result _ _ _ _ _ _ _ c.in_ok-item.ensures c.print.ensures.printed
