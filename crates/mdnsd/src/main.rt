@@ -2,20 +2,7 @@
 //! of a number; `mdnsd serve` serves clients.
 #![tactic(auto)]
 
-mod command;
-mod generated;
-mod help;
-mod notes;
-mod outside;
-mod stop;
-mod top;
-mod why;
-
-use crate::help::help_for;
-use crate::outside::{Keeping, Naming};
-use crate::top::{CommandLine, mdnsd};
-use crate::why::why;
-use mdns_play::{DONE, WRITE_FAULT};
+use mdns_command::{CommandLine, DONE, Keeping, Naming, WRITE_FAULT, help_for, mdnsd, why};
 use mdns_real::RealPlace;
 use mdns_streams::{Input, Output};
 use std::process::ExitCode;
@@ -55,6 +42,3 @@ fn read_words(rt: HostRuntime) -> io::Result<Vec<String>> {
     }
     Ok(words)
 }
-
-#[cfg(test)]
-mod tests;

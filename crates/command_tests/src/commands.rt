@@ -1,7 +1,6 @@
 // Command lines, with the statuses and outputs that they must have, and what is said of bad lines.
-use crate::notes::note_on;
-use crate::top::{CommandLine, mdnsd};
 use mdns_base::{MemSink, MemSource};
+use mdns_command::{CommandLine, mdnsd, note_on};
 use mdns_outside::Place;
 use mdns_play::{NO_MEMORY, WRITE_FAULT};
 use mdns_real::RealPlace;

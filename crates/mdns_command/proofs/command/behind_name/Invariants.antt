@@ -2,8 +2,8 @@
 use Rattle.std.proofs.Common.{◌≡◌, ◌++◌}
 use Rattle.std.specs.Vec.Iter.{into_iter_items, into_iter_len}
 use Rattle.mdns_words.specs.Options.{texts}
-use Rattle.mdnsd.specs.Words.{words_of}
-use Rattle.mdnsd.proofs.command.behind_name.Given as goal
+use Rattle.mdns_command.specs.Words.{words_of}
+use Rattle.mdns_command.proofs.command.behind_name.Given as goal
 
 abbrev pub invariant-words : goal.invariant-words
 invariant-words l = words_of l.fn.args ≡ texts l.words.items ++ texts (into_iter_items l.args)

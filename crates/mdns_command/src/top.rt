@@ -6,8 +6,8 @@ ghost use Rattle.mdns_outside.specs.declared.plan.ServePlan.{ServePlan};
 ghost use Rattle.mdns_server.specs.Endings.{IsServeStatus, serving_line};
 ghost use Rattle.mdns_server.specs.Serving.{Serves};
 ghost use Rattle.mdns_play.specs.Statuses.{Stops, PlaysScript, BreaksOff, ReadAll, IsTooLarge, IsWithin, IsScriptStatus};
-ghost use Rattle.mdnsd.specs.Generating.{GainsSummary, BeginsSummary, IsGenStatus};
-ghost use Rattle.mdnsd.specs.Words.{AreNoCommand, AreScript, AreGen, AskFor, LackMemory};
+ghost use Rattle.mdns_command.specs.Generating.{GainsSummary, BeginsSummary, IsGenStatus};
+ghost use Rattle.mdns_command.specs.Words.{AreNoCommand, AreScript, AreGen, AskFor, LackMemory};
 
 use crate::command::{gen_number, is_script, serve_words, words_of};
 use crate::generated::run_gen;

@@ -1,7 +1,7 @@
 // A script that is made of a number.
 ghost use Rattle.std.specs.Prelude.{◌≡◌, ◌≢◌, ◌≤◌};
 ghost use Rattle.mdns_base.specs.Outside.{Rose};
-ghost use Rattle.mdnsd.specs.Generating.{GainsSummary, BeginsSummary, IsGenStatus};
+ghost use Rattle.mdns_command.specs.Generating.{GainsSummary, BeginsSummary, IsGenStatus};
 
 use mdns_base::Sink;
 use mdns_generator::summarize;

@@ -1,4 +1,4 @@
-// What is said on standard error: what can be typed, and which word of a line was wanted. No clause speaks of it.
+// What a person is told of scripts: the lines that there are, and which word of a bad line was wanted. No clause speaks of it.
 use mdns_play::next_line;
 use mdns_script::{Line, read_line};
 use number_text::{cut_at, is_same};
@@ -146,7 +146,7 @@ pub fn note_on(alloc: Global, script: &[u8], number: u64) -> Result<String, Allo
 // What was wanted in a line.
 fn wanted(alloc: Global, line: &[u8]) -> Result<String, AllocError> {
     for form in FORMS {
-        let words = words_of(alloc, line, form.len())?;
+        let words = words_of_line(alloc, line, form.len())?;
         if begins_as(form, &words) {
             return wanted_of(alloc, form, &words);
         }
@@ -158,7 +158,7 @@ fn wanted(alloc: Global, line: &[u8]) -> Result<String, AllocError> {
 }
 
 // The words of a line, at most so many; the last has all that is left.
-fn words_of(alloc: Global, line: &[u8], most: usize) -> Result<Vec<&[u8]>, AllocError> {
+fn words_of_line(alloc: Global, line: &[u8], most: usize) -> Result<Vec<&[u8]>, AllocError> {
     let mut words = Vec::new(alloc);
     let mut rest = line;
     for _ in 1..most {

@@ -13,7 +13,7 @@ use Rattle.std.specs.declared.vec.IntoIter.{IntoIter}
 use Rattle.std.specs.declared.io.Error.{Error}
 use Rattle.mdns_outside.specs.declared.plan.ServePlan.{ServePlan}
 use Rattle.mdns_words.specs.Options.{texts}
-use Rattle.mdnsd.specs.Words.{count_of, words_of, told, script_words, names_script, behind_serve, serve_plan, gen_number, AreScript, AreGen, AskFor, AreNoCommand, LackMemory}
+use Rattle.mdns_command.specs.Words.{count_of, words_of, told, script_words, names_script, behind_serve, serve_plan, gen_number, AreScript, AreGen, AskFor, AreNoCommand, LackMemory}
 
 abbrev Words : Type 0
 Words = IntoIter (String Global) Global

@@ -2,7 +2,7 @@
 ghost use Rattle.std.specs.Prelude.{◌≡◌, ◌≢◌, ◌⊎◌, ◌↔◌, ◌≤◌, true, None, Some, Ok, Err, IfOk, IfErr, IfSome, MatchOption};
 ghost use Rattle.std.specs.IoError.{error_kind};
 ghost use Rattle.mdns_words.specs.Options.{texts};
-ghost use Rattle.mdnsd.specs.Words.{AreNoCommand, LackMemory, told, script_words, names_script, behind_serve, count_of, gen_number};
+ghost use Rattle.mdns_command.specs.Words.{AreNoCommand, LackMemory, told, script_words, names_script, behind_serve, count_of, gen_number};
 
 use crate::stop::USAGE;
 use mdns_play::NO_MEMORY;

@@ -1,9 +1,9 @@
 use Rattle.std.proofs.Common.{◌∙◌, ap, sym, refl, Some}
 use Rattle.mdns_words.specs.Options.{texts}
 use Rattle.mdns_server.specs.Endings.{serving_line}
-use Rattle.mdnsd.specs.Words.{behind_serve, told}
-use Rattle.mdnsd.proofs.CommandLine.{no_plan, unput}
-use Rattle.mdnsd.proofs.top.mdnsd.Goals as goal
+use Rattle.mdns_command.specs.Words.{behind_serve, told}
+use Rattle.mdns_command.proofs.Commands.{no_plan, unput}
+use Rattle.mdns_command.proofs.top.mdnsd.Goals as goal
 
 pub returns-in-Err-clause-line : goal.returns-in-Err-clause-line
 returns-in-Err-clause-line g c = λ plan asks. unput serving_line (g.K.Sink.held c.args.output.now)
