@@ -1,5 +1,5 @@
 -- Turns that open sessions, one after the other.
-use Rattle.std.proofs.Common.{arith, zero, suc, subst, ◌≡◌, ◌∙◌, ℕ, ◌+◌, Bool, true, false, List, [], ◌∷◌, ◌++◌, length, refl, ap, sym, Option, Some}
+use Rattle.std.proofs.Common.{arith, zero, suc, subst, ◌≡◌, ◌∙◌, ℕ, ◌+◌, Bool, true, false, List, [], ◌∷◌, ◌++◌, length, refl, ap, sym, Option, Some, None, IfSome}
 use Rattle.std.proofs.lemmas.List.{append-nil, append_assoc, length-append}
 use Rattle.mdns_turn.specs.Models.{SeatModel, TurnModel, IsSeatOf, IsSameSeat}
 use Rattle.mdns_serve.specs.declared.shared.Shared.{Shared}
@@ -7,7 +7,7 @@ use Rattle.mdns_serve.specs.declared.happening.Happening.{Happening}
 use Rattle.mdns_outside.specs.Doors.{GivesNone, GivesOne}
 use Rattle.mdns_outside.specs.Places.{Adds}
 use Rattle.mdns_server.specs.Endings.{is_done}
-use Rattle.mdns_server.specs.Openings.{AreOpenings, Opens, OpensOne}
+use Rattle.mdns_server.specs.Openings.{AreOpenings, Opens, OpensOne, HasOpened, opened_in}
 
 abbrev Seated : Type 0
 Seated = SeatModel Shared Happening
@@ -100,3 +100,9 @@ opens_failed a b g h status e not = subst (λ (z : Seated). Opens a z g h (is_do
 -- such are the statuses where a part couldn't be made, and those before anything is accepted
 pub not_done : (status n : ℕ) → status ≡ suc n → status ≡ 0 → ⊥
 not_done status n is none = absurd (omega arith)
+
+-- a turn that opened a session is the last
+pub has_opened : (old new : List Happening) (turn : Happening) (result : Option ℕ) → new ≡ old ++ turn ∷ [] → result ≡ opened_in turn
+    → IfSome result (λ session. HasOpened new session)
+has_opened old new turn None mine is = tt
+has_opened old new turn (Some session) mine is = (old, turn, mine, sym is)

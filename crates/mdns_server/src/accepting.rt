@@ -259,7 +259,7 @@ fn open<R: Wait + Copy + Send + 'static, P: Place>(
         kit: parts.writing,
         ended: ready.writing_ended,
     };
-    let threads = start_halves(&mut desk.spawner, ready.chairs, reading, writing);
+    let threads = start_halves(&mut desk.spawner, seat, ready.chairs, reading, writing);
     let whole = threads.whole;
     desk.sessions.push_reserved(Session {
         threads,

@@ -1,7 +1,8 @@
 // A session is opened in a turn of the accepting thread.
 ghost use Rattle.std.specs.Arc.{arc_value};
+ghost use Rattle.std.specs.Prelude.{◌≡◌, IfSome};
 ghost use Rattle.mdns_turn.specs.Models.{IsSeatOf};
-ghost use Rattle.mdns_server.specs.Openings.{OpensOne};
+ghost use Rattle.mdns_server.specs.Openings.{HasOpened, OpensOne, opened_in};
 
 use mdns_history::{Event, Outcome};
 use mdns_outside::{Air, Clock, Words};
@@ -16,7 +17,8 @@ pub(crate) fn attach<R: Wait, A: Air, C: Clock, W: Words>(
     kit: &mut Kit<A, C, W>,
 ) -> Option<u64>
     requires { IsSeatOf (arc_value common.now.turn) seat.old }
-    ensures { OpensOne seat.old seat.new }
+    ensures opens { OpensOne seat.old seat.new }
+    ensures session { IfSome result (λ session. HasOpened seat.new.mine session) }
 {
     let done = take_turn(common, seat, kit, Event::Attach);
     opened(&done)
@@ -32,7 +34,9 @@ pub(crate) fn miss<R: Wait>(common: &Common<R>, seat: &mut Seat<Shared>)
 }
 
 // The number of the session that was opened, if one was.
-fn opened(done: &Happening) -> Option<u64> {
+fn opened(done: &Happening) -> Option<u64>
+    ensures { result ≡ opened_in done.now }
+{
     match done {
         Happening::Entered { entry } => match &entry.outcome {
             Outcome::Opened { session } => Some(*session),

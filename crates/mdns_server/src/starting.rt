@@ -2,12 +2,14 @@
 ghost use Rattle.std.specs.Arc.{arc_value};
 ghost use Rattle.std.specs.Prelude.{◌≡◌, ◌<◌, ◌≤◌, true, false, None, IfSome};
 ghost use Rattle.mdns_turn.specs.Models.{IsSeatOf};
+ghost use Rattle.mdns_server.specs.Openings.{HasOpened};
 
 use crate::chair::{Chair, Job};
 use crate::slot::{NewEar, Slot};
 use mdns_base::{Sink, Source};
 use mdns_outside::{Air, Clock, Ear, Gate, Spawner, Words};
-use mdns_serve::Kit;
+use mdns_serve::{Kit, Shared};
+use mdns_turn::Seat;
 use std::sync::atomic::{AtomicU64, Ordering};
 use std::sync::{Arc, Wait};
 use std::thread::JoinHandle;
@@ -94,7 +96,8 @@ pub(crate) struct Chairs<R> {
     pub writing: Chair<R>,
 }
 
-/// Starts both halves of a session, each in a thread. A half for which no thread can be started is done here.
+/// Starts both halves of the session that the last turn of a seat opened, each in a thread. A half for which no thread can be started is
+/// done here.
 pub(crate) fn start_halves<
     R: Wait + Copy + Send + 'static,
     S: Spawner,
@@ -104,7 +107,15 @@ pub(crate) fn start_halves<
     C: Clock + Send + Drop + 'static,
     W: Words + Send + Drop + 'static,
     G: Gate + Send + Drop + 'static,
->(spawner: &mut S, chairs: Chairs<R>, input: Job<I, A, C, W, G>, output: Job<O, A, C, W, G>) -> Pair
+>(
+    spawner: &mut S,
+    _seat: &Seat<Shared>,
+    chairs: Chairs<R>,
+    input: Job<I, A, C, W, G>,
+    output: Job<O, A, C, W, G>,
+) -> Pair
+    requires opened { HasOpened _seat.now.mine input.half.session }
+    requires one { output.half.session ≡ input.half.session }
     requires reading { IsSeatOf (arc_value chairs.reading.common.turn) chairs.reading.seat }
     requires writing { IsSeatOf (arc_value chairs.writing.common.turn) chairs.writing.seat }
     ensures cause { result.whole ≡ false → 0 < S.faults spawner.new }
