@@ -36,6 +36,14 @@ class Packets(Bridged):
             self.responder.sendto(b"to one", (own, PORT))
             self.hears(relayed(FAR if own == NEAR else FAR_TOO, PORT, own, PORT) + b"to one")
 
+    def test_one_host_to_daemon_that_has_sent(self):
+        """The daemon passes over what isn't to its own address, and each address of the interface is this host's."""
+        self.says(b"mine")
+        self.assertEqual(arrival(self.responder)[0], b"mine")
+        for own in (NEAR, NEAR_TOO):
+            self.responder.sendto(b"to one", (own, PORT))
+            self.hears(relayed(FAR if own == NEAR else FAR_TOO, PORT, NEAR, PORT) + b"to one")
+
     def test_daemon_to_group(self):
         for address in (NEAR, NEAR_TOO):
             self.says(b"to all", address=address)
