@@ -13,8 +13,8 @@ LIMIT = 15.0
 
 def wire(name):
     """A name in its wire form."""
-    labels = name.rstrip(".").split(".")
-    return b"".join(bytes([len(label)]) + label.encode() for label in labels) + b"\0"
+    labels = [label.encode() for label in name.split(".") if label]
+    return b"".join(bytes([len(label)]) + label for label in labels) + b"\0"
 
 
 def text(words):

@@ -72,7 +72,7 @@ def crate_row(folder):
     """The measures of a crate, and what of it lies outside the limits."""
     name, over = os.path.basename(folder), []
     sources = glob.glob(f"{folder}/src/**/*.rt", recursive=True)
-    tests = [it for it in sources if "/tests" in it]
+    tests = [it for it in sources if "/tests" in it or "#[test]" in lines_of(it)]
     count = {part: sum(len(lines_of(it)) for it in found) for part, found in {
         "code": [it for it in sources if it not in tests], "tests": tests,
         "specs": glob.glob(f"{folder}/specs/**/*.antt", recursive=True), "proofs": glob.glob(f"{folder}/proofs/**/*.antt", recursive=True)}.items()}

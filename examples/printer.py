@@ -17,10 +17,13 @@ from frames import Peer
 
 
 def main():
-    if len(sys.argv) < 3 or not all(word.isdecimal() for word in sys.argv[1:]):
+    if len(sys.argv) < 3 or not all(word.isdecimal() and 0 < int(word) < 65536 for word in sys.argv[1:]):
         sys.exit(f"usage: {sys.argv[0]} OWN_PORT DAEMON_PORT...")
     own, *daemons = map(int, sys.argv[1:])
-    peer = Peer(own, daemons)
+    try:
+        peer = Peer(own, daemons)
+    except OSError as why:
+        sys.exit(f"{sys.argv[0]}: port {own}: {why.strerror}")
     signal.signal(signal.SIGTERM, signal.default_int_handler)
     try:
         for _ in range(2):
@@ -28,7 +31,9 @@ def main():
             time.sleep(1)
         print("announced Office._ipp._tcp.local; Ctrl-C takes it back", flush=True)
         while True:
-            time.sleep(3600)
+            # It answers nothing, so it says again what would end, and what a daemon that began since hasn't heard.
+            time.sleep(60)
+            peer.send(announcement(4500))
     except KeyboardInterrupt:
         peer.send(announcement(0))
 
