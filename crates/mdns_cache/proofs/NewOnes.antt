@@ -1,5 +1,5 @@
--- A packet leaves as many records as are held and as are new among those that it brings, where none of the held ones has ended.
-use Rattle.std.proofs.Common.{◌≡◌, ◌∙◌, ℕ, zero, suc, ◌+◌, ◌<◌, ◌&&◌, ◌||◌, Bool, true, false, not, cond, List, [], ◌∷◌, map, filter, length, nat_lt, count_by, slice_get, Option, Some, Result, Ok, Err, IfOk, IfErr, is_ok, refl, sym, ap, arith}
+-- A packet leaves as many records as are held and live, and as are new among those that it brings.
+use Rattle.std.proofs.Common.{◌≡◌, ◌∙◌, ℕ, zero, suc, ◌+◌, ◌<◌, ◌&&◌, ◌||◌, Bool, true, false, not, cond, List, [], ◌∷◌, map, filter, length, nat_lt, count_by, slice_get, Option, Some, refl, sym, ap, subst, arith}
 use Rattle.std.specs.List.{list_any, AllByRecursion, IsDistinct}
 use Rattle.std.proofs.lemmas.Bool.{false≢true, false_from_ne_true}
 use Rattle.std.proofs.lemmas.List.Elements.{filter_agree}
@@ -13,8 +13,10 @@ use Rattle.mdns_history.specs.Lifetimes.{is_live_at}
 use Rattle.mdns_cache.specs.Lifetimes.{AllLive, is_renewed_by, count_renewed, next_end_of}
 use Rattle.mdns_cache.proofs.Counting.{is_left}
 use Rattle.mdns_cache.specs.Named.{AreOnce}
-use Rattle.mdns_cache.specs.Counted.{is_held, count_new}
-use Rattle.mdns_cache.proofs.Once.{same_turned}
+use Rattle.mdns_cache.specs.Counted.{is_held, is_live_one, is_live_in, count_new}
+use Rattle.mdns_cache.proofs.Once.{same_turned, AreOnce-filter}
+use Rattle.mdns_cache.proofs.ListLemmas.{filter-filter, each-filter}
+use Rattle.mdns_cache.proofs.Hearing.{filter_live}
 
 -- records that are the same are the same as the same others
 same_left : (a b c : Rr) → same a b ≡ true → same a c ≡ same b c
@@ -121,24 +123,19 @@ left_and_new held once (rr ∷ rrs) = of (nat_lt 0 rr.ttl) refl (is_renewed_by r
     of true e false f true g ih = one_renewed _ _ (count_renewed rrs) (length held) (count_new held rrs) (one_less rr rrs e f held once g) ih
     of true e false f false g ih = one_new _ _ (count_renewed rrs) (length held) (count_new held rrs) (other_left rr rrs held g) ih
 
-live_left : (moment : ℕ) (rrs : List Rr) (held : List Held) → AllLive moment held → length (filter (λ one. is_live_at moment one && is_left rrs one) held) ≡ length (filter (is_left rrs) held)
-live_left moment rrs [] live = refl
-live_left moment rrs (one ∷ held) live =
-    let lives : is_live_at moment one ≡ true = let here : moment < one.end = live.0 in grind arith in
-    ap (λ (b : Bool). length (cond (b && is_left rrs one) (one ∷ filter (λ x. is_live_at moment x && is_left rrs x) held) (filter (λ x. is_live_at moment x && is_left rrs x) held))) lives
-    ∙ step (is_left rrs one) (live_left moment rrs held live.1)
-  where
-    step : (b : Bool) → length (filter (λ x. is_live_at moment x && is_left rrs x) held) ≡ length (filter (is_left rrs) held) →
-        length (cond b (one ∷ filter (λ x. is_live_at moment x && is_left rrs x) held) (filter (λ x. is_live_at moment x && is_left rrs x) held)) ≡ length (cond b (one ∷ filter (is_left rrs) held) (filter (is_left rrs) held))
-    step true ih = ap suc ih
-    step false ih = ih
+-- the same of those that are live, as counts
+pub counted-new : (moment : ℕ) (held : List Held) (rrs : List Rr) → AreOnce held →
+    count_by (λ one. is_live_at moment one && is_left rrs one) held + count_renewed rrs
+    ≡ count_by (is_live_at moment) held + count_new (filter (is_live_at moment) held) rrs
+counted-new moment held rrs once =
+    ap (λ n. n + count_renewed rrs)
+    (sym (length-filter (λ one. is_live_at moment one && is_left rrs one) held) ∙ sym (ap length (filter-filter (is_left rrs) (is_live_at moment) held)))
+    ∙ left_and_new (filter (is_live_at moment) held) (AreOnce-filter (is_live_at moment) held once) rrs
+    ∙ ap (λ n. n + count_new (filter (is_live_at moment) held) rrs) (length-filter (is_live_at moment) held)
 
--- the same, as the count of those that are live
-pub counted-new : (moment : ℕ) (held : List Held) (rrs : List Rr) → AreOnce held → AllLive moment held →
-    count_by (λ one. is_live_at moment one && is_left rrs one) held + count_renewed rrs ≡ length held + count_new held rrs
-counted-new moment held rrs once live =
-    ap (λ n. n + count_renewed rrs) (sym (length-filter (λ one. is_live_at moment one && is_left rrs one) held) ∙ live_left moment rrs held live)
-    ∙ left_and_new held once rrs
+-- where none has ended, all are live
+pub all-live : (moment : ℕ) (held : List Held) → AllLive moment held → length held ≡ count_by (is_live_at moment) held
+all-live moment held live = sym (ap length (filter_live moment held live)) ∙ length-filter (is_live_at moment) held
 
 -- what is below the least end is below each
 pub below-least : (moment n : ℕ) (held : List Held) → moment < least_of n (map (λ (one : Held). one.end) held) → AllLive moment held
@@ -159,21 +156,43 @@ live-before_end moment (one ∷ held) end is later =
     first_below n [] below = below
     first_below n (m ∷ ms) below = first_below n ms (omega (arith, below))
 
--- a record is held where one is found that is the same, and none is where none is
-found_held : (rr : Rr) (held : List Held) (i : ℕ) (one : Held) → slice_get held i ≡ Some one → same one.rr rr ≡ true → is_held held rr ≡ true
-found_held rr [] i one there is = absurd (cc)
-found_held rr (x ∷ held) zero one there is = let first : x ≡ one = cc in ap (λ b. b || is_held held rr) (ap (λ (y : Held). same y.rr rr) first ∙ is)
-found_held rr (x ∷ held) (suc i) one there is = ap (λ b. same x.rr rr || b) (found_held rr held i one there is) ∙ or_true (same x.rr rr)
+-- the one held record that is the same as another tells whether a live one is
+apart_at : (x : Held) (held : List Held) (i : ℕ) (one : Held) → slice_get held i ≡ Some one → AllByRecursion (λ (y : Held). same x.rr y.rr ≡ false) held →
+    same x.rr one.rr ≡ false
+apart_at x [] i one there apart = absurd (cc)
+apart_at x (y ∷ held) zero one there apart = let first : y ≡ one = cc in ap (λ (z : Held). same x.rr z.rr) (sym first) ∙ apart.0
+apart_at x (y ∷ held) (suc i) one there apart = apart_at x held i one there apart.1
+
+found_live : (moment : ℕ) (rr : Rr) (held : List Held) → AreOnce held → (i : ℕ) (one : Held) → slice_get held i ≡ Some one → same one.rr rr ≡ true →
+    is_held (filter (is_live_at moment) held) rr ≡ is_live_at moment one
+unfolding IsDistinct
+found_live moment rr [] once i one there is = absurd (cc)
+found_live moment rr (x ∷ held) once zero one there is =
+    let first : x ≡ one = cc in
+    subst (λ (y : Held). is_held (filter (is_live_at moment) (x ∷ held)) rr ≡ is_live_at moment y) first (of (ap (λ (y : Held). same y.rr rr) first ∙ is) (is_live_at moment x))
   where
-    or_true : (b : Bool) → (b || true) ≡ true
-    or_true true = refl
-    or_true false = refl
+    of : same x.rr rr ≡ true → (b : Bool) → is_held (cond b (x ∷ filter (is_live_at moment) held) (filter (is_live_at moment) held)) rr ≡ b
+    of k true = ap (λ c. c || is_held (filter (is_live_at moment) held) rr) k
+    of k false = none_held rr [] x (filter (is_live_at moment) held) k (each-filter (λ (y : Held). same x.rr y.rr ≡ false) (is_live_at moment) held once.0)
+found_live moment rr (x ∷ held) once (suc i) one there is = of (is_live_at moment x) (found_live moment rr held once.1 i one there is)
+  where
+    other : same x.rr rr ≡ false
+    other = false_from_ne_true (same x.rr rr)
+        (λ k. false≢true (sym (apart_at x held i one there once.0) ∙ same_left x.rr rr one.rr k ∙ same_turned one.rr rr is))
+
+    of : (b : Bool) → is_held (filter (is_live_at moment) held) rr ≡ is_live_at moment one →
+        is_held (cond b (x ∷ filter (is_live_at moment) held) (filter (is_live_at moment) held)) rr ≡ is_live_at moment one
+    of true ih = ap (λ c. c || is_held (filter (is_live_at moment) held) rr) other ∙ ih
+    of false ih = ih
 
 none_found : (rr : Rr) (held : List Held) → AllByRecursion (λ (one : Held). same one.rr rr ≡ false) held → is_held held rr ≡ false
 none_found rr [] apart = refl
 none_found rr (one ∷ held) apart = ap (λ b. b || is_held held rr) apart.0 ∙ none_found rr held apart.1
 
-pub held-told : {E : Type 0} (rr : Rr) (held : List Held) (r : Result ℕ E) → IfOk r (λ i. (one : Held) × (slice_get held i ≡ Some one) × (same one.rr rr ≡ true)) →
-    IfErr r (λ _. AllByRecursion (λ (one : Held). same one.rr rr ≡ false) held) → is_ok r ≡ is_held held rr
-held-told rr held (Ok i) found none = sym (found_held rr held i found.0 found.1 found.2)
-held-told rr held (Err e) found none = sym (none_found rr held none)
+pub live-told : (moment : ℕ) (rr : Rr) (held : List Held) → AreOnce held → (i : ℕ) → (one : Held) × (slice_get held i ≡ Some one) × (same one.rr rr ≡ true) →
+    is_live_in moment held i ≡ is_held (filter (is_live_at moment) held) rr
+live-told moment rr held once i found = ap (is_live_one moment) found.1 ∙ sym (found_live moment rr held once i found.0 found.1 found.2)
+
+pub none-told : (moment : ℕ) (rr : Rr) (held : List Held) → AllByRecursion (λ (one : Held). same one.rr rr ≡ false) held → false ≡ is_held (filter (is_live_at moment) held) rr
+none-told moment rr held apart =
+    sym (none_found rr (filter (is_live_at moment) held) (each-filter (λ (one : Held). same one.rr rr ≡ false) (is_live_at moment) held apart))

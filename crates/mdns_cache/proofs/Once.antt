@@ -39,7 +39,7 @@ AreOnce-map hearing (one ∷ held) once = (each held once.0, AreOnce-map hearing
     each [] h = tt
     each (x ∷ hs) h = (h.0, each hs h.1)
 
-AreOnce-filter : (p : Held → Bool) (held : List Held) → AreOnce held → AreOnce (filter p held)
+pub AreOnce-filter : (p : Held → Bool) (held : List Held) → AreOnce held → AreOnce (filter p held)
 unfolding IsDistinct
 AreOnce-filter p [] once = tt
 AreOnce-filter p (one ∷ held) once = of (p one) (AreOnce-filter p held once.1)
