@@ -3,7 +3,7 @@
 
 use mdns_streams::Output;
 use sd_command::{Ending, UnixPlug, dns_sd, help_for, say_wrong, why};
-use std::io::Eprint;
+use std::io::{Eprint, Write};
 use std::process::ExitCode;
 use std::{env, io};
 
@@ -52,10 +52,15 @@ fn read_words(rt: HostRuntime) -> Result<Vec<String>, u8> {
     Ok(words)
 }
 
-// Runs the words of the command line, and answers the status.
+// Runs the words of the command line, and answers the status. Where standard output is closed nothing is begun: the connection to the
+// daemon would be what has its number then.
 fn run(rt: HostRuntime, words: &[String]) -> u8 {
+    let mut writer = io::writer(&rt);
+    if writer.write(b"").is_err() {
+        return Ending::WriteFault as u8;
+    }
     let mut plug = UnixPlug::new(rt);
-    let mut output = Output::new(io::writer(&rt));
+    let mut output = Output::new(writer);
     dns_sd(rt.alloc(), words, &mut plug, &mut output)
 }
 

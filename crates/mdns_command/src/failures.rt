@@ -90,7 +90,7 @@ fn failed_door(
             let why = cause(
                 alloc,
                 error,
-                "another daemon listens there, or it is no socket",
+                "another daemon listens there, it is another user's, or it is no socket",
             )?;
             format!(in alloc; "serve: the socket {path} of the clients: {why}")
         }

@@ -3,7 +3,7 @@
 // (2, 0 for all), and the message.
 ghost use Rattle.std.specs.Prelude.{◌≡◌, ◌<◌, ◌≤◌, [], None, IfSome, OnOk, OnErr, length};
 ghost use Rattle.mdns_outside.specs.Parts.{FitsBuffer};
-ghost use Rattle.mdns_real.specs.Datagrams.{datagram_of};
+ghost use Rattle.mdns_real.specs.Datagrams.{datagram_of, is_for};
 
 use crate::failure::pass_over;
 use arrayvec::{ArrayVec, CapacityError};
@@ -62,7 +62,8 @@ impl<R: time::Clock + Drop> RelayEar<R> {
 
     /// The ear of a daemon with this address at the relay's socket, without a fault.
     pub fn new(rt: R, socket: Arc<UdpSocket>, address: u32) -> Self
-        ensures { ear_faults result ≡ 0 }
+        ensures faults { ear_faults result ≡ 0 }
+        ensures address { result.address ≡ address }
     {
         RelayEar {
             rt,
@@ -100,16 +101,19 @@ impl<R: time::Clock + Drop> RelayEar<R> {
 }
 
 // What a datagram brings to the daemon of an address: it is passed over where it is shorter than its head, and where it
-// goes to another address.
+// goes to another place.
 fn arrival(datagram: &[u8], address: u32, into: &mut [u8]) -> Option<Arrival>
     ensures { IfSome result (λ a. a.len ≤ length into.new) }
 {
     let (ip, rest) = datagram.split_first_chunk::<4>()?;
     let (port, rest) = rest.split_first_chunk::<2>()?;
     let (to, rest) = rest.split_first_chunk::<4>()?;
-    let (_, message) = rest.split_first_chunk::<2>()?;
-    let to = u32::from_be_bytes(*to);
-    if to != 0 && to != address {
+    let (to_port, message) = rest.split_first_chunk::<2>()?;
+    if !is_for(
+        address,
+        u32::from_be_bytes(*to),
+        u16::from_be_bytes(*to_port),
+    ) {
         return None;
     }
     let len = message.len().min(into.len());
@@ -119,6 +123,14 @@ fn arrival(datagram: &[u8], address: u32, into: &mut [u8]) -> Option<Arrival>
         port: u16::from_be_bytes(*port),
     };
     Some(Arrival { from, len })
+}
+
+// Whether what goes to an address, 0 for all, and a port is for the daemon of an address: a reply to another port of its host is for
+// who asked there. (RFC 6762 6.7)
+fn is_for(address: u32, to: u32, port: u16) -> bool
+    ensures { result ≡ is_for address to port }
+{
+    to == 0 || (to == address && port == MDNS_PORT)
 }
 
 /// Sends packets to the peers. It tells nothing of what was sent.
@@ -148,7 +160,11 @@ impl Air for RelayAir {
 
 impl RelayAir {
     /// The air of a daemon with this address at the relay's socket, to these ports of peers.
-    pub fn new(socket: Arc<UdpSocket>, address: u32, peers: Arc<Vec<u16>>) -> RelayAir {
+    pub fn new(socket: Arc<UdpSocket>, address: u32, peers: Arc<Vec<u16>>) -> RelayAir
+        ensures faults { result.faults ≡ 0 }
+        ensures address { result.address ≡ address }
+        ensures peers { result.peers ≡ peers }
+    {
         RelayAir {
             socket,
             address,

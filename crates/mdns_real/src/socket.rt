@@ -11,7 +11,7 @@ const MODE: u32 = 0o600;
 
 /// Listens at a path. A socket's file that an earlier daemon left there is replaced; the file's mode is 0600.
 ///
-/// - `AddrInUse`: a daemon is listening there, or the file is no socket.
+/// - `AddrInUse`: a daemon is listening there, the file is the socket of another user, or it is no socket.
 /// - Others are as the system tells them.
 pub fn open_socket<R: Files + Net>(rt: &R, path: &str) -> io::Result<UnixListener> {
     let listener = match UnixListener::bind(rt, path) {
