@@ -15,6 +15,8 @@ pub struct UnixDoor<R: time::Clock + Drop> {
     rt: R,
     listener: UnixListener,
     faults: u64,
+    // Why it failed last.
+    why: Option<io::Error>,
 }
 
 impl<R: time::Clock + Drop> UnixDoor<R> {
@@ -28,6 +30,7 @@ impl<R: time::Clock + Drop> UnixDoor<R> {
             rt,
             listener,
             faults: 0,
+            why: None,
         }
     }
 
@@ -36,6 +39,11 @@ impl<R: time::Clock + Drop> UnixDoor<R> {
         ensures { result ≡ door_faults self.now }
     {
         self.faults
+    }
+
+    /// Why it failed last; `None` where it didn't.
+    pub(crate) fn into_why(self) -> Option<io::Error> {
+        self.why
     }
 
     // Both ends of the next client's connection.
@@ -84,8 +92,9 @@ impl<R: time::Clock + Drop> Door for UnixDoor<R> {
     fn next(&mut self) -> Result<Option<(StreamSource, StreamSink)>, Failed> {
         match self.accept() {
             Ok(ends) => Ok(Some(ends)),
-            Err(_) => {
+            Err(error) => {
                 self.faults = self.faults.saturating_add(1);
+                self.why = Some(error);
                 Err(Failed)
             }
         }

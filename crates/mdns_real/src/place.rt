@@ -72,7 +72,7 @@ impl<R: Net + Files + Threads + time::Clock + Copy + Drop> RealPlace<R> {
         }
     }
 
-    /// What failed first, where something did as the parts were made.
+    /// What failed first, as a part was made or as it was given back.
     pub fn trouble(&self) -> Option<&Trouble> {
         self.trouble.as_ref()
     }
@@ -230,6 +230,9 @@ impl<R: Net + Files + Threads + time::Clock + Copy + Send + Drop + 'static> Plac
     fn door_back(&mut self, door: UnixDoor<R>) {
         if door.faults() != 0 {
             self.door_faults = self.door_faults.saturating_add(1);
+            if let Some(error) = door.into_why() {
+                self.note(Trouble::Socket { error });
+            }
         }
     }
 
@@ -242,6 +245,9 @@ impl<R: Net + Files + Threads + time::Clock + Copy + Send + Drop + 'static> Plac
     fn ear_back(&mut self, ear: RelayEar<R>) {
         if ear.faults() != 0 {
             self.link_faults = self.link_faults.saturating_add(1);
+            if let Some(error) = ear.into_why() {
+                self.note(Trouble::Relay { error });
+            }
         }
     }
 }

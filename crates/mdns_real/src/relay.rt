@@ -37,6 +37,8 @@ pub struct RelayEar<R: time::Clock + Drop> {
     socket: Arc<UdpSocket>,
     address: u32,
     faults: u64,
+    // Why it failed last.
+    why: Option<io::Error>,
 }
 
 impl<R: time::Clock + Drop> Ear for RelayEar<R> {
@@ -49,8 +51,9 @@ impl<R: time::Clock + Drop> Ear for RelayEar<R> {
     fn receive(&mut self, into: &mut [u8]) -> Result<Option<Arrival>, Failed> {
         match self.next(into) {
             Ok(arrival) => Ok(arrival),
-            Err(_) => {
+            Err(error) => {
                 self.faults = self.faults.saturating_add(1);
+                self.why = Some(error);
                 Err(Failed)
             }
         }
@@ -70,6 +73,7 @@ impl<R: time::Clock + Drop> RelayEar<R> {
             socket,
             address,
             faults: 0,
+            why: None,
         }
     }
 
@@ -78,6 +82,11 @@ impl<R: time::Clock + Drop> RelayEar<R> {
         ensures { result ≡ ear_faults self.now }
     {
         self.faults
+    }
+
+    /// Why it failed last; `None` where it didn't.
+    pub(crate) fn into_why(self) -> Option<io::Error> {
+        self.why
     }
 
     // The next packet for this daemon; others are passed over. There is room for one byte more than a datagram has, so that one that
